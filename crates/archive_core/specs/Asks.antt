@@ -3,8 +3,8 @@ use Rattle.std.specs.Prelude.{◌≡◌, ℕ, ◌≤ℤ◌, List, length, Some}
 use Rattle.asks.specs.declared.ask.Answer.{Answer}
 use Rattle.asks.specs.declared.ask.ReplayRequest.{ReplayRequest}
 use Rattle.asks.specs.declared.ask.Request.{Request}
-use Rattle.asks.specs.Directions.{in_direction}
-use Rattle.asks.specs.Names.{packet_name_numbers, parameter_named, table_named}
+use Rattle.arch_types.specs.Directions.{in_direction}
+use Rattle.asks.specs.Names.{packet_name_numbers, parameter_number, table_number}
 use Rattle.arch_types.specs.declared.cell.Cell.{Cell}
 use Rattle.arch_types.specs.declared.row.Row.{Row}
 use Rattle.history_items.specs.Items.{Item, rows_in}
@@ -24,7 +24,7 @@ answer_of db number request history =
 -- history
 pub record IsAnswered (db : Database) (history : List Item) (request : Request) (answer : Answer) : Type 0 where
   pub number : ℕ
-  pub named : parameter_named db request.parameter ≡ Some number
+  pub named : parameter_number db request.parameter ≡ Some number
   pub range : request.from ≤ℤ request.to
   pub front : answer.front ≡ length history
   pub cells : answer.cells ≡ answer_of db number request (rows_in history)
@@ -40,7 +40,7 @@ replayed_rows db request table history =
 pub record IsReplayed (tables : List (List ℕ)) (db : Database) (history : List Item) (request : ReplayRequest)
     (front : ℕ) (rows : List Row) : Type 0 where
   pub table : ℕ
-  pub named : table_named tables request.table ≡ Some table
+  pub named : table_number tables request.table ≡ Some table
   pub range : request.from ≤ℤ request.to
   pub front_is : front ≡ length history
   pub rows_are : rows ≡ replayed_rows db request table (rows_in history)

@@ -10,6 +10,6 @@ pub record CoreView : Type 0 where
   pub exponent : ℕ
   pub state : MachineState
 
--- a core before its first event, with the intervals of format 1
-abbrev pub first_core : List (List ℕ) → Database → CoreView
-first_core tables mdb = record { tables = tables; mdb = mdb; exponent = 22; state = first_state }
+-- a core before its first event
+abbrev pub first_core : List (List ℕ) → Database → ℕ → CoreView
+first_core tables mdb exponent = record { tables = tables; mdb = mdb; exponent = exponent; state = first_state }

@@ -2,7 +2,7 @@
 
 ghost use Rattle.std.specs.Prelude.{◌≡◌, ◌+◌, ◌<◌, IfOk};
 ghost use Rattle.std.specs.List.{filter_map};
-ghost use Rattle.asks.specs.Directions.{in_direction};
+ghost use Rattle.arch_types.specs.Directions.{in_direction};
 ghost use Rattle.container_extract.specs.Extraction.{cell_of};
 ghost use Rattle.archive_core.specs.Asks.{answer_of};
 ghost use Rattle.replay_merge.specs.Replay.{truncated};

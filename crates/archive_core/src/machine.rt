@@ -53,16 +53,16 @@ impl Model for Core {
 }
 
 impl Core {
-    /// A machine before its first event, with the intervals of format 1. Takes no memory.
-    pub fn new(alloc: Global, tables: Names, mdb: Mdb) -> Self
-        ensures { result ≡ first_core tables mdb }
+    /// A machine before its first event, with intervals of this exponent. Takes no memory.
+    pub fn new(alloc: Global, tables: Names, mdb: Mdb, exponent: Exponent) -> Self
+        ensures { result ≡ first_core tables mdb exponent }
     {
         Core {
             tables,
             mdb,
             rows: Vec::new(alloc),
             fills: Vec::new(alloc),
-            exponent: Exponent::of_format_1(),
+            exponent,
         }
     }
 

@@ -166,8 +166,8 @@ own-below front stored own =
     (distinct-filter (λ (s : Stored). s.row.key) (λ s. nat_lt s.position front) stored (subst (IsDistinct (eq_by_cmp key_cmp)) (keys_of_stored stored) own))
 
 -- so have those of a partition
-pub own-partition : (part : Partition) (front : ℕ) (stored : List Stored) → HaveOwnKeys (rows_of stored) → HaveOwnKeys (filter (is_of_partition part) (rows_below front stored))
-own-partition part front stored own = distinct-filter (λ (row : Row). row.key) (is_of_partition part) (rows_below front stored) (own-below front stored own)
+pub own-partition : (partition : Partition) (front : ℕ) (stored : List Stored) → HaveOwnKeys (rows_of stored) → HaveOwnKeys (filter (is_of_partition partition) (rows_below front stored))
+own-partition partition front stored own = distinct-filter (λ (row : Row). row.key) (is_of_partition partition) (rows_below front stored) (own-below front stored own)
 
 -- and those put in order that pass two tests
 pub own-seen : (p q : Row → Bool) (front : ℕ) (stored : List Stored) → HaveOwnKeys (rows_of stored) → HaveOwnKeys (filter p (filter q (seen_at front stored)))

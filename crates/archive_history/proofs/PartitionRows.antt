@@ -26,7 +26,7 @@ found_at [] i lt = absurd (omega (arith, lt))
 found_at (x ∷ xs) zero lt = (x, refl)
 found_at (x ∷ xs) (suc i) lt = found_at xs i (omega (arith, lt))
 
-module _ (stored : List Stored) (front : ℕ) (part : Partition) where
+module _ (stored : List Stored) (front : ℕ) (partition : Partition) where
   abbrev noted : List Partition
   noted = partitions_of (rows_of stored)
 
@@ -35,8 +35,8 @@ module _ (stored : List Stored) (front : ℕ) (part : Partition) where
 
   -- one stored row more
   one : (s : Stored) (n : ℕ) (places : List ℕ) (rows : List Row) → slice_get stored n ≡ Some s → filter_map at_place places ≡ reverse rows →
-      (b d : Bool) → is_of_partition part s.row ≡ b → nat_lt s.position front ≡ d →
-      filter_map at_place (cond b (n ∷ places) places) ≡ reverse (rows ++ filter (is_of_partition part) (rows_of (cond d (s ∷ []) [])))
+      (b d : Bool) → is_of_partition partition s.row ≡ b → nat_lt s.position front ≡ d →
+      filter_map at_place (cond b (n ∷ places) places) ≡ reverse (rows ++ filter (is_of_partition partition) (rows_of (cond d (s ∷ []) [])))
   one s n places rows here later true true of below = rw (here, below, later, of) (sym (reverse-append rows (s.row ∷ [])))
   one s n places rows here later true false of below = rw (here, below, later) (ap reverse (sym (append-nil rows)))
   one s n places rows here later false true of below = rw (later, of) (ap reverse (sym (append-nil rows)))
@@ -48,51 +48,51 @@ module _ (stored : List Stored) (front : ℕ) (part : Partition) where
       ∙ ap (option_map (λ (row : Row). partition_of row.key.time row.pname)) (slice_get-map (λ (t : Stored). t.row) stored n ∙ ap (option_map (λ (t : Stored). t.row)) here)
 
   more_below : (n : ℕ) (s : Stored) → slice_get stored n ≡ Some s →
-      filter (is_of_partition part) (rows_below front (take (suc n) stored)) ≡ filter (is_of_partition part) (rows_below front (take n stored)) ++ filter (is_of_partition part) (rows_of (cond (nat_lt s.position front) (s ∷ []) []))
+      filter (is_of_partition partition) (rows_below front (take (suc n) stored)) ≡ filter (is_of_partition partition) (rows_below front (take n stored)) ++ filter (is_of_partition partition) (rows_of (cond (nat_lt s.position front) (s ∷ []) []))
   more_below n s here =
       let is_below : Stored → Bool = λ t. nat_lt t.position front in
       let taken : take (suc n) stored ≡ take n stored ++ s ∷ [] =
       take-suc stored n s (slice_get_within stored n s here) ∙ ap (λ (t : Stored). take n stored ++ t ∷ []) (get_or_from_slice_get stored n s s here) in
-      ap (λ (l : List Stored). filter (is_of_partition part) (rows_below front l)) taken
-      ∙ ap (λ (l : List Stored). filter (is_of_partition part) (rows_of l)) (filter-append is_below (take n stored) (s ∷ []))
-      ∙ ap (filter (is_of_partition part)) (map-append (λ (t : Stored). t.row) (filter is_below (take n stored)) (filter is_below (s ∷ [])))
-      ∙ filter-append (is_of_partition part) (rows_below front (take n stored)) (rows_of (filter is_below (s ∷ [])))
+      ap (λ (l : List Stored). filter (is_of_partition partition) (rows_below front l)) taken
+      ∙ ap (λ (l : List Stored). filter (is_of_partition partition) (rows_of l)) (filter-append is_below (take n stored) (s ∷ []))
+      ∙ ap (filter (is_of_partition partition)) (map-append (λ (t : Stored). t.row) (filter is_below (take n stored)) (filter is_below (s ∷ [])))
+      ∙ filter-append (is_of_partition partition) (rows_below front (take n stored)) (rows_of (filter is_below (s ∷ [])))
 
   -- those below a place, the last first
-  gathered : (n : ℕ) → n ≤ length stored → rows_at_places stored front (places_below n part noted) ≡ reverse (filter (is_of_partition part) (rows_below front (take n stored)))
+  gathered : (n : ℕ) → n ≤ length stored → rows_at_places stored front (places_below n partition noted) ≡ reverse (filter (is_of_partition partition) (rows_below front (take n stored)))
   gathered zero le = refl
   gathered (suc n) le = by (found_at stored n (omega (arith, le))) (gathered n (omega (arith, le)))
     where
-      by : (s : Stored) × (slice_get stored n ≡ Some s) → rows_at_places stored front (places_below n part noted) ≡ reverse (filter (is_of_partition part) (rows_below front (take n stored))) →
-          rows_at_places stored front (places_below (suc n) part noted) ≡ reverse (filter (is_of_partition part) (rows_below front (take (suc n) stored)))
+      by : (s : Stored) × (slice_get stored n ≡ Some s) → rows_at_places stored front (places_below n partition noted) ≡ reverse (filter (is_of_partition partition) (rows_below front (take n stored))) →
+          rows_at_places stored front (places_below (suc n) partition noted) ≡ reverse (filter (is_of_partition partition) (rows_below front (take (suc n) stored)))
       by (s, here) later =
-          ap (λ (o : Option Partition). filter_map at_place (cond (is_noted_in part o) (n ∷ places_below n part noted) (places_below n part noted))) (noted_at n s here)
-          ∙ one s n (places_below n part noted) (filter (is_of_partition part) (rows_below front (take n stored))) here later (is_of_partition part s.row) (nat_lt s.position front) refl refl
+          ap (λ (o : Option Partition). filter_map at_place (cond (is_noted_in partition o) (n ∷ places_below n partition noted) (places_below n partition noted))) (noted_at n s here)
+          ∙ one s n (places_below n partition noted) (filter (is_of_partition partition) (rows_below front (take n stored))) here later (is_of_partition partition s.row) (nat_lt s.position front) refl refl
           ∙ ap reverse (sym (more_below n s here))
 
   -- they are stored
-  pub all_stored : AllByRecursion (λ place. place < length stored) (places_in part noted)
+  pub all_stored : AllByRecursion (λ place. place < length stored) (places_in partition noted)
   all_stored = all_below (length noted) (omega (arith, length-noted))
     where
       length-noted : length noted ≡ length stored
       length-noted = length-map (rows_of stored) (λ (row : Row). partition_of row.key.time row.pname) ∙ length-map stored (λ (s : Stored). s.row)
 
-      all_below : (n : ℕ) → n ≤ length stored → AllByRecursion (λ place. place < length stored) (places_below n part noted)
+      all_below : (n : ℕ) → n ≤ length stored → AllByRecursion (λ place. place < length stored) (places_below n partition noted)
       all_below zero le = tt
-      all_below (suc n) le = by (is_noted_in part (slice_get noted n)) (all_below n (omega (arith, le)))
+      all_below (suc n) le = by (is_noted_in partition (slice_get noted n)) (all_below n (omega (arith, le)))
         where
-          by : (b : Bool) → AllByRecursion (λ place. place < length stored) (places_below n part noted) → AllByRecursion (λ place. place < length stored) (cond b (n ∷ places_below n part noted) (places_below n part noted))
+          by : (b : Bool) → AllByRecursion (λ place. place < length stored) (places_below n partition noted) → AllByRecursion (λ place. place < length stored) (cond b (n ∷ places_below n partition noted) (places_below n partition noted))
           by true later = (omega (arith, le), later)
           by false later = later
 
   -- the rows at the places of a partition, put in order, are the rows of it that are seen
-  pub partition_in_order : (rows ordered : List Row) → HaveOwnKeys (rows_of stored) → rows ≡ rows_at_places stored front (places_in part noted) → IsPermutation rows ordered →
-      IsSortedByKey (λ row. row.key) key_cmp ordered → ordered ≡ filter (is_of_partition part) (seen_at front stored)
+  pub partition_in_order : (rows ordered : List Row) → HaveOwnKeys (rows_of stored) → rows ≡ rows_at_places stored front (places_in partition noted) → IsPermutation rows ordered →
+      IsSortedByKey (λ row. row.key) key_cmp ordered → ordered ≡ filter (is_of_partition partition) (seen_at front stored)
   partition_in_order rows ordered own at_places moved up =
-      let those : List Row = filter (is_of_partition part) (rows_below front stored) in
+      let those : List Row = filter (is_of_partition partition) (rows_below front stored) in
       let long : length noted ≡ length stored = length-map (rows_of stored) (λ (row : Row). partition_of row.key.time row.pname) ∙ length-map stored (λ (s : Stored). s.row) in
       let whole : rows ≡ reverse those =
-      at_places ∙ ap (λ (n : ℕ). rows_at_places stored front (places_below n part noted)) long ∙ gathered (length stored) (omega arith)
-      ∙ ap (λ (l : List Stored). reverse (filter (is_of_partition part) (rows_below front l))) (take-length stored) in
+      at_places ∙ ap (λ (n : ℕ). rows_at_places stored front (places_below n partition noted)) long ∙ gathered (length stored) (omega arith)
+      ∙ ap (λ (l : List Stored). reverse (filter (is_of_partition partition) (rows_below front l))) (take-length stored) in
       let same : IsPermutation those ordered = IsPermutation-trans those rows ordered (subst (IsPermutation those) (sym whole) (IsPermutation-reverse those)) moved in
-      only_order those ordered (own-partition part front stored own) same up ∙ sym (filter-order rows_rank (is_of_partition part) (rows_below front stored))
+      only_order those ordered (own-partition partition front stored own) same up ∙ sym (filter-order rows_rank (is_of_partition partition) (rows_below front stored))

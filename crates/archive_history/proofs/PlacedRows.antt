@@ -19,7 +19,7 @@ use Rattle.yarch_table.specs.Placed.{placed}
 use Rattle.yarch_table.proofs.Histories.{inserted-placed, inserted-other, new-placed, duplicate-placed, kept_placed, any-placed}
 use Rattle.arch_types.specs.History.{has_key}
 use Rattle.archive_history.specs.History.{is_at_key}
-use Rattle.archive_history.specs.Tables.{AreTables, items_in, no_table, table_in}
+use Rattle.archive_history.specs.Tables.{AreRowTables, items_in, no_table, table_in}
 use Rattle.archive_history.proofs.Steps.{default_free}
 
 -- ---- the same rows
@@ -29,8 +29,8 @@ abbrev pub HaveSame : List TableView → List TableView → Type 0
 HaveSame old new = (t : ℕ) → (table_in new t).stored ≡ (table_in old t).stored
 
 -- tables with more room
-pub roomier_tables : (old new : List TableView) (order order' : Vec (Snapshot Row)) (room room' : ℕ) → length new ≡ length old → HaveSame old new → order'.items ≡ order.items → AreTables old order room
-    → ((t : ℕ) → t < length new → room' ≤ (table_in new t).room) → vec_len order' + room' ≤ vec_capacity order' → AreTables new order' room'
+pub roomier_tables : (old new : List TableView) (order order' : Vec (Snapshot Row)) (room room' : ℕ) → length new ≡ length old → HaveSame old new → order'.items ≡ order.items → AreRowTables old order room
+    → ((t : ℕ) → t < length new → room' ≤ (table_in new t).room) → vec_len order' + room' ≤ vec_capacity order' → AreRowTables new order' room'
 roomier_tables old new order order' room room' long same items hold has_room order_has_room = record {
   placed_in = λ t within. same t ∙ hold.placed_in t (omega (arith, within, long)) ∙ ap (λ (l : List (Snapshot Row)). placed t (items_in l)) (sym items);
   has_room = has_room;
@@ -96,10 +96,10 @@ placed_insert old T was order row position result here at inserted =
     (subst (λ (n : ℕ). IsInserted was T row n result) (at ∙ sym (length-items order.items)) inserted)
 
 -- tables with a new row
-pub tables_with_new : (old : List TableView) (T was : TableView) (order order' : Vec (Snapshot Row)) (room room' : ℕ) (row : Row) (position p : ℕ) → row.table < length old → AreTables old order room
+pub tables_with_new : (old : List TableView) (T was : TableView) (order order' : Vec (Snapshot Row)) (room room' : ℕ) (row : Row) (position p : ℕ) → row.table < length old → AreRowTables old order room
     → table_in old row.table ≡ was → position ≡ length order.items → IsInserted was T row position (New p) → was.room ≤ T.room + 1
     → items_in order'.items ≡ items_in order.items ++ row ∷ [] → room ≡ room' + 1 → vec_len order' + room' ≤ vec_capacity order'
-    → AreTables (set old row.table T) order' room' × (with_row (items_in order.items) row ≡ items_in order.items ++ row ∷ [])
+    → AreRowTables (set old row.table T) order' room' × (with_row (items_in order.items) row ≡ items_in order.items ++ row ∷ [])
 tables_with_new old T was order order' room room' row position p within hold here at insert left grown one order_has_room =
     let history = items_in order.items in
     let inserted = placed_insert old T was order row position (New p) here at insert in
@@ -114,9 +114,9 @@ tables_with_new old T was order order' room room' row position p within hold her
     )
 
 -- tables that have the row's key already
-pub tables_with_known : (old : List TableView) (T was : TableView) (order : Vec (Snapshot Row)) (room room' : ℕ) (row : Row) (position p : ℕ) → row.table < length old → AreTables old order room
+pub tables_with_known : (old : List TableView) (T was : TableView) (order : Vec (Snapshot Row)) (room room' : ℕ) (row : Row) (position p : ℕ) → row.table < length old → AreRowTables old order room
     → table_in old row.table ≡ was → position ≡ length order.items → IsInserted was T row position (Duplicate p) → room ≡ room' + 1
-    → AreTables (set old row.table T) order room' × (with_row (items_in order.items) row ≡ items_in order.items)
+    → AreRowTables (set old row.table T) order room' × (with_row (items_in order.items) row ≡ items_in order.items)
 tables_with_known old T was order room room' row position p within hold here at insert one =
     let history = items_in order.items in
     let inserted = placed_insert old T was order row position (Duplicate p) here at insert in
@@ -132,7 +132,7 @@ tables_with_known old T was order room room' row position p within hold here at 
 -- ---- one table
 
 -- the table at an index has its rows of the history
-pub table_rows : (tables : List TableView) (order : Vec (Snapshot Row)) (room t : ℕ) (there : TableView) → AreTables tables order room → t < length tables → there ≡ slice_index_or tables t there → there.stored ≡ placed t (items_in order.items)
+pub table_rows : (tables : List TableView) (order : Vec (Snapshot Row)) (room t : ℕ) (there : TableView) → AreRowTables tables order room → t < length tables → there ≡ slice_index_or tables t there → there.stored ≡ placed t (items_in order.items)
 table_rows tables order room t there hold within is = ap (λ (h : TableView). h.stored) (is ∙ default_free tables t there no_table within) ∙ hold.placed_in t within
 
 -- ---- the row of a key
@@ -160,7 +160,7 @@ table_empty zero t = refl
 table_empty (suc n) zero = refl
 table_empty (suc n) (suc t) = table_empty n t
 
-pub no_tables_yet : (n : ℕ) (order : Vec (Snapshot Row)) → order.items ≡ [] → vec_len order + 0 ≤ vec_capacity order → AreTables (replicate n no_table) order 0
+pub no_tables_yet : (n : ℕ) (order : Vec (Snapshot Row)) → order.items ≡ [] → vec_len order + 0 ≤ vec_capacity order → AreRowTables (replicate n no_table) order 0
 no_tables_yet n order none has_room = record {
   placed_in = λ t within. ap (λ (x : TableView). x.stored) (table_empty n t) ∙ ap (λ (l : List (Snapshot Row)). placed t (items_in l)) (sym none);
   has_room = λ t within. omega arith;

@@ -38,14 +38,14 @@ module _ (test : Row → Bool) (rows : List Row) (row : Row) (rest all : List Ro
 module _ (stored : List Stored) (front : ℕ) (from to : ℤ) (parts : List Partition) where
   -- the rows of some partitions, those of each behind those of the one before
   abbrev pub by_partitions : List Partition → List Row
-  by_partitions some = flat_map (λ part. filter (is_of_partition part) (seen_between front from to stored)) some
+  by_partitions some = flat_map (λ partition. filter (is_of_partition partition) (seen_between front from to stored)) some
 
-  pub one_read : (i : ℕ) (part : Partition) (rows given all : List Row) → i < length parts → part ≡ get_or parts i part → rows ≡ by_partitions (take i parts) →
-      given ≡ filter (is_of_partition part) (seen_at front stored) → all ≡ rows ++ filter (is_in_time_range from to) given → all ≡ by_partitions (take (i + 1) parts)
-  one_read i part rows given all within is so_far got more =
+  pub one_read : (i : ℕ) (partition : Partition) (rows given all : List Row) → i < length parts → partition ≡ get_or parts i partition → rows ≡ by_partitions (take i parts) →
+      given ≡ filter (is_of_partition partition) (seen_at front stored) → all ≡ rows ++ filter (is_in_time_range from to) given → all ≡ by_partitions (take (i + 1) parts)
+  one_read i partition rows given all within is so_far got more =
       more ∙ ap (λ (l : List Row). l ++ filter (is_in_time_range from to) given) so_far
-      ∙ ap (λ (l : List Row). by_partitions (take i parts) ++ l) (ap (filter (is_in_time_range from to)) got ∙ filter_swap (is_in_time_range from to) (is_of_partition part) (seen_at front stored))
-      ∙ sym (flat_more (λ p. filter (is_of_partition p) (seen_between front from to stored)) parts i part within is)
+      ∙ ap (λ (l : List Row). by_partitions (take i parts) ++ l) (ap (filter (is_in_time_range from to)) got ∙ filter_swap (is_in_time_range from to) (is_of_partition partition) (seen_at front stored))
+      ∙ sym (flat_more (λ p. filter (is_of_partition p) (seen_between front from to stored)) parts i partition within is)
 
   -- put in order, they are the rows of the range that stand in one of them
   pub parts_in_order : (gathered ordered : List Row) → HaveOwnKeys (rows_of stored) → AreRising parts → gathered ≡ by_partitions parts → IsPermutation gathered ordered →

@@ -12,7 +12,7 @@ use Rattle.history_items.specs.Items.{Item, rows_in}
 use Rattle.yarch_table.specs.Stored.{TableView}
 use Rattle.archive_history.specs.Limits.{octets_of, interval_rows, IsWithin}
 use Rattle.archive_history.specs.LimitCounts.{LimitCountsView, interval_row_count}
-use Rattle.archive_history.specs.Tables.{AreTables, items_in}
+use Rattle.archive_history.specs.Tables.{AreRowTables, items_in}
 
 -- the items of a history, how many tables there are, how many more rows may come without memory, and the exponent of its
 -- intervals
@@ -42,5 +42,5 @@ pub record AreCounted (exponent : ℕ) (items : List Item) (room : ℕ) (limit_c
 -- the tables hold the rows in their order, and the counts are those of these rows
 pub record HistoryInvariant (tables : List TableView) (order : Vec (Snapshot Row)) (room exponent : ℕ)
     (limit_counts : LimitCountsView) : Type 0 where
-  pub tables_hold : AreTables tables order room
+  pub tables_hold : AreRowTables tables order room
   pub counted : AreCounted exponent (items_in order.items) room limit_counts

@@ -4,7 +4,7 @@ use Rattle.archive_history.specs.declared.row_limit.RowLimit.{RowLimit}
 use Rattle.archive_history.specs.declared.row_limit.RowLimit.TheVariants.{Rows, HistoryOctets, IntervalRows}
 
 -- a history passes the limit exactly where the quantity passes this number
-abbrev pub number_of : RowLimit → ℕ
-number_of Rows = 4194304
-number_of HistoryOctets = 2147483648
-number_of IntervalRows = 262144
+abbrev pub row_limit : RowLimit → ℕ
+row_limit Rows = 4194304
+row_limit HistoryOctets = 2147483648
+row_limit IntervalRows = 262144

@@ -20,7 +20,7 @@ abbrev pub items_in : List (Snapshot Row) → List Item
 items_in order = map (λ noted. row_item noted.value) order
 
 -- each table has its rows of the history, each with its position, and has room; so has the list of the history's rows
-pub record AreTables (tables : List TableView) (order : Vec (Snapshot Row)) (room : ℕ) : Type 0 where
+pub record AreRowTables (tables : List TableView) (order : Vec (Snapshot Row)) (room : ℕ) : Type 0 where
   pub placed_in : (table : ℕ) → table < length tables →
       (table_in tables table).stored ≡ placed table (rows_in (items_in order.items))
   pub has_room : (table : ℕ) → table < length tables → room ≤ (table_in tables table).room

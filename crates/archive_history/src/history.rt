@@ -14,7 +14,7 @@ ghost use Rattle.partitions.specs.declared.partition.Partition.{Partition as APa
 ghost use Rattle.partitions.specs.Bounds.{MayHold};
 ghost use Rattle.partitions.specs.Partitions.{AreRising};
 ghost use Rattle.partitions.specs.Rows.{partition_at, partitions_of, parts_between};
-ghost use Rattle.archive_history.specs.RowLimits.{number_of};
+ghost use Rattle.archive_history.specs.RowLimits.{row_limit};
 ghost use Rattle.archive_history.specs.declared.row_limit.RowLimit.TheVariants as limits;
 ghost use Rattle.archive_history.specs.Limits.{octets_of, interval_rows, IsWithin, PassesFirst};
 ghost use Rattle.archive_history.specs.LimitCounts.{interval_row_count};
@@ -73,7 +73,7 @@ pub fn interval_of_row(row: &Row, exponent: Exponent) -> Interval
 
 /// All octets of the packets of rows.
 fn octets_in(rows: &[Row]) -> u64
-    requires { length rows.now ≤ number_of limits.Rows }
+    requires { length rows.now ≤ row_limit limits.Rows }
     ensures { result ≡ octets_of rows.now }
 {
     let mut octets = 0;
@@ -103,16 +103,16 @@ fn are_too_many(
     interval: Interval,
     rows: &[Row],
 ) -> bool
-    requires few { length rows.now ≤ number_of limits.Rows }
-    requires counted { interval_row_count limit_counts.now.rows interval ≤ number_of limits.IntervalRows }
-    ensures { IsTrue result ↔ (number_of limits.IntervalRows <
+    requires few { length rows.now ≤ row_limit limits.Rows }
+    requires counted { interval_row_count limit_counts.now.rows interval ≤ row_limit limits.IntervalRows }
+    ensures { IsTrue result ↔ (row_limit limits.IntervalRows <
         interval_row_count limit_counts.now.rows interval + interval_rows exponent interval (items_of rows.now)) }
 {
     let known = limit_counts.rows_of(interval);
-    if known + rows.len() as u64 <= RowLimit::IntervalRows.number() {
+    if known + rows.len() as u64 <= RowLimit::IntervalRows.limit() {
         return false;
     }
-    known + interval_rows_in(rows, exponent, interval) > RowLimit::IntervalRows.number()
+    known + interval_rows_in(rows, exponent, interval) > RowLimit::IntervalRows.limit()
 }
 
 impl History {
@@ -178,13 +178,13 @@ impl History {
 
     /// Whether an interval would have too many rows with these.
     fn passes_interval(&self, rows: &[Row]) -> bool
-        requires { length rows.now ≤ number_of limits.Rows }
-        ensures { IsTrue result ↔ ((i : AnInterval) × (number_of limits.IntervalRows <
+        requires { length rows.now ≤ row_limit limits.Rows }
+        ensures { IsTrue result ↔ ((i : AnInterval) × (row_limit limits.IntervalRows <
             interval_rows self.now.exponent i (self.now.items ++ items_of rows.now))) }
     {
         let limit_counts = &self.limit_counts;
         let exponent = self.exponent;
-        let limit = RowLimit::IntervalRows.number();
+        let limit = RowLimit::IntervalRows.limit();
         let added = rows.len() as u64;
         if added <= limit && limit_counts.most_rows() <= limit - added {
             return false;
@@ -205,10 +205,10 @@ impl History {
         ensures none { IfNone result (IsWithin self.now.exponent (self.now.items ++ items_of rows.now)) }
         ensures first { IfSome result (λ limit. PassesFirst self.now.exponent limit (self.now.items ++ items_of rows.now)) }
     {
-        if rows.len() as u64 > RowLimit::Rows.number() - self.len() as u64 {
+        if rows.len() as u64 > RowLimit::Rows.limit() - self.len() as u64 {
             return Some(RowLimit::Rows);
         }
-        if octets_in(rows) > RowLimit::HistoryOctets.number() - self.limit_counts.octets() {
+        if octets_in(rows) > RowLimit::HistoryOctets.limit() - self.limit_counts.octets() {
             return Some(RowLimit::HistoryOctets);
         }
         if self.passes_interval(rows) {
@@ -274,13 +274,13 @@ impl History {
         &self,
         alloc: Global,
         table: u8,
-        part: &Partition,
+        partition: &Partition,
         front: u64,
     ) -> Result<Rows, AllocError>
         requires { table < self.now.tables }
-        ensures { IfOk result (λ rows. rows ≡ partition_at front table part.now (rows_in self.now.items)) }
+        ensures { IfOk result (λ rows. rows ≡ partition_at front table partition.now (rows_in self.now.items)) }
     {
-        self.tables[table as usize].partition_rows(alloc, part, front)
+        self.tables[table as usize].partition_rows(alloc, partition, front)
     }
 
     /// The rows of some partitions of a table at a front, which rise, with `from <= time < to`, in the order of their keys. The

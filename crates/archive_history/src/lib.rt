@@ -10,7 +10,8 @@
 //! (`only_order`, proofs/KeyOrder.antt). Those of several partitions in a range are looked for among the keys, as long as
 //! that costs no more than their places would (src/ranged.rt).
 //!
-//! To be changed together: the limits in specs/RowLimits.antt and src/row_limit.rt; what `PartitionedTable::insert` notes and
+//! To be changed together: the limits in specs/RowLimits.antt and src/row_limit.rt, whose numbers
+//! refusals has too (`history_limits_agree` of archive_store); what `PartitionedTable::insert` notes and
 //! `IsPartitioned`.
 #![tactic(auto)]
 

@@ -156,14 +156,14 @@ impl PartitionedTable {
     pub fn partition_rows(
         &self,
         alloc: Global,
-        part: &Partition,
+        partition: &Partition,
         front: u64,
     ) -> Result<Rows, AllocError>
-        ensures { IfOk result (λ rows. rows ≡ filter (is_of_partition part.now) (seen_at front self.now.stored)) }
+        ensures { IfOk result (λ rows. rows ≡ filter (is_of_partition partition.now) (seen_at front self.now.stored)) }
     {
-        let places = self.partitions.places_of(*part);
+        let places = self.partitions.places_of(*partition);
         // No more rows than the front have a position below it.
-        let count = self.partitions.row_count(*part).min(front as usize);
+        let count = self.partitions.row_count(*partition).min(front as usize);
         let rows = rows_of_places(alloc, &self.table, places, count, front)?;
         Ok(in_key_order(rows))
     }
@@ -228,8 +228,8 @@ impl PartitionedTable {
         // It tells the proof that each row has a key of its own.
         let _table = &self.table;
         let mut rows = Vec::new(alloc);
-        for part in parts {
-            let part_rows = self.partition_rows(alloc, part, front)?;
+        for partition in parts {
+            let part_rows = self.partition_rows(alloc, partition, front)?;
             rows = append_between(rows, part_rows, from, to)?;
         }
         merged_by_key(rows)

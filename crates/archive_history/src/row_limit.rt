@@ -1,7 +1,7 @@
 //! The limits of a history.
 
 ghost use Rattle.std.specs.Prelude.{◌≡◌};
-ghost use Rattle.archive_history.specs.RowLimits.{number_of};
+ghost use Rattle.archive_history.specs.RowLimits.{row_limit};
 
 /// A quantity of a history that has a limit.
 #[derive(Clone, Copy, Debug, PartialEq, Eq)]
@@ -16,8 +16,8 @@ pub enum RowLimit {
 
 impl RowLimit {
     /// The greatest number that the quantity may have.
-    pub fn number(self) -> u64
-        ensures { result ≡ number_of self }
+    pub fn limit(self) -> u64
+        ensures { result ≡ row_limit self }
     {
         match self {
             RowLimit::Rows => 4_194_304,

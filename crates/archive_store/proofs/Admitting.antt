@@ -1,11 +1,13 @@
 -- What may follow an archive, and what breaks a rule.
-use Rattle.std.proofs.Common.{◌≡◌, ℕ, List, ◌++◌, Option, sym, ◌∙◌, subst, arith}
+use Rattle.std.proofs.Common.{◌≡◌, ℕ, List, ◌++◌, Option, refl, sym, ◌∙◌, subst, arith}
 use Rattle.std.specs.List.{AllByRecursion}
+use Rattle.archive_history.specs.RowLimits.{row_limit}
 use Rattle.archive_history.specs.declared.row_limit.RowLimit.{RowLimit}
 use Rattle.archive_history.specs.declared.row_limit.RowLimit.TheVariants as limits
 use Rattle.arch_types.specs.declared.row.Row.{Row}
 use Rattle.arch_types.specs.History.{ingested}
 use Rattle.octet_fields.specs.Exact.{IsOctets}
+use Rattle.refusals.specs.Limits.{limit_of}
 use Rattle.history_items.specs.Items.{Item, items_of}
 use Rattle.field_codec.specs.declared.entry.Entry.{Entry}
 use Rattle.field_codec.specs.declared.entry.Entry.TheVariants as entries
@@ -15,24 +17,24 @@ use Rattle.field_codec.proofs.EntryKinds.{one_spelling}
 use Rattle.archive_store.specs.declared.head.Head.{Head}
 use Rattle.archive_store.specs.Entries.{FilledArchive, archive, Applies, IsPlaced, AreAdmitted}
 use Rattle.archive_history.specs.Limits.{IsWithin, PassesFirst}
-use Rattle.archive_store.specs.Limits.{IsLimit, limit_named}
+use Rattle.archive_store.specs.Limits.{limit_of_history}
 use Rattle.archive_store.specs.Stands.{Breaks}
 use Rattle.archive_store.proofs.Exact.{takes_entry}
 
 -- a history that passes a limit is not within all of them
-pub passed_not_within : (limit : RowLimit) (items : List Item) → PassesFirst 22 limit items → IsWithin 22 items → ⊥
-passed_not_within limits.Rows items p w = omega (arith, p, w.rows)
-passed_not_within limits.HistoryOctets items p w = omega (arith, p.1, w.octets)
-passed_not_within limits.IntervalRows items p w = omega (arith, p.3, w.intervals p.2)
+pub passed_not_within : (exponent : ℕ) (limit : RowLimit) (items : List Item) → PassesFirst exponent limit items → IsWithin exponent items → ⊥
+passed_not_within exponent limits.Rows items p w = omega (arith, p, w.rows)
+passed_not_within exponent limits.HistoryOctets items p w = omega (arith, p.1, w.octets)
+passed_not_within exponent limits.IntervalRows items p w = omega (arith, p.3, w.intervals p.2)
 
--- the first limit that a history passes is the first of all
-pub limit_is : (limit : RowLimit) (records : ℕ) (items : List Item) → PassesFirst 22 limit items → IsLimit 22 (limit_named limit) records items
-limit_is limits.Rows records items p = p
-limit_is limits.HistoryOctets records items p = p
-limit_is limits.IntervalRows records items p = p
+-- the limits of a history are those of the archive
+pub limits_agree : (limit : RowLimit) → row_limit limit ≡ limit_of (limit_of_history limit)
+limits_agree limits.Rows = refl
+limits_agree limits.HistoryOctets = refl
+limits_agree limits.IntervalRows = refl
 
-pub all_admitted : (head : Head) (items : List Item) (rows : List Row) → IsArchiveEntry (entries.Rows rows) → AllByRecursion (IsPlaced head) rows → AllByRecursion (λ row. IsOctets row.packet) rows → IsWithin 22 (items ++ items_of rows) → ingested items rows ≡ items ++ items_of rows → AreAdmitted (archive head items) rows
-all_admitted head items rows spelled placed octets within fresh = record { spelled = spelled; placed = placed; octets = octets; fresh = fresh; within = within }
+pub all_admitted : (head : Head) (exponent : ℕ) (items : List Item) (rows : List Row) → IsArchiveEntry (entries.Rows rows) → AllByRecursion (IsPlaced head) rows → AllByRecursion (λ row. IsOctets row.packet) rows → IsWithin exponent (items ++ items_of rows) → ingested items rows ≡ items ++ items_of rows → AreAdmitted (archive head exponent items) rows
+all_admitted head exponent items rows spelled placed octets within fresh = record { spelled = spelled; placed = placed; octets = octets; fresh = fresh; within = within }
 
 -- an entry that may not follow, and no entry at all
 pub breaks_entry : (old : Option FilledArchive) (e : Entry) (body : List ℕ) → IsArchiveEntry e → body ≡ entry_octets e → ((after : FilledArchive) → Applies old e after → ⊥) → Breaks old body

@@ -50,8 +50,8 @@ each_archived head [] stored placed octets = tt
 each_archived head (row ∷ rows) stored placed octets = (record { stored = stored.0; placed = placed.0; octets = octets.0 }, each_archived head rows stored.1 placed.1 octets.1)
 
 -- rows that are admitted are such rows
-pub more_archived : (head : Head) (history : List Item) (rows : List Row) → AllByRecursion (IsArchivedRow head) history → AreAdmitted (archive head history) rows → AllByRecursion (IsArchivedRow head) (history ++ rows)
-more_archived head history rows all ok = all_more (IsArchivedRow head) history rows all (each_archived head rows ok.spelled.each ok.placed ok.octets)
+pub more_archived : (head : Head) (exponent : ℕ) (history : List Item) (rows : List Row) → AllByRecursion (IsArchivedRow head) history → AreAdmitted (archive head exponent history) rows → AllByRecursion (IsArchivedRow head) (history ++ rows)
+more_archived head exponent history rows all ok = all_more (IsArchivedRow head) history rows all (each_archived head rows ok.spelled.each ok.placed ok.octets)
 
 -- and so an entry leaves an archive of such rows
 pub applied_archived : (old : Option FilledArchive) (entry : Entry) (new : FilledArchive) → HasArchivedRows old → Applies old entry new → HasArchivedRows (Some new)
@@ -60,4 +60,4 @@ applied_archived None (entries.Rows rows) new all applies = absurd applies
 applied_archived None (entries.Fill interval base octets) new all applies = absurd applies
 applied_archived (Some old) (entries.Fill interval base octets) new all applies = subst (λ (a : FilledArchive). HasArchivedRows (Some a)) (sym applies.1) all
 applied_archived (Some old) (entries.Head tables mdb) new all applies = absurd applies
-applied_archived (Some old) (entries.Rows rows) new all applies = subst (λ (a : FilledArchive). HasArchivedRows (Some a)) (sym applies.1) (more_archived old.plain.head old.plain.history rows all applies.0)
+applied_archived (Some old) (entries.Rows rows) new all applies = subst (λ (a : FilledArchive). HasArchivedRows (Some a)) (sym applies.1) (more_archived old.plain.head old.plain.exponent old.plain.history rows all applies.0)

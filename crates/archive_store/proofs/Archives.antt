@@ -5,12 +5,15 @@ use Rattle.disk_journal.specs.Format.{HasRecords, IsClosed, written, framed}
 use Rattle.disk_journal.specs.Reading.{IsAt, IsCutShortAt, IsReadJournal, gate_of}
 use Rattle.disk_journal.specs.declared.opening.Opening.{Opening}
 use Rattle.disk_journal.proofs.Files.{written-push}
+use Rattle.history_items.specs.declared.fills.Fill.{Fill}
+use Rattle.history_items.specs.declared.fills.Fill.TheVariants.{Done}
 use Rattle.field_codec.specs.declared.entry.Entry.{Entry}
+use Rattle.field_codec.specs.declared.entry.Entry.TheVariants as entries
 use Rattle.field_codec.specs.Spelling.{entry_octets}
 use Rattle.archive_store.specs.declared.reading.PartialArchive.{PartialArchive}
 use Rattle.archive_store.specs.declared.reading.ReadArchive.{ReadArchive}
-use Rattle.archive_store.specs.Entries.{FilledArchive, HasArchivedRows, Replays}
-use Rattle.archive_store.specs.PartialArchive.{archive_made, filled_made, HasMarks, HasTables, IsReadArchive}
+use Rattle.archive_store.specs.Entries.{FilledArchive, HasArchivedRows, Replays, dones_of}
+use Rattle.archive_store.specs.PartialArchive.{archive_made, filled_made, HasMarks, IsReadHistory, IsReadArchive}
 use Rattle.archive_store.specs.Stands.{Breaks, IsArchiveDamagedAt}
 
 -- an archive that was made stays one
@@ -22,6 +25,13 @@ some_stays a b (e ∷ es) replays none = some_stays replays.0 b es replays.2 non
 pub no_entries : (b : Option FilledArchive) (es : List Entry) → Replays None es b → b ≡ None → es ≡ []
 no_entries b [] replays none = refl
 no_entries b (e ∷ es) replays none = absurd (some_stays replays.0 b es replays.2 none)
+
+-- the fills of more entries
+pub dones-append : (es more : List Entry) → dones_of (es ++ more) ≡ dones_of es ++ dones_of more
+dones-append [] more = refl
+dones-append (entries.Head tables mdb ∷ es) more = dones-append es more
+dones-append (entries.Rows rows ∷ es) more = dones-append es more
+dones-append (entries.Fill interval base octets ∷ es) more = ap (λ (l : List Fill). Done interval base ∷ l) (dones-append es more)
 
 -- a file with an open gate has entries
 pub opens_some : (content : List ℕ) → get_or content 0 0 ≡ 1 → HasRecords content [] → ⊥
@@ -69,7 +79,7 @@ damaged_wrong image at before old new es body long is next replays at_is small b
     }
 
 -- what was read to the end
-pub found_is : (content : List ℕ) (opening : Opening) (es : List Entry) (made : Option PartialArchive) (f : ReadArchive) → Some f.made ≡ made → IsReadJournal opening f.journal → HasRecords content (map entry_octets es) → IsAt opening content (map entry_octets es) → Replays None es (archive_made made)
+abbrev pub found_is : (content : List ℕ) (opening : Opening) (es : List Entry) (made : Option PartialArchive) (f : ReadArchive) → Some f.made ≡ made → IsReadJournal opening f.journal → HasRecords content (map entry_octets es) → IsAt opening content (map entry_octets es) → Replays None es (archive_made made)
     → IsReadArchive content f.journal (filled_made f.made)
 found_is content opening es made f is finished has at replays = record {
   entries = es;
@@ -85,5 +95,5 @@ rows_found made f is has = subst (λ (m : Option PartialArchive). HasArchivedRow
 pub marks_found : (made : Option PartialArchive) (f : ReadArchive) → Some f.made ≡ made → HasMarks made → HasMarks (Some f.made)
 marks_found made f is has = subst HasMarks (sym is) has
 
-pub tables_found : (made : Option PartialArchive) (f : ReadArchive) → Some f.made ≡ made → HasTables made → HasTables (Some f.made)
-tables_found made f is has = subst HasTables (sym is) has
+pub tables_found : (made : Option PartialArchive) (f : ReadArchive) → Some f.made ≡ made → IsReadHistory made → IsReadHistory (Some f.made)
+tables_found made f is has = subst IsReadHistory (sym is) has

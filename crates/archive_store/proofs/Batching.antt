@@ -64,13 +64,14 @@ length-map-row f (x ∷ xs) = omega (arith, length-map-row f xs)
 few_rows : (head : Head) (rectime : ℤ) (arrivals : List Arrival) → AllByRecursion (IsArrival head rectime) arrivals → length (flat_map arrival_rows arrivals) ≤ 16 * length arrivals
 few_rows head rectime [] all = omega arith
 few_rows head rectime (a ∷ arrivals) all =
-    omega (arith, few_rows head rectime arrivals all.1, length-append (arrival_rows a) (flat_map arrival_rows arrivals), length-map-row (in_table a.row) a.tables, all.0.few_tables)
+    let few : length a.tables ≤ 16 = all.0.few_tables in
+    omega (arith, few_rows head rectime arrivals all.1, length-append (arrival_rows a) (flat_map arrival_rows arrivals), length-map-row (in_table a.row) a.tables, few)
 
 -- the new rows of a batch may be added
-pub admitted : (head : Head) (history : List Item) (batch : Batch) → IsArchiveEntry (entries.Head head.tables head.mdb) → length head.mdb.containers < 2 ^ 16 → IsBatch head batch
-    → 1 ≤ length (fresh_of history (batch_rows batch)) → IsWithin 22 (history ++ items_of (fresh_of history (batch_rows batch)))
-    → AllByRecursion (λ row. IsOctets row.packet) (fresh_of history (batch_rows batch)) → AreAdmitted (archive head history) (fresh_of history (batch_rows batch))
-admitted head history batch fits names is some within octets =
+pub admitted : (head : Head) (exponent : ℕ) (history : List Item) (batch : Batch) → IsArchiveEntry (entries.Head head.tables head.mdb) → length head.mdb.containers < 2 ^ 16 → IsBatch head batch
+    → 1 ≤ length (fresh_of history (batch_rows batch)) → IsWithin exponent (history ++ items_of (fresh_of history (batch_rows batch)))
+    → AllByRecursion (λ row. IsOctets row.packet) (fresh_of history (batch_rows batch)) → AreAdmitted (archive head exponent history) (fresh_of history (batch_rows batch))
+admitted head exponent history batch fits names is some within octets =
     let rows = batch_rows batch in
     let all : AllByRecursion (Fits head batch.rectime is.rectime fits.0.few names) (fresh_of history rows) =
     all_answered (Fits head batch.rectime is.rectime fits.0.few names) (outcomes_of history rows) rows (rows_fit head batch.rectime is.rectime fits.0.few names batch.arrivals is.each) in

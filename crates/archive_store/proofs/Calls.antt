@@ -1,5 +1,5 @@
 -- What the words on a store's calls say, one fact at a time.
-use Rattle.std.proofs.Common.{◌≡◌, ◌≢◌, ◌⊎◌, inl, inr, ⊎_elim, ◌≤◌, ℕ, List, [], Option, Some, None, refl, sym, ◌∙◌, ap, subst, arith}
+use Rattle.std.proofs.Common.{◌≡◌, ◌≢◌, ◌⊎◌, inl, inr, ⊎_elim, ◌≤◌, ℕ, List, [], true, Option, Some, None, refl, sym, ◌∙◌, ap, subst, arith}
 use Rattle.std.specs.Prelude.{IsTrue, Result, Ok, Err, OnOk, IfErr, IsErrAnd, MatchResult}
 use Rattle.arch_disk.specs.Image.{Image}
 use Rattle.arch_disk.specs.Disk.{Device, HasCause, CountsFailure, raised}
@@ -34,8 +34,8 @@ module _ {D : Type 0} (device : Device D) where
 
   -- rows that were not appended are those of a batch
   pub rows_refused : (old new : StoreView D) (rows fresh : List Row) (e : Refusal) → fresh ≡ fresh_of old.history rows → pending_fault_of old.fills ≡ None → fresh_of old.history rows ≢ []
-      → IsBelowLimits 22 old.records old.history rows → IsRowsRefusal device old new fresh e → IsIngestRefusal device old new rows e
-  rows_refused old new rows fresh DiskFault is healed some_new below refusal = record { healed = healed; some_new = some_new; below = below; fault = subst (λ (l : List Row). AddsFault device old new (Rows l)) is refusal }
+      → IsBelowLimits old.exponent old.records old.history rows → IsRowsRefusal device old new fresh e → IsIngestRefusal device old new rows e
+  rows_refused old new rows fresh DiskFault is healed some_new below refusal = record { healed = healed; some_new = some_new; below = below; fault = subst (λ (l : List Row). AddsFault device old new true (Rows l)) is refusal }
   rows_refused old new rows fresh OutOfMemory is healed some_new below refusal = (healed, refusal)
   rows_refused old new rows fresh _ is healed some_new below refusal = absurd refusal
 
@@ -88,19 +88,19 @@ module _ {D : Type 0} (device : Device D) where
   ingest_untouched old new rows e is = ingest_cases old new rows (λ r. (r ≡ DiskFault) ⊎ (new ≡ old)) e is (λ faults r. inr r.1) (λ which number r. inr r.1) (λ r. inl refl) (λ r. inr r.1)
 
   -- which then leaves the new rows in a fault
-  pub ingest_fault : (old new : StoreView D) (rows : List Row) (e : Refusal) → IsIngestRefusal device old new rows e → e ≡ DiskFault → AddsFault device old new (Rows (fresh_of old.history rows))
+  pub ingest_fault : (old new : StoreView D) (rows : List Row) (e : Refusal) → IsIngestRefusal device old new rows e → e ≡ DiskFault → AddsFault device old new true (Rows (fresh_of old.history rows))
   ingest_fault old new rows e is fault = (subst (IsIngestRefusal device old new rows) fault is).fault
 
   -- a limit is named rightly, and only where rows are new
   pub ingest_limit : (old new : StoreView D) (rows : List Row) (e : Refusal) (which : Which) (number : ℕ) → IsIngestRefusal device old new rows e → e ≡ Limit which number
-      → (number ≡ limit_of which) × IsLimit 22 which old.records (ingested old.history rows)
+      → (number ≡ limit_of which) × IsLimit old.exponent which old.records (ingested old.history rows)
   ingest_limit old new rows e which number is limit = let passes = (subst (IsIngestRefusal device old new rows) limit is).0 in (passes.number_is, passes.first)
 
   pub ingest_some : (old new : StoreView D) (rows : List Row) (e : Refusal) (which : Which) (number : ℕ) → IsIngestRefusal device old new rows e → e ≡ Limit which number → fresh_of old.history rows ≢ []
   ingest_some old new rows e which number is limit = (subst (IsIngestRefusal device old new rows) limit is).0.some_new
 
   -- where the disk was asked no limit is passed
-  pub ingest_below : (old new : StoreView D) (rows : List Row) (e : Refusal) → IsIngestRefusal device old new rows e → e ≡ DiskFault → IsBelowLimits 22 old.records old.history rows
+  pub ingest_below : (old new : StoreView D) (rows : List Row) (e : Refusal) → IsIngestRefusal device old new rows e → e ≡ DiskFault → IsBelowLimits old.exponent old.records old.history rows
   ingest_below old new rows e is fault = (subst (IsIngestRefusal device old new rows) fault is).below
 
   -- a batch without new rows changes nothing
@@ -119,8 +119,8 @@ module _ {D : Type 0} (device : Device D) where
   ingest_asks_exactly {T = T} old new rows (Err e) ok err = ingest_asks T old new rows e err
 
   -- or a limit that is passed: else none is, or memory was wanting before it was looked for
-  pub ingest_below_exactly : {T : Type 0} (old new : StoreView D) (rows : List Row) (result : Result T Refusal) → OnOk result (IsBelowLimits 22 old.records old.history rows) → IfErr result (IsIngestRefusal device old new rows)
-      → MatchResult result (λ _. IsBelowLimits 22 old.records old.history rows) (λ e. e ≡ DiskFault → IsBelowLimits 22 old.records old.history rows)
+  pub ingest_below_exactly : {T : Type 0} (old new : StoreView D) (rows : List Row) (result : Result T Refusal) → OnOk result (IsBelowLimits old.exponent old.records old.history rows) → IfErr result (IsIngestRefusal device old new rows)
+      → MatchResult result (λ _. IsBelowLimits old.exponent old.records old.history rows) (λ e. e ≡ DiskFault → IsBelowLimits old.exponent old.records old.history rows)
   ingest_below_exactly old new rows (Ok x) ok err = ok
   ingest_below_exactly old new rows (Err e) ok err = λ fault. ingest_below old new rows e err fault
 

@@ -15,7 +15,7 @@ use Rattle.interval_fills.specs.Steps.{IsStoredBase}
 use Rattle.interval_fills.proofs.Steps.{same_interval}
 use Rattle.param_segments.specs.Extracted.{IsSetOf}
 use Rattle.param_segments.specs.Rows.{SetRow}
-use Rattle.store_fills.specs.FilledSets.{FilledIntervals, fill_over, fillings_in}
+use Rattle.store_fills.specs.LastFills.{PlacedFills, fill_over, fillings_in}
 use Rattle.store_fills.specs.Sound.{Filling, Fillings, base_of_filling, with_filling}
 use Rattle.store_fills.proofs.Bases.{base_with}
 use Rattle.archive_store.specs.declared.head.Head.{Head}
@@ -23,24 +23,24 @@ use Rattle.archive_store.specs.Inside.{HoldsFills}
 
 -- ---- an interval that has a row
 
-module _ (items : List Item) (interval : Interval) (base : ℕ) (last : Option ℕ) (is : last ≡ last_in 22 interval items) where
-  last_row : IsLastIn 22 interval items last
-  last_row = subst (IsLastIn 22 interval items) (sym is) (last_is_greatest 22 interval items)
+module _ (exponent : ℕ) (items : List Item) (interval : Interval) (base : ℕ) (last : Option ℕ) (is : last ≡ last_in exponent interval items) where
+  last_row : IsLastIn exponent interval items last
+  last_row = subst (IsLastIn exponent interval items) (sym is) (last_is_greatest exponent interval items)
 
-  pub stored_by : base ≤ length items → is_some last ≡ true → IsStoredBase 22 interval base items
+  pub stored_by : base ≤ length items → is_some last ≡ true → IsStoredBase exponent interval base items
   stored_by within some = go last some last_row
     where
-      go : (o : Option ℕ) → is_some o ≡ true → IsLastIn 22 interval items o → IsStoredBase 22 interval base items
+      go : (o : Option ℕ) → is_some o ≡ true → IsLastIn exponent interval items o → IsStoredBase exponent interval base items
       go None none row = absurd (true≢false (sym none))
       go (Some l) some row = record {
         within = within;
         row = record { position = l; stands = row.0; below = slice_get_within items l row.0.row row.0.there };
       }
 
-  pub stored_has : IsStoredBase 22 interval base items → is_some last ≡ true
+  pub stored_has : IsStoredBase exponent interval base items → is_some last ≡ true
   stored_has based = go last last_row
     where
-      go : (o : Option ℕ) → IsLastIn 22 interval items o → is_some o ≡ true
+      go : (o : Option ℕ) → IsLastIn exponent interval items o → is_some o ≡ true
       go None never = absurd (never based.row.position based.row.stands)
       go (Some l) row = refl
 
@@ -49,29 +49,29 @@ module _ (items : List Item) (interval : Interval) (base : ℕ) (last : Option �
 some_is : {A : Type 0} (x y : A) → ◌≡◌ {A = Option A} (Some x) (Some y) → x ≡ y
 some_is x y e = cc
 
-pub holds_done : (head : Head) (fills more : List Fill) (filled next : FilledIntervals) (i : Interval) (base : ℕ) (set : List SetRow) → HoldsFills head fills filled
-    → more ≡ fills ++ Done i base ∷ [] → fillings_in next ≡ with_filling (fillings_in filled) i (fill_over base set) → IsSetOf head.mdb 22 i.0 set → HoldsFills head more next
-holds_done head fills more filled next i base set holds noted put is = record {
+pub holds_done : (head : Head) (exponent : ℕ) (fills more : List Fill) (filled next : PlacedFills) (i : Interval) (base : ℕ) (set : List SetRow) → HoldsFills head exponent fills filled
+    → more ≡ fills ++ Done i base ∷ [] → fillings_in next ≡ with_filling (fillings_in filled) i (fill_over base set) → IsSetOf head.mdb exponent i.0 set → HoldsFills head exponent more next
+holds_done head exponent fills more filled next i base set holds noted put is = record {
   bases = λ j. ap (base_in j) noted ∙ base_after_item j fills (Done i base) ∙ ap (λ (o : Option ℕ). base_after j o (Done i base)) (holds.bases j) ∙ sym (base_with (fillings_in filled) i j base set)
       ∙ ap (λ (f : Fillings (List SetRow)). base_of_filling f j) (sym put);
   fits = λ j f there. chosen j f (is_same j i) refl (sym (ap (λ (g : Fillings (List SetRow)). g j) put) ∙ there);
 }
   where
-    chosen : (j : Interval) (f : Filling (List SetRow)) (b : Bool) → is_same j i ≡ b → (if b then Some (fill_over base set) else fillings_in filled j) ≡ Some f → IsSetOf head.mdb 22 j.0 f.set
+    chosen : (j : Interval) (f : Filling (List SetRow)) (b : Bool) → is_same j i ≡ b → (if b then Some (fill_over base set) else fillings_in filled j) ≡ Some f → IsSetOf head.mdb exponent j.0 f.set
     chosen j f true same there =
-        subst (λ (k : Interval). IsSetOf head.mdb 22 k.0 f.set) (sym (same_interval j i same))
-        (subst (λ (g : Filling (List SetRow)). IsSetOf head.mdb 22 i.0 g.set) (some_is (fill_over base set) f there) is)
+        subst (λ (k : Interval). IsSetOf head.mdb exponent k.0 f.set) (sym (same_interval j i same))
+        (subst (λ (g : Filling (List SetRow)). IsSetOf head.mdb exponent i.0 g.set) (some_is (fill_over base set) f there) is)
     chosen j f false other there = holds.fits j f there
 
 -- ---- a fill list that tells the same bases
 
-pub holds_same : (head : Head) (fills more : List Fill) (filled : FilledIntervals) → HoldsFills head fills filled → ((i : Interval) → base_in i more ≡ base_in i fills) → HoldsFills head more filled
-holds_same head fills more filled holds same = record { bases = λ i. same i ∙ holds.bases i; fits = holds.fits }
+pub holds_same : (head : Head) (exponent : ℕ) (fills more : List Fill) (filled : PlacedFills) → HoldsFills head exponent fills filled → ((i : Interval) → base_in i more ≡ base_in i fills) → HoldsFills head exponent more filled
+holds_same head exponent fills more filled holds same = record { bases = λ i. same i ∙ holds.bases i; fits = holds.fits }
 
 -- ---- no fill
 
-pub holds_none : (head : Head) (fills : List Fill) (filled : FilledIntervals) → fills ≡ [] → fillings_in filled ≡ (λ i. None) → HoldsFills head fills filled
-holds_none head fills filled none empty = record {
+pub holds_none : (head : Head) (exponent : ℕ) (fills : List Fill) (filled : PlacedFills) → fills ≡ [] → fillings_in filled ≡ (λ i. None) → HoldsFills head exponent fills filled
+holds_none head exponent fills filled none empty = record {
   bases = λ i. ap (base_in i) none ∙ sym (ap (λ (f : Fillings (List SetRow)). base_of_filling f i) empty);
   fits = λ i f there. absurd (no_fill i f (sym (ap (λ (g : Fillings (List SetRow)). g i) empty) ∙ there));
 }

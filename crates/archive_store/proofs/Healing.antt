@@ -4,8 +4,9 @@ use Rattle.std.specs.Prelude.{IsTrue}
 use Rattle.arch_disk.specs.Disk.{Device, LeavesOnly}
 use Rattle.arch_disk.proofs.Moments.{weakens}
 use Rattle.history_items.specs.declared.fills.Fill.{Fill}
+use Rattle.history_items.specs.declared.fills.Addition.{Addition}
 use Rattle.history_items.specs.Items.{Item}
-use Rattle.history_items.specs.Fills.{rows_of_faults, pending_fault_of, reopened, above, unacknowledged_rows}
+use Rattle.history_items.specs.Fills.{rows_of_faults, pending_fault_of, reopened, above, unacknowledged_in}
 use Rattle.history_items.proofs.FillLists.{pending_fault_of-reopened, rows_of_faults-reopened, Rising-reopened, Rising-later}
 use Rattle.disk_journal.specs.Format.{IsBeforeOrAfter}
 use Rattle.disk_journal.specs.State.{HasOnDisk as JournalHasOnDisk}
@@ -13,7 +14,7 @@ use Rattle.disk_journal.specs.State.{unhealed_fault, file_of, IsOldBut}
 use Rattle.disk_journal.specs.declared.journal.Journal.{Journal}
 use Rattle.field_codec.specs.Spelling.{entry_octets}
 use Rattle.archive_store.specs.declared.head.Head.{Head}
-use Rattle.store_fills.specs.FilledSets.{FilledIntervals, fillings_in}
+use Rattle.store_fills.specs.LastFills.{PlacedFills, fillings_in}
 use Rattle.archive_store.specs.Entries.{FilledArchive, archive, filled_archive, Applies}
 use Rattle.archive_store.specs.Images.{ArchiveInvariant, IsPlainLog}
 use Rattle.archive_store.specs.Inside.{StoreInvariant}
@@ -26,34 +27,34 @@ use Rattle.archive_store.proofs.PlainLog.{PlainNow, plain_lower, now_for, found_
 
 module _ {D : Type 0} (device : Device D) where
   -- a crash during the call leaves what it might have left before
-  pub heal_moments : (disk new opened : D) (journal : Journal) (head : Head) (history : List Item) (fills : List Fill) (filled : FilledIntervals) (pending_fault : Option ℕ)
-      → StoreInvariant device disk opened journal head history fills filled pending_fault
+  pub heal_moments : (disk new opened : D) (journal : Journal) (head : Head) (exponent : ℕ) (history : List Item) (fills : List Fill) (filled : PlacedFills) (pending_fault : Option ℕ)
+      → StoreInvariant device disk opened journal head exponent history fills filled pending_fault
       → (IsTrue device.is_transparent → (bodies : List (List ℕ)) (pending : List ℕ) → JournalHasOnDisk device journal bodies pending disk
       → LeavesOnly device disk new (λ c. IsBeforeOrAfter bodies pending (c (file_of journal))))
       → LeavesOnly device disk new (IsOldBut device (file_of journal) disk)
       → (unhealed_fault journal ≡ None → new ≡ disk)
-      → IsTrue device.is_transparent → LeavesOnly device disk new (PlainNow (filled_archive head history (fillings_in filled)) (unacknowledged_rows fills))
-  heal_moments disk new opened journal head history fills filled pending_fault k run elsewhere no_call transparent =
-      one.heal_moments entry_octets Applies IsPlainLog plain_lower device disk new opened journal (filled_archive head history (fillings_in filled)) (IsUnacknowledged (filled_archive head history (fillings_in filled)) (unacknowledged_rows fills))
-      (IsSinceArchive (filled_archive head k.before k.fillings) (archive head history) (rows_of_faults fills)) k.archives run elsewhere no_call transparent
+      → IsTrue device.is_transparent → LeavesOnly device disk new (PlainNow (filled_archive head exponent history (fillings_in filled)) (unacknowledged_in fills))
+  heal_moments disk new opened journal head exponent history fills filled pending_fault k run elsewhere no_call transparent =
+      one.heal_moments entry_octets Applies IsPlainLog plain_lower device disk new opened journal (filled_archive head exponent history (fillings_in filled)) (IsUnacknowledged (filled_archive head exponent history (fillings_in filled)) (unacknowledged_in fills))
+      (IsSinceArchive (filled_archive head exponent k.before k.fillings) (archive head exponent history) (rows_of_faults fills)) k.archives run elsewhere no_call transparent
 
   -- as contracts say it
-  pub moments_for : (disk new : D) (now : FilledArchive) (pending : Option (List Item)) → LeavesOnly device disk new (PlainNow now pending) → LeavesOnly device disk new (IsNow now pending)
+  pub moments_for : (disk new : D) (now : FilledArchive) (pending : Option Addition) → LeavesOnly device disk new (PlainNow now pending) → LeavesOnly device disk new (IsNow now pending)
   moments_for disk new now pending moments = weakens device disk new _ _ moments (now_for now pending)
 
-  pub kept_healed : (disk new opened : D) (journal next : Journal) (head : Head) (history : List Item) (fills : List Fill) (filled : FilledIntervals) (pending_fault : Option ℕ)
-      → StoreInvariant device disk opened journal head history fills filled pending_fault
-      → (IsTrue device.is_transparent → LeavesOnly device disk new (PlainNow (filled_archive head history (fillings_in filled)) (unacknowledged_rows fills)))
+  pub kept_healed : (disk new opened : D) (journal next : Journal) (head : Head) (exponent : ℕ) (history : List Item) (fills : List Fill) (filled : PlacedFills) (pending_fault : Option ℕ)
+      → StoreInvariant device disk opened journal head exponent history fills filled pending_fault
+      → (IsTrue device.is_transparent → LeavesOnly device disk new (PlainNow (filled_archive head exponent history (fillings_in filled)) (unacknowledged_in fills)))
       → (IsTrue device.is_transparent → (bodies : List (List ℕ)) (pending : List ℕ) → JournalHasOnDisk device journal bodies pending disk → JournalHasOnDisk device next bodies pending new)
       → LeavesOnly device disk new (IsOldBut device (file_of journal) disk)
       → file_of next ≡ file_of journal
       → unhealed_fault next ≡ None
       → device.fault_count disk ≤ device.fault_count new
       → device.failed_writes disk ≤ device.failed_writes new
-      → StoreInvariant device new opened next head history (reopened fills) filled None
-  kept_healed disk new opened journal next head history fills filled pending_fault k moments keeps elsewhere file no_pending_fault later writes =
-      let now : FilledArchive = filled_archive head history (fillings_in filled) in
-      let before : FilledArchive = filled_archive head k.before k.fillings in record {
+      → StoreInvariant device new opened next head exponent history (reopened fills) filled None
+  kept_healed disk new opened journal next head exponent history fills filled pending_fault k moments keeps elsewhere file no_pending_fault later writes =
+      let now : FilledArchive = filled_archive head exponent history (fillings_in filled) in
+      let before : FilledArchive = filled_archive head exponent k.before k.fillings in record {
         faults = record {
           rising = Rising-reopened fills (above (device.fault_count opened)) (device.fault_count new) (Rising-later fills (above (device.fault_count opened)) (device.fault_count disk) (device.fault_count new) later k.faults.rising);
           later = omega (arith, k.faults.later, later);
@@ -65,12 +66,12 @@ module _ {D : Type 0} (device : Device D) where
         begins = k.begins;
         opening = k.opening;
         sound = k.sound;
-        archives = subst (λ (l : List (List Item)). ArchiveInvariant entry_octets Applies IsPlainLog device new opened next now (IsUnacknowledged now (unacknowledged_rows (reopened fills))) (IsSinceArchive before (archive head history) l))
+        archives = subst (λ (l : List (List Item)). ArchiveInvariant entry_octets Applies IsPlainLog device new opened next now (IsUnacknowledged now (unacknowledged_in (reopened fills))) (IsSinceArchive before (archive head exponent history) l))
             (sym (rows_of_faults-reopened fills))
-            (one.kept_healed entry_octets Applies IsPlainLog plain_lower device disk new opened journal next now (IsUnacknowledged now (unacknowledged_rows fills))
-            (IsUnacknowledged now (unacknowledged_rows (reopened fills))) (IsSinceArchive before (archive head history) (rows_of_faults fills)) k.archives moments keeps elsewhere
-            file no_pending_fault (found_whole before head history (fillings_in filled) (rows_of_faults fills) k.begins k.sound)
-            (found_unacknowledged before head history (fillings_in filled) (rows_of_faults fills) k.begins k.sound (unacknowledged_rows fills) (unacknowledged_in_faults fills)));
+            (one.kept_healed entry_octets Applies IsPlainLog plain_lower device disk new opened journal next now (IsUnacknowledged now (unacknowledged_in fills))
+            (IsUnacknowledged now (unacknowledged_in (reopened fills))) (IsSinceArchive before (archive head exponent history) (rows_of_faults fills)) k.archives moments keeps elsewhere
+            file no_pending_fault (found_whole before head exponent history (fillings_in filled) (rows_of_faults fills) k.begins k.sound)
+            (found_unacknowledged before head exponent history (fillings_in filled) (rows_of_faults fills) k.begins k.sound (unacknowledged_in fills) (unacknowledged_in_faults fills)));
         pending_fault_is = sym (pending_fault_of-reopened fills);
         journal_fault = λ faults is. absurd (cc (is, no_pending_fault));
         head_is = k.head_is;
@@ -80,19 +81,19 @@ module _ {D : Type 0} (device : Device D) where
       none_stands : (faults : ℕ) → pending_fault_of (reopened fills) ≡ Some faults → ⊥
       none_stands faults is = let none = pending_fault_of-reopened fills in cc (is, none)
 
-  pub kept_unhealed : (disk new opened : D) (journal next : Journal) (head : Head) (history : List Item) (fills : List Fill) (filled : FilledIntervals) (pending_fault : Option ℕ)
-      → StoreInvariant device disk opened journal head history fills filled pending_fault
-      → (IsTrue device.is_transparent → LeavesOnly device disk new (PlainNow (filled_archive head history (fillings_in filled)) (unacknowledged_rows fills)))
+  pub kept_unhealed : (disk new opened : D) (journal next : Journal) (head : Head) (exponent : ℕ) (history : List Item) (fills : List Fill) (filled : PlacedFills) (pending_fault : Option ℕ)
+      → StoreInvariant device disk opened journal head exponent history fills filled pending_fault
+      → (IsTrue device.is_transparent → LeavesOnly device disk new (PlainNow (filled_archive head exponent history (fillings_in filled)) (unacknowledged_in fills)))
       → (IsTrue device.is_transparent → (bodies : List (List ℕ)) (pending : List ℕ) → JournalHasOnDisk device journal bodies pending disk → JournalHasOnDisk device next bodies pending new)
       → LeavesOnly device disk new (IsOldBut device (file_of journal) disk)
       → file_of next ≡ file_of journal
       → unhealed_fault next ≡ unhealed_fault journal
       → device.fault_count disk ≤ device.fault_count new
       → device.failed_writes disk ≤ device.failed_writes new
-      → StoreInvariant device new opened next head history fills filled pending_fault
-  kept_unhealed disk new opened journal next head history fills filled pending_fault k moments keeps elsewhere file same later writes =
-      let now : FilledArchive = filled_archive head history (fillings_in filled) in
-      let before : FilledArchive = filled_archive head k.before k.fillings in record {
+      → StoreInvariant device new opened next head exponent history fills filled pending_fault
+  kept_unhealed disk new opened journal next head exponent history fills filled pending_fault k moments keeps elsewhere file same later writes =
+      let now : FilledArchive = filled_archive head exponent history (fillings_in filled) in
+      let before : FilledArchive = filled_archive head exponent k.before k.fillings in record {
         faults = record {
           rising = Rising-later fills (above (device.fault_count opened)) (device.fault_count disk) (device.fault_count new) later k.faults.rising;
           later = omega (arith, k.faults.later, later);
@@ -104,10 +105,10 @@ module _ {D : Type 0} (device : Device D) where
         begins = k.begins;
         opening = k.opening;
         sound = k.sound;
-        archives = one.kept_unhealed entry_octets Applies IsPlainLog plain_lower device disk new opened journal next now (IsUnacknowledged now (unacknowledged_rows fills))
-            (IsSinceArchive before (archive head history) (rows_of_faults fills)) k.archives moments keeps elsewhere file same
-            (found_whole before head history (fillings_in filled) (rows_of_faults fills) k.begins k.sound)
-            (found_unacknowledged before head history (fillings_in filled) (rows_of_faults fills) k.begins k.sound (unacknowledged_rows fills) (unacknowledged_in_faults fills));
+        archives = one.kept_unhealed entry_octets Applies IsPlainLog plain_lower device disk new opened journal next now (IsUnacknowledged now (unacknowledged_in fills))
+            (IsSinceArchive before (archive head exponent history) (rows_of_faults fills)) k.archives moments keeps elsewhere file same
+            (found_whole before head exponent history (fillings_in filled) (rows_of_faults fills) k.begins k.sound)
+            (found_unacknowledged before head exponent history (fillings_in filled) (rows_of_faults fills) k.begins k.sound (unacknowledged_in fills) (unacknowledged_in_faults fills));
         pending_fault_is = k.pending_fault_is;
         journal_fault = λ faults is. k.journal_fault faults (sym same ∙ is);
         head_is = k.head_is;

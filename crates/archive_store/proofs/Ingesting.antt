@@ -26,11 +26,11 @@ none_new history rows fresh is none = sym is ∙ no_row fresh none
 pub nothing_added : (history : List Item) (rows fresh : List Row) → fresh ≡ fresh_of history rows → length fresh ≡ 0 → history ≡ ingested history rows
 nothing_added history rows fresh is none = sym (append-nil history) ∙ ap (λ (l : List Row). history ++ l) (sym (no_row fresh none)) ∙ added history rows fresh is
 
-pub below_none : (records : ℕ) (history : List Item) (rows fresh : List Row) → fresh ≡ fresh_of history rows → length fresh ≡ 0 → IsWithin 22 history → IsBelowLimits 22 records history rows
-below_none records history rows fresh is none within = record {
-  within = subst (IsWithin 22) (nothing_added history rows fresh is none) within;
+pub below_none : (exponent : ℕ) (records : ℕ) (history : List Item) (rows fresh : List Row) → fresh ≡ fresh_of history rows → length fresh ≡ 0 → IsWithin exponent history → IsBelowLimits exponent records history rows
+below_none exponent records history rows fresh is none within = record {
+  within = subst (IsWithin exponent) (nothing_added history rows fresh is none) within;
   records_left = λ some. absurd (some (none_new history rows fresh is none));
 }
 
-pub below_some : (records : ℕ) (history : List Item) (rows fresh : List Row) → fresh ≡ fresh_of history rows → IsWithin 22 (history ++ items_of fresh) → records < limit_of limits.Records → IsBelowLimits 22 records history rows
-below_some records history rows fresh is within left = record { within = subst (IsWithin 22) (added history rows fresh is) within; records_left = λ some. left }
+pub below_some : (exponent : ℕ) (records : ℕ) (history : List Item) (rows fresh : List Row) → fresh ≡ fresh_of history rows → IsWithin exponent (history ++ items_of fresh) → records < limit_of limits.Records → IsBelowLimits exponent records history rows
+below_some exponent records history rows fresh is within left = record { within = subst (IsWithin exponent) (added history rows fresh is) within; records_left = λ some. left }

@@ -1,6 +1,6 @@
 -- Installs, by what a store is seen as.
 use Rattle.std.proofs.Common.{◌≡◌, ℕ, ◌<◌, List, [], ◌∷◌, ◌++◌, Bool, true, false, Option, Some, None, refl, sym, ◌∙◌, ap, subst, arith, append_assoc}
-use Rattle.std.specs.Prelude.{if◌then◌else◌}
+use Rattle.std.specs.Prelude.{fold, if◌then◌else◌}
 use Rattle.std.specs.Option.{is_some}
 use mathlib.Core.List.{IsPrefix}
 use Rattle.arch_disk.specs.Disk.{Device}
@@ -10,12 +10,13 @@ use Rattle.refusals.specs.declared.refusal.Refusal.TheVariants.{DiskFault, OutOf
 use Rattle.disk_journal.specs.Calls.{CountsNeverFall}
 use Rattle.history_items.specs.declared.fills.Fill.{Fill}
 use Rattle.history_items.specs.declared.fills.Fill.TheVariants.{Freed}
+use Rattle.history_items.specs.FillList.{flights_of}
 use Rattle.history_items.specs.Fills.{in_flight}
 use Rattle.history_items.specs.Items.{Item}
 use Rattle.history_items.specs.Late.{IsLastIn, last_in}
 use Rattle.history_items.proofs.Late.{last_is_greatest}
 use Rattle.interval_fills.specs.Intervals.{NoRowSince}
-use Rattle.interval_fills.specs.Steps.{freed}
+use Rattle.interval_fills.specs.Steps.{all_freed, freed}
 use Rattle.store_fills.specs.Built.{BuiltFill}
 use Rattle.archive_store.specs.Installs.{IsFillRefusal, IsAbandoned, IsInstallable, IsInstallRefusal}
 use Rattle.archive_store.specs.StoreView.{OnlyAppends, StoreView}
@@ -23,15 +24,15 @@ use Rattle.archive_store.proofs.PendingFaults.{prefix_self}
 
 -- ---- rows since a base
 
-module _ (interval : Interval) (base : ℕ) (history : List Item) (last : Option ℕ) (is : last ≡ last_in 22 interval history) where
-  last_row : IsLastIn 22 interval history last
-  last_row = subst (IsLastIn 22 interval history) (sym is) (last_is_greatest 22 interval history)
+module _ (exponent : ℕ) (interval : Interval) (base : ℕ) (history : List Item) (last : Option ℕ) (is : last ≡ last_in exponent interval history) where
+  last_row : IsLastIn exponent interval history last
+  last_row = subst (IsLastIn exponent interval history) (sym is) (last_is_greatest exponent interval history)
 
-  pub never_since : last ≡ None → NoRowSince 22 interval base history
-  never_since none = λ p stands. absurd (subst (IsLastIn 22 interval history) none last_row p stands)
+  pub never_since : last ≡ None → NoRowSince exponent interval base history
+  never_since none = λ p stands. absurd (subst (IsLastIn exponent interval history) none last_row p stands)
 
-  pub none_since_last : (l : ℕ) → last ≡ Some l → l < base → NoRowSince 22 interval base history
-  none_since_last l some below = λ p stands. let greatest = (subst (IsLastIn 22 interval history) some last_row).1 p stands in omega (arith, greatest, below)
+  pub none_since_last : (l : ℕ) → last ≡ Some l → l < base → NoRowSince exponent interval base history
+  none_since_last l some below = λ p stands. let greatest = (subst (IsLastIn exponent interval history) some last_row).1 p stands in omega (arith, greatest, below)
 
 -- what is known of an interval and a base, of those of a fill
 pub at_done : (done : BuiltFill) (i : Interval) (base : ℕ) → i ≡ done.interval → base ≡ done.base → (P : Interval → ℕ → Type 0) → P i base → P done.interval done.base
@@ -49,12 +50,20 @@ freed_begins fills i = go (is_some (in_flight i fills))
 prefix_on : {A : Type 0} (xs ys zs : List A) → IsPrefix xs ys → IsPrefix ys zs → IsPrefix xs zs
 prefix_on {A = A} xs ys zs first next = (first.0 ++ next.0, sym (append_assoc xs first.0 next.0) ∙ ap (λ (l : List A). l ++ next.0) first.1 ∙ next.1)
 
+all_freed_begins : (fills : List Fill) → IsPrefix fills (all_freed fills)
+all_freed_begins fills = go (flights_of fills) fills (prefix_self fills)
+  where
+    go : (flights : List Interval) (ended : List Fill) → IsPrefix fills ended → IsPrefix fills (fold (λ so_far interval. freed interval so_far) ended flights)
+    go [] ended begins = begins
+    go (i ∷ flights) ended begins = go flights (freed i ended) (prefix_on fills ended (freed i ended) begins (freed_begins ended i))
+
 module _ {D : Type 0} where
   pub goes_on : (old mid new : StoreView D) → OnlyAppends old mid → OnlyAppends mid new → OnlyAppends old new
   goes_on old mid new first next = record {
     history = prefix_on old.history mid.history new.history first.history next.history;
     fills = prefix_on old.fills mid.fills new.fills first.fills next.fills;
     head = next.head ∙ first.head;
+    exponent = next.exponent ∙ first.exponent;
     opened = next.opened ∙ first.opened;
   }
 
@@ -65,6 +74,18 @@ module _ {D : Type 0} where
     history = prefix_self old.history;
     fills = freed_begins old.fills i;
     head = refl;
+    exponent = refl;
+    opened = refl;
+  })
+
+  -- ---- all flights end
+
+  pub goes_settled : (old new : StoreView D) → new ≡ record old { fills = all_freed old.fills } → OnlyAppends old new
+  goes_settled old new settled = subst (OnlyAppends old) (sym settled) (record {
+    history = prefix_self old.history;
+    fills = all_freed_begins old.fills;
+    head = refl;
+    exponent = refl;
     opened = refl;
   })
 
@@ -79,8 +100,8 @@ module _ {D : Type 0} where
 
   -- ---- why an install is refused behind its tests
 
-  pub install_refused : (device : Device D) (old mid new : StoreView D) (done : BuiltFill) (e : Refusal) → IsInstallable old → NoRowSince 22 done.interval done.base old.history
-      → IsFillRefusal device old mid e → IsAbandoned mid new done.interval → IsInstallRefusal device old new done e
+  pub install_refused : (device : Device D) (old mid new : StoreView D) (done : BuiltFill) (e : Refusal) → IsInstallable old → NoRowSince old.exponent done.interval done.base old.history
+      → IsFillRefusal device old mid done e → IsAbandoned mid new done.interval → IsInstallRefusal device old new done e
   install_refused device old mid new done OutOfMemory able none refusal up = (able, none, subst (λ (s : StoreView D). IsAbandoned s new done.interval) refusal up)
   install_refused device old mid new done DiskFault able none refusal up = (able, none, (mid, refusal, up))
   install_refused device old mid new done _ able none refusal up = absurd refusal

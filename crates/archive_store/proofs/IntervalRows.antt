@@ -17,7 +17,7 @@ use Rattle.interval_walks.proofs.Rising.{after_low, before_high, range_is}
 use Rattle.late_marks.specs.Marks.{Marks, has_rows}
 use Rattle.fill_tracker.specs.FillTracker.{AreMarksOf}
 use Rattle.param_segments.specs.Rows.{SetRow}
-use Rattle.store_fills.specs.FilledSets.{FilledIntervals, fillings_in}
+use Rattle.store_fills.specs.LastFills.{PlacedFills, fillings_in}
 use Rattle.store_fills.specs.Sound.{Filling}
 use Rattle.archive_store.specs.declared.head.Head.{Head}
 use Rattle.archive_store.specs.Entries.{IsArchivedRow}
@@ -26,29 +26,29 @@ use Rattle.archive_store.proofs.CurrentSets.{marked_last}
 use Rattle.archive_store.proofs.Times.{stands_in_clock}
 
 -- intervals that have marks have rows
-pub all_marked : (history : List Item) (fills : List Fill) (marks : Marks) (is : List Interval) → AreMarksOf 22 history fills marks → AllByRecursion (λ i. has_rows marks i ≡ true) is → AllByRecursion (λ i. IsSome (last_in 22 i history)) is
-all_marked history fills marks [] are all = tt
-all_marked history fills marks (i ∷ is) are all = (marked_last marks fills history i are all.0, all_marked history fills marks is are all.1)
+pub all_marked : (exponent : ℕ) (history : List Item) (fills : List Fill) (marks : Marks) (is : List Interval) → AreMarksOf exponent history fills marks → AllByRecursion (λ i. has_rows marks i ≡ true) is → AllByRecursion (λ i. IsSome (last_in exponent i history)) is
+all_marked exponent history fills marks [] are all = tt
+all_marked exponent history fills marks (i ∷ is) are all = (marked_last exponent marks fills history i are all.0, all_marked exponent history fills marks is are all.1)
 
 -- the interval of a row of an archive meets the range of all times
-pub meets_all : (head : Head) (history : List Item) (i : Interval) (p : ℕ) → AllByRecursion (IsArchivedRow head) history → StandsIn 22 i p history → MeetsRange 22 (pos 0) (pos 9223372036854775807) i
-meets_all head history i p all stands =
-    let moment = stands_in_clock head history i p all stands in
+pub meets_all : (head : Head) (exponent : ℕ) (history : List Item) (i : Interval) (p : ℕ) → AllByRecursion (IsArchivedRow head) history → StandsIn exponent i p history → MeetsRange exponent (pos 0) (pos 9223372036854775807) i
+meets_all head exponent history i p all stands =
+    let moment = stands_in_clock head exponent history i p all stands in
     let clock = moment.1 in
     let row : Row = record stands.row { key = record { time = moment.0; seq = 0 } } in
-    let bounds = range_is (interval_start 22 i) (interval_end 22 i) row (in_range 22 i row moment.2) in
+    let bounds = range_is (interval_start exponent i) (interval_end exponent i) row (in_range exponent i row moment.2) in
     record { begins = before_high bounds.0 (omega (arith, ints, clock.1)); ends = after_low clock.0 bounds.1 }
 
 -- where an interval is filled, a row of it stands somewhere: its base is told by the fill list, which names no interval
 -- without rows
-pub filled_stands : (head : Head) (history : List Item) (fills : List Fill) (marks : Marks) (filled : FilledIntervals) (i : Interval) → AreMarksOf 22 history fills marks → HoldsFills head fills filled
-    → IsSome (fillings_in filled i) → (p : ℕ) × StandsIn 22 i p history
-filled_stands head history fills marks filled i are holds some = go (last_in 22 i history) refl (last_is_greatest 22 i history)
+pub filled_stands : (head : Head) (exponent : ℕ) (history : List Item) (fills : List Fill) (marks : Marks) (filled : PlacedFills) (i : Interval) → AreMarksOf exponent history fills marks → HoldsFills head exponent fills filled
+    → IsSome (fillings_in filled i) → (p : ℕ) × StandsIn exponent i p history
+filled_stands head exponent history fills marks filled i are holds some = go (last_in exponent i history) refl (last_is_greatest exponent i history)
   where
     not_filled : (f : Option (Filling (List SetRow))) → base_in i fills ≡ option_map (λ g. g.base) f → base_in i fills ≡ None → IsSome f → ⊥
     not_filled None based none some = cc
     not_filled (Some f) based none some = cc
 
-    go : (o : Option ℕ) → last_in 22 i history ≡ o → IsLastIn 22 i history o → (p : ℕ) × StandsIn 22 i p history
+    go : (o : Option ℕ) → last_in exponent i history ≡ o → IsLastIn exponent i history o → (p : ℕ) × StandsIn exponent i p history
     go None e never = absurd (not_filled (fillings_in filled i) (holds.bases i) (are.known i e).0 some)
     go (Some last) e row = (last, row.0)

@@ -5,11 +5,12 @@ use Rattle.arch_disk.specs.Image.{Image}
 use Rattle.arch_disk.specs.Disk.{Device, LeavesOnly, raised}
 use Rattle.arch_disk.proofs.Moments.{started}
 use Rattle.intervals.specs.declared.interval.Interval.{Interval}
-use Rattle.history_items.specs.declared.fills.Addition.TheVariants.{Nothing}
+use Rattle.history_items.specs.declared.fills.Addition.{Addition}
+use Rattle.history_items.specs.declared.fills.Addition.TheVariants as additions
 use Rattle.history_items.specs.declared.fills.Fill.{Fill}
 use Rattle.history_items.specs.declared.fills.Fill.TheVariants.{Fault}
 use Rattle.history_items.specs.Items.{Item}
-use Rattle.history_items.specs.Fills.{rows_of_faults, pending_fault_of, unacknowledged_rows, above}
+use Rattle.history_items.specs.Fills.{rows_of_faults, pending_fault_of, unacknowledged_in, above}
 use Rattle.history_items.proofs.FillLists.{rows_of_faults-append, pending_fault_of-append, Rising-later, Rising-append}
 use Rattle.std.specs.Option.{option_or}
 use Rattle.disk_journal.specs.Format.{IsBeforeOrAfter}
@@ -25,7 +26,7 @@ use Rattle.param_segments.specs.Extracted.{IsSetOf}
 use Rattle.param_segments.specs.Octets.{rows_in_octets, set_octets}
 use Rattle.param_segments.specs.Rows.{SetRow}
 use Rattle.store_fills.specs.Filled.{IsRightFill}
-use Rattle.store_fills.specs.FilledSets.{FilledIntervals, fill_over, fillings_in}
+use Rattle.store_fills.specs.LastFills.{PlacedFills, fill_over, fillings_in}
 use Rattle.store_fills.specs.Sound.{Fillings, with_filling}
 use Rattle.archive_store.specs.declared.head.Head.{Head}
 use Rattle.archive_store.specs.Entries.{FilledArchive, IsSoundArchive, archive, filled_archive, Applies}
@@ -40,37 +41,37 @@ use Rattle.archive_store.proofs.PendingFaults.{keeps_without_fault}
 use Rattle.archive_store.proofs.PlainLog.{StandsPlain, plain_lower, fill_sound, found_whole, stands_filled}
 
 -- the fault of a fill that wasn't written
-abbrev pub empty_fault : ℕ → Fill
-empty_fault count = Fault count true Nothing
+abbrev pub fill_fault : ℕ → Interval → ℕ → Fill
+fill_fault count i base = Fault count true (additions.Fill i base)
 
-module _ (head : Head) (history : List Item) (fillings : Fillings (List SetRow)) (i : Interval) (base : ℕ) (set : List SetRow) where
+module _ (head : Head) (exponent : ℕ) (history : List Item) (fillings : Fillings (List SetRow)) (i : Interval) (base : ℕ) (set : List SetRow) where
   abbrev pub with_fill : FilledArchive
-  with_fill = filled_archive head history (with_filling fillings i (fill_over base set))
+  with_fill = filled_archive head exponent history (with_filling fillings i (fill_over base set))
 
   -- a fill that is right, and spelled, may be added
-  pub fill_applies : IsRightFill 22 head.mdb history i base set → IsArchiveEntry (entries.Fill i base (set_octets set)) → rows_in_octets (set_octets set) ≡ set
-      → Applies (Some (filled_archive head history fillings)) (entries.Fill i base (set_octets set)) with_fill
+  pub fill_applies : IsRightFill exponent head.mdb history i base set → IsArchiveEntry (entries.Fill i base (set_octets set)) → rows_in_octets (set_octets set) ≡ set
+      → Applies (Some (filled_archive head exponent history fillings)) (entries.Fill i base (set_octets set)) with_fill
   fill_applies right fits again = (
     record {
       fits = fits;
-      based = stored_base 22 i base history right.may;
-      set = subst (IsSetOf head.mdb 22 i.0) (sym again) right.fits;
+      based = stored_base exponent i base history right.may;
+      set = subst (IsSetOf head.mdb exponent i.0) (sym again) right.fits;
       spelled = ap set_octets (sym again);
     },
-    ap (λ (s : List SetRow). filled_archive head history (with_filling fillings i (fill_over base s))) (sym again),
+    ap (λ (s : List SetRow). filled_archive head exponent history (with_filling fillings i (fill_over base s))) (sym again),
   )
 
-module _ {D : Type 0} (device : Device D) (disk new opened : D) (journal next : Journal) (head : Head) (history : List Item) (fills : List Fill) (filled : FilledIntervals) (pending_fault : Option ℕ)
-    (i : Interval) (base : ℕ) (set : List SetRow) (k : StoreInvariant device disk opened journal head history fills filled pending_fault) (right : IsRightFill 22 head.mdb history i base set)
+module _ {D : Type 0} (device : Device D) (disk new opened : D) (journal next : Journal) (head : Head) (exponent : ℕ) (history : List Item) (fills : List Fill) (filled : PlacedFills) (pending_fault : Option ℕ)
+    (i : Interval) (base : ℕ) (set : List SetRow) (k : StoreInvariant device disk opened journal head exponent history fills filled pending_fault) (right : IsRightFill exponent head.mdb history i base set)
     (fits : IsArchiveEntry (entries.Fill i base (set_octets set))) (again : rows_in_octets (set_octets set) ≡ set) (healed : pending_fault_of fills ≡ None) where
   abbrev now : FilledArchive
-  now = filled_archive head history (fillings_in filled)
+  now = filled_archive head exponent history (fillings_in filled)
 
   abbrev after : FilledArchive
-  after = with_fill head history (fillings_in filled) i base set
+  after = with_fill head exponent history (fillings_in filled) i base set
 
   abbrev before : FilledArchive
-  before = filled_archive head k.before k.fillings
+  before = filled_archive head exponent k.before k.fillings
 
   abbrev pub LeavesFill : Type 0
   LeavesFill = LeavesOnly device disk new (λ c. StandsPlain c now ⊎ StandsPlain c after)
@@ -82,14 +83,14 @@ module _ {D : Type 0} (device : Device D) (disk new opened : D) (journal next : 
       → LeavesOnly device disk new (IsOldBut device (file_of next) disk) → IsTrue device.is_transparent → LeavesFill
   fill_moments same run elsewhere transparent =
       one.moments_of entry_octets Applies IsPlainLog plain_lower device disk new opened journal next now after (entries.Fill i base (set_octets set))
-      (IsUnacknowledged now (unacknowledged_rows fills)) (IsSinceArchive before (archive head history) (rows_of_faults fills)) k.archives
-      (fill_applies head history (fillings_in filled) i base set right fits again) (healthy (unhealed_fault journal) (pending_fault_of fills) k.journal_fault healed) same run elsewhere transparent
+      (IsUnacknowledged now (unacknowledged_in fills)) (IsSinceArchive before (archive head exponent history) (rows_of_faults fills)) k.archives
+      (fill_applies head exponent history (fillings_in filled) i base set right fits again) (healthy (unhealed_fault journal) (pending_fault_of fills) k.journal_fault healed) same run elsewhere transparent
 
   after_sound : IsSoundArchive before → IsSoundArchive after
-  after_sound was = fill_sound head history (fillings_in filled) i base set (k.sound was) right
+  after_sound was = fill_sound head exponent history (fillings_in filled) i base set (k.sound was) right
 
   -- a fill was appended
-  pub fill_ok : (filled_after : FilledIntervals) → fillings_in filled_after ≡ with_filling (fillings_in filled) i (fill_over base set)
+  pub fill_ok : (filled_after : PlacedFills) → fillings_in filled_after ≡ with_filling (fillings_in filled) i (fill_over base set)
       → file_of next ≡ file_of journal → unhealed_fault next ≡ None
       → (IsTrue device.is_transparent → (bodies : List (List ℕ)) (pending : List ℕ) → JournalHasOnDisk device journal bodies pending disk →
       JournalHasOnDisk device next (bodies ++ entry_octets (entries.Fill i base (set_octets set)) ∷ []) pending new)
@@ -97,17 +98,17 @@ module _ {D : Type 0} (device : Device D) (disk new opened : D) (journal next : 
       → LeavesOnly device disk new (IsOldBut device (file_of journal) disk)
       → device.fault_count disk ≤ device.fault_count new
       → device.failed_writes new ≡ device.failed_writes disk
-      → StoreInvariant device new opened next head history fills filled_after pending_fault
+      → StoreInvariant device new opened next head exponent history fills filled_after pending_fault
   fill_ok filled_after put file no_pending_fault keeps moments elsewhere later writes =
       let in_faults = rows_of_faults fills in
-      let o = unacknowledged_rows fills in
-      let there : FilledArchive = filled_archive head history (fillings_in filled_after) in
-      let same : after ≡ there = ap (filled_archive head history) (sym put) in
+      let o = unacknowledged_in fills in
+      let there : FilledArchive = filled_archive head exponent history (fillings_in filled_after) in
+      let same : after ≡ there = ap (filled_archive head exponent history) (sym put) in
       let done = one.kept_ok entry_octets Applies IsPlainLog plain_lower device disk new opened journal next now after (entries.Fill i base (set_octets set))
-      (IsUnacknowledged now o) (IsUnacknowledged after o) (IsSinceArchive before (archive head history) in_faults) (IsSinceArchive before (archive head history) in_faults) k.archives
-      (fill_applies head history (fillings_in filled) i base set right fits again) file no_pending_fault keeps moments elsewhere (λ x f. f)
-      (found_whole before head history (fillings_in filled) in_faults k.begins k.sound)
-      (found_whole before head history (with_filling (fillings_in filled) i (fill_over base set)) in_faults k.begins after_sound) in record {
+      (IsUnacknowledged now o) (IsUnacknowledged after o) (IsSinceArchive before (archive head exponent history) in_faults) (IsSinceArchive before (archive head exponent history) in_faults) k.archives
+      (fill_applies head exponent history (fillings_in filled) i base set right fits again) file no_pending_fault keeps moments elsewhere (λ x f. f)
+      (found_whole before head exponent history (fillings_in filled) in_faults k.begins k.sound)
+      (found_whole before head exponent history (with_filling (fillings_in filled) i (fill_over base set)) in_faults k.begins after_sound) in record {
         faults = record {
           rising = Rising-later fills (above (device.fault_count opened)) (device.fault_count disk) (device.fault_count new) later k.faults.rising;
           later = omega (arith, k.faults.later, later);
@@ -119,18 +120,18 @@ module _ {D : Type 0} (device : Device D) (disk new opened : D) (journal next : 
         begins = k.begins;
         opening = k.opening;
         sound = λ was. subst IsSoundArchive same (after_sound was);
-        archives = subst (λ (a : FilledArchive). ArchiveInvariant entry_octets Applies IsPlainLog device new opened next a (IsUnacknowledged a o) (IsSinceArchive before (archive head history) in_faults)) same done;
+        archives = subst (λ (a : FilledArchive). ArchiveInvariant entry_octets Applies IsPlainLog device new opened next a (IsUnacknowledged a o) (IsSinceArchive before (archive head exponent history) in_faults)) same done;
         pending_fault_is = k.pending_fault_is;
         journal_fault = λ faults is. absurd (cc (is, no_pending_fault));
         head_is = k.head_is;
         rows = k.rows;
       }
 
-  no_rows : (count : ℕ) → rows_of_faults (fills ++ empty_fault count ∷ []) ≡ rows_of_faults fills
-  no_rows count = rows_of_faults-append fills (empty_fault count ∷ []) ∙ append-nil (rows_of_faults fills)
+  no_rows : (count : ℕ) → rows_of_faults (fills ++ fill_fault count i base ∷ []) ≡ rows_of_faults fills
+  no_rows count = rows_of_faults-append fills (fill_fault count i base ∷ []) ∙ append-nil (rows_of_faults fills)
 
   -- an append failed, of a fill over all rows of its interval
-  pub fill_err : (count : ℕ) → NoRowSince 22 i base history → file_of next ≡ file_of journal
+  pub fill_err : (count : ℕ) → NoRowSince exponent i base history → file_of next ≡ file_of journal
       → unhealed_fault next ≡ Some (min (device.fault_count new) (2 ^ 64 - 1))
       → count ≡ min (device.fault_count new) (2 ^ 64 - 1)
       → (IsTrue device.is_transparent → (bodies : List (List ℕ)) (pending : List ℕ) → JournalHasOnDisk device journal bodies pending disk →
@@ -139,14 +140,14 @@ module _ {D : Type 0} (device : Device D) (disk new opened : D) (journal next : 
       → LeavesOnly device disk new (IsOldBut device (file_of journal) disk)
       → raised (device.fault_count disk) ≤ device.fault_count new
       → device.failed_writes new ≡ raised (device.failed_writes disk)
-      → StoreInvariant device new opened next head history (fills ++ empty_fault count ∷ []) filled (Some count)
+      → StoreInvariant device new opened next head exponent history (fills ++ fill_fault count i base ∷ []) filled (Some count)
   fill_err count since file unhealed_fault_is count_is keeps moments elsewhere rose writes =
-      let more : List Fill = fills ++ empty_fault count ∷ [] in
-      let pending_now : pending_fault_of more ≡ Some count = pending_fault_of-append fills (empty_fault count ∷ []) ∙ ap (λ (o : Option ℕ). option_or o (Some count)) healed in
-      let none : unacknowledged_rows more ≡ None = hand-append fills (empty_fault count ∷ []) healed in
-      let once : IsFilledOnce now after = record { interval = i; base = base; set = set; right = right; none_since = since; after_is = refl } in record {
+      let more : List Fill = fills ++ fill_fault count i base ∷ [] in
+      let pending_now : pending_fault_of more ≡ Some count = pending_fault_of-append fills (fill_fault count i base ∷ []) ∙ ap (λ (o : Option ℕ). option_or o (Some count)) healed in
+      let held : unacknowledged_in more ≡ Some (additions.Fill i base) = hand-append fills (fill_fault count i base ∷ []) healed in
+      let once : IsFilledOnce now i base after = record { set = set; right = right; none_since = since; after_is = refl } in record {
         faults = record {
-          rising = Rising-append (above (device.fault_count opened)) (device.fault_count disk) (device.fault_count new) fills (empty_fault count ∷ []) (omega (arith, k.faults.later)) (omega (arith, rose)) k.faults.rising
+          rising = Rising-append (above (device.fault_count opened)) (device.fault_count disk) (device.fault_count new) fills (fill_fault count i base ∷ []) (omega (arith, k.faults.later)) (omega (arith, rose)) k.faults.rising
               (omega (arith, rose, count_is), omega (arith, count_is), tt);
           later = omega (arith, k.faults.later, rose);
           writes_later = omega (arith, k.faults.writes_later, writes);
@@ -158,14 +159,14 @@ module _ {D : Type 0} (device : Device D) (disk new opened : D) (journal next : 
         opening = k.opening;
         sound = k.sound;
         archives = one.kept_err entry_octets Applies IsPlainLog plain_lower device disk new opened journal next now after (entries.Fill i base (set_octets set))
-            (IsUnacknowledged now (unacknowledged_rows fills)) (IsUnacknowledged now (unacknowledged_rows more))
-            (IsSinceArchive before (archive head history) (rows_of_faults fills)) (IsSinceArchive before (archive head history) (rows_of_faults more))
-            (min (device.fault_count new) (2 ^ 64 - 1)) k.archives (fill_applies head history (fillings_in filled) i base set right fits again) file
+            (IsUnacknowledged now (unacknowledged_in fills)) (IsUnacknowledged now (unacknowledged_in more))
+            (IsSinceArchive before (archive head exponent history) (rows_of_faults fills)) (IsSinceArchive before (archive head exponent history) (rows_of_faults more))
+            (min (device.fault_count new) (2 ^ 64 - 1)) k.archives (fill_applies head exponent history (fillings_in filled) i base set right fits again) file
             (healthy (unhealed_fault journal) (pending_fault_of fills) k.journal_fault healed) unhealed_fault_is keeps moments elsewhere
-            (λ x f. subst (λ (l : List (List Item)). IsSinceArchive before (archive head history) l x) (sym (no_rows count)) f)
-            (found_whole before head history (fillings_in filled) (rows_of_faults more) k.begins k.sound)
-            (found_whole before head history (with_filling (fillings_in filled) i (fill_over base set)) (rows_of_faults more) k.begins after_sound)
-            (subst (λ (o : Option (List Item)). IsUnacknowledged now o after) (sym none) once);
+            (λ x f. subst (λ (l : List (List Item)). IsSinceArchive before (archive head exponent history) l x) (sym (no_rows count)) f)
+            (found_whole before head exponent history (fillings_in filled) (rows_of_faults more) k.begins k.sound)
+            (found_whole before head exponent history (with_filling (fillings_in filled) i (fill_over base set)) (rows_of_faults more) k.begins after_sound)
+            (subst (λ (o : Option Addition). IsUnacknowledged now o after) (sym held) once);
         pending_fault_is = sym pending_now;
         journal_fault = λ faults is. pending_now ∙ ap Some count_is ∙ sym unhealed_fault_is ∙ is;
         head_is = k.head_is;
@@ -174,14 +175,14 @@ module _ {D : Type 0} (device : Device D) (disk new opened : D) (journal next : 
 
 -- ---- while no failed write is pending
 
-module _ {D : Type 0} (device : Device D) (disk opened : D) (journal : Journal) (head : Head) (history : List Item) (fills : List Fill) (filled : FilledIntervals) (pending_fault : Option ℕ)
-    (k : StoreInvariant device disk opened journal head history fills filled pending_fault) (healed : pending_fault_of fills ≡ None) (transparent : IsTrue device.is_transparent) where
+module _ {D : Type 0} (device : Device D) (disk opened : D) (journal : Journal) (head : Head) (exponent : ℕ) (history : List Item) (fills : List Fill) (filled : PlacedFills) (pending_fault : Option ℕ)
+    (k : StoreInvariant device disk opened journal head exponent history fills filled pending_fault) (healed : pending_fault_of fills ≡ None) (transparent : IsTrue device.is_transparent) where
   -- each image of now has the fills
-  pub kept_now : (c : Image) → device.images disk c → StandsFilled c (filled_archive head history (fillings_in filled))
+  pub kept_now : (c : Image) → device.images disk c → StandsFilled c (filled_archive head exponent history (fillings_in filled))
   kept_now c left =
       let e = k.archives.log transparent in
       let none : unhealed_fault journal ≡ None = healthy (unhealed_fault journal) (pending_fault_of fills) k.journal_fault healed in
-      stands_filled c (filled_archive head history (fillings_in filled)) (record {
+      stands_filled c (filled_archive head exponent history (fillings_in filled)) (record {
         log = file_of journal;
         beginning = e.beginning;
         base = e.base;
@@ -192,5 +193,5 @@ module _ {D : Type 0} (device : Device D) (disk opened : D) (journal : Journal) 
       })
 
   -- a call that doesn't ask the disk leaves these alone
-  pub filled_now : (other : FilledArchive) → LeavesOnly device disk disk (λ c. StandsFilled c (filled_archive head history (fillings_in filled)) ⊎ StandsFilled c other)
+  pub filled_now : (other : FilledArchive) → LeavesOnly device disk disk (λ c. StandsFilled c (filled_archive head exponent history (fillings_in filled)) ⊎ StandsFilled c other)
   filled_now other = started device disk _ (λ c left. inl (kept_now c left))

@@ -5,6 +5,7 @@ pub mod Batching
 pub mod Calls
 pub mod CurrentSets
 pub mod Exact
+pub mod Exponents
 pub mod Fillable
 pub mod Going
 pub mod Healing

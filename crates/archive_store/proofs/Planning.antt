@@ -1,6 +1,6 @@
 -- Parts by interval: what they are over, and which rows they leave to extract.
 use Rattle.std.proofs.Common.{◌≡◌, ℤ, ◌≤ℤ◌, ◌<ℤ◌, ◌≤◌, List, [], ◌∷◌, ◌++◌, length, Bool, true, false, cond, refl, sym, ◌∙◌, ap, subst, arith}
-use Rattle.std.specs.Prelude.{filter, int_lt, ◌&&◌, IsSome}
+use Rattle.std.specs.Prelude.{ℕ, filter, int_lt, ◌&&◌, IsSome}
 use Rattle.std.specs.Arc.{arc_value}
 use Rattle.std.specs.List.{AllByRecursion}
 use Rattle.std.proofs.lemmas.Bool.{false_from_ne_true}
@@ -10,6 +10,7 @@ use Rattle.arch_types.specs.declared.row.Row.{Row}
 use Rattle.arch_types.specs.Table.{is_in_time_range, range_of, table_of}
 use Rattle.fill_tracker.specs.FillTracker.{AreMarksOf}
 use Rattle.history_items.specs.declared.fills.Fill.{Fill}
+use Rattle.history_items.specs.Fills.{base_in}
 use Rattle.history_items.specs.Items.{Item, rows_in}
 use Rattle.history_items.specs.Late.{is_late_in, last_in}
 use Rattle.history_items.proofs.Late.{late_by_last}
@@ -23,8 +24,9 @@ use Rattle.param_segments.specs.declared.plan.Part.{Part}
 use Rattle.param_segments.specs.declared.plan.Part.TheVariants.{Rows, Set}
 use Rattle.param_segments.specs.declared.plan.Plan.{Plan}
 use Rattle.param_segments.specs.Plans.{ArePartsOver, HasValuesOf, part_interval, rows_of_parts}
+use Rattle.store_fills.specs.LastFills.{fillings_in}
+use Rattle.store_fills.specs.Sound.{base_of_filling}
 use Rattle.archive_store.specs.Entries.{IsArchivedRow, IsSoundArchive}
-use Rattle.archive_store.specs.Inside.{HoldsFills}
 use Rattle.archive_store.specs.Plans.{IsPlan, IsPlanOver, IsPlanPart, IsRangeInterval, interval_of_part, is_late_of_range, late_rows_of_range, plan_intervals}
 use Rattle.archive_store.specs.StoreView.{StoreView, filled_of}
 use Rattle.archive_store.proofs.Archived.{all_filtered, all_more, range_archived}
@@ -32,14 +34,14 @@ use Rattle.archive_store.proofs.CurrentSets.{current_holds, marked_last}
 
 -- ---- the intervals that are asked
 
-pub all_asked : (marks : Marks) (fills : List Fill) (history : List Item) (low high : ℤ) (is : List Interval) → AreMarksOf 22 history fills marks → AllByRecursion (MeetsRange 22 low high) is
-    → AllByRecursion (λ i. has_rows marks i ≡ true) is → AllByRecursion (IsRangeInterval history low high) is
-all_asked marks fills history low high [] are meet marked = tt
-all_asked marks fills history low high (i ∷ is) are meet marked = ((meet.0, marked_last marks fills history i are marked.0), all_asked marks fills history low high is are meet.1 marked.1)
+pub all_asked : (exponent : ℕ) (marks : Marks) (fills : List Fill) (history : List Item) (low high : ℤ) (is : List Interval) → AreMarksOf exponent history fills marks → AllByRecursion (MeetsRange exponent low high) is
+    → AllByRecursion (λ i. has_rows marks i ≡ true) is → AllByRecursion (IsRangeInterval exponent history low high) is
+all_asked exponent marks fills history low high [] are meet marked = tt
+all_asked exponent marks fills history low high (i ∷ is) are meet marked = ((meet.0, marked_last exponent marks fills history i are marked.0), all_asked exponent marks fills history low high is are meet.1 marked.1)
 
-pub asked_have_rows : (history : List Item) (low high : ℤ) (is : List Interval) → AllByRecursion (IsRangeInterval history low high) is → AllByRecursion (λ i. IsSome (last_in 22 i history)) is
-asked_have_rows history low high [] all = tt
-asked_have_rows history low high (i ∷ is) all = (all.0.1, asked_have_rows history low high is all.1)
+pub asked_have_rows : (exponent : ℕ) (history : List Item) (low high : ℤ) (is : List Interval) → AllByRecursion (IsRangeInterval exponent history low high) is → AllByRecursion (λ i. IsSome (last_in exponent i history)) is
+asked_have_rows exponent history low high [] all = tt
+asked_have_rows exponent history low high (i ∷ is) all = (all.0.1, asked_have_rows exponent history low high is all.1)
 
 -- ---- a part more
 
@@ -69,26 +71,26 @@ module _ {D : Type 0} (store : StoreView D) where
   plan_archived archived [] all = tt
   plan_archived archived (Set interval set ∷ parts) all = plan_archived archived parts all.1
   plan_archived archived (Rows interval rows ∷ parts) all =
-      let here = range_archived store.head 0 (interval_start 22 interval) (interval_end 22 interval) (rows_in store.history) archived in
+      let here = range_archived store.head 0 (interval_start store.exponent interval) (interval_end store.exponent interval) (rows_in store.history) archived in
       all_more (IsArchivedRow store.head) rows (rows_of_parts parts) (subst (AllByRecursion (IsArchivedRow store.head)) (sym all.0.1) here) (plan_archived archived parts all.1)
 
   -- each part is over the rows of its interval, where the fills are sound
-  parts_over : HoldsFills store.head store.fills store.filled → IsSoundArchive (filled_of store) → (parts : List Part) → AllByRecursion (IsPlanPart store) parts
-      → ArePartsOver store.head.mdb parts (rows_in_turn 22 (plan_intervals parts) store.history)
-  parts_over holds sound [] all = refl
-  parts_over holds sound (Set interval set ∷ parts) all = (
-    rows_of_interval 22 interval store.history,
-    rows_in_turn 22 (plan_intervals parts) store.history,
+  parts_over : ((i : Interval) → base_in i store.fills ≡ base_of_filling (fillings_in store.filled) i) → IsSoundArchive (filled_of store) → (parts : List Part) → AllByRecursion (IsPlanPart store) parts
+      → ArePartsOver store.head.mdb parts (rows_in_turn store.exponent (plan_intervals parts) store.history)
+  parts_over bases sound [] all = refl
+  parts_over bases sound (Set interval set ∷ parts) all = (
+    rows_of_interval store.exponent interval store.history,
+    rows_in_turn store.exponent (plan_intervals parts) store.history,
     refl,
-    current_holds store.head store.history store.fills store.filled interval all.0.base (arc_value set) holds all.0.filled all.0.current sound,
-    parts_over holds sound parts all.1,
+    current_holds store.head store.exponent store.history store.fills store.filled interval all.0.base (arc_value set) bases all.0.filled all.0.current sound,
+    parts_over bases sound parts all.1,
   )
-  parts_over holds sound (Rows interval rows ∷ parts) all = (
-    rows_of_interval 22 interval store.history,
-    rows_in_turn 22 (plan_intervals parts) store.history,
+  parts_over bases sound (Rows interval rows ∷ parts) all = (
+    rows_of_interval store.exponent interval store.history,
+    rows_in_turn store.exponent (plan_intervals parts) store.history,
     refl,
     all.0.1,
-    parts_over holds sound parts all.1,
+    parts_over bases sound parts all.1,
   )
 
 -- ---- the rows of a range
@@ -102,23 +104,23 @@ none_in_range low high empty (row ∷ rows) = go (is_in_time_range low high row)
     go true within rest = absurd (let p = range_is low high row within in omega (arith, ints, p.0, p.1, empty))
     go false without rest = rest
 
-turns_in_range : (is : List Interval) (low high : ℤ) (history : List Item) → IntervalsRise is → (low <ℤ high → CoverRange 22 is low high history)
-    → filter (is_in_time_range low high) (rows_in_turn 22 is history) ≡ range_of 0 low high (rows_in history)
-turns_in_range is low high history rising cover = go (int_lt low high) refl
+turns_in_range : (exponent : ℕ) (is : List Interval) (low high : ℤ) (history : List Item) → IntervalsRise is → (low <ℤ high → CoverRange exponent is low high history)
+    → filter (is_in_time_range low high) (rows_in_turn exponent is history) ≡ range_of 0 low high (rows_in history)
+turns_in_range exponent is low high history rising cover = go (int_lt low high) refl
   where
-    go : (b : Bool) → int_lt low high ≡ b → filter (is_in_time_range low high) (rows_in_turn 22 is history) ≡ range_of 0 low high (rows_in history)
-    go true test = let less : low <ℤ high = grind (arith, ints, test) in ranges 22 is low high history rising (cover less)
+    go : (b : Bool) → int_lt low high ≡ b → filter (is_in_time_range low high) (rows_in_turn exponent is history) ≡ range_of 0 low high (rows_in history)
+    go true test = let less : low <ℤ high = grind (arith, ints, test) in ranges exponent is low high history rising (cover less)
     go false test =
         let empty : high ≤ℤ low = grind (arith, ints, test) in
-        none_in_range low high empty (rows_in_turn 22 is history) ∙ sym (none_in_range low high empty (table_of 0 (rows_in history)))
+        none_in_range low high empty (rows_in_turn exponent is history) ∙ sym (none_in_range low high empty (table_of 0 (rows_in history)))
 
 -- a plan is over the rows of its intervals, where the fills are sound
-pub planned_over : {D : Type 0} (store : StoreView D) (low high : ℤ) (plan : Plan) → HoldsFills store.head store.fills store.filled → IsSoundArchive (filled_of store) → IsPlan store low high plan
+pub planned_over : {D : Type 0} (store : StoreView D) (low high : ℤ) (plan : Plan) → ((i : Interval) → base_in i store.fills ≡ base_of_filling (fillings_in store.filled) i) → IsSoundArchive (filled_of store) → IsPlan store low high plan
     → IsPlanOver store.head store.history low high plan
-planned_over store low high plan holds sound planned = record {
-  rows = rows_in_turn 22 (plan_intervals plan.parts) store.history;
-  over = parts_over store holds sound plan.parts planned.each;
-  in_range = turns_in_range (plan_intervals plan.parts) low high store.history planned.rising planned.cover;
+planned_over store low high plan bases sound planned = record {
+  rows = rows_in_turn store.exponent (plan_intervals plan.parts) store.history;
+  over = parts_over store bases sound plan.parts planned.each;
+  in_range = turns_in_range store.exponent (plan_intervals plan.parts) low high store.history planned.rising planned.cover;
 }
 
 -- ---- the rows that are left to extract
@@ -139,38 +141,38 @@ pass_filtered test (i ∷ is) = either (test i) refl (pass_filtered test is)
     either true passes rest = (passes, rest)
     either false fails rest = rest
 
-meets_is : (low high : ℤ) (i : Interval) → MeetsRange 22 low high i → meets_range 22 low high i ≡ true
-meets_is low high i meets =
-    let begins : int_lt (interval_start 22 i) high ≡ true = less_is (interval_start 22 i) high meets.begins in
-    let ends : int_lt low (interval_end 22 i) ≡ true = less_is low (interval_end 22 i) meets.ends in
-    ap (λ (b : Bool). b && int_lt low (interval_end 22 i)) begins ∙ ends
+meets_is : (exponent : ℕ) (low high : ℤ) (i : Interval) → MeetsRange exponent low high i → meets_range exponent low high i ≡ true
+meets_is exponent low high i meets =
+    let begins : int_lt (interval_start exponent i) high ≡ true = less_is (interval_start exponent i) high meets.begins in
+    let ends : int_lt low (interval_end exponent i) ≡ true = less_is low (interval_end exponent i) meets.ends in
+    ap (λ (b : Bool). b && int_lt low (interval_end exponent i)) begins ∙ ends
   where
     less_is : (a b : ℤ) → a <ℤ b → int_lt a b ≡ true
     less_is a b less = grind (arith, ints, less)
 
 module _ {D : Type 0} (store : StoreView D) (low high : ℤ) where
   abbrev test : Interval → Bool
-  test = is_late_of_range store.history store.fills low high
+  test = is_late_of_range store.exponent store.history store.fills low high
 
   -- the rows that parts leave are those of their intervals that are late
-  rows_left : (parts : List Part) → AllByRecursion (IsPlanPart store) parts → AllByRecursion (IsRangeInterval store.history low high) (plan_intervals parts)
-      → rows_of_parts parts ≡ rows_in_turn 22 (filter test (plan_intervals parts)) store.history
+  rows_left : (parts : List Part) → AllByRecursion (IsPlanPart store) parts → AllByRecursion (IsRangeInterval store.exponent store.history low high) (plan_intervals parts)
+      → rows_of_parts parts ≡ rows_in_turn store.exponent (filter test (plan_intervals parts)) store.history
   rows_left [] all asked = refl
   rows_left (Set interval set ∷ parts) all asked =
       let js = filter test (plan_intervals parts) in
-      let punctual : is_late_in 22 interval store.history store.fills ≡ false = false_from_ne_true (is_late_in 22 interval store.history store.fills) (λ late. all.0.current ((late_by_last 22 interval store.history store.fills).0 late)) in
-      let fails : test interval ≡ false = ap (λ (b : Bool). b && meets_range 22 low high interval) punctual in
-      rows_left parts all.1 asked.1 ∙ ap (λ (b : Bool). rows_in_turn 22 (cond b (interval ∷ js) js) store.history) (sym fails)
+      let punctual : is_late_in store.exponent interval store.history store.fills ≡ false = false_from_ne_true (is_late_in store.exponent interval store.history store.fills) (λ late. all.0.current ((late_by_last store.exponent interval store.history store.fills).0 late)) in
+      let fails : test interval ≡ false = ap (λ (b : Bool). b && meets_range store.exponent low high interval) punctual in
+      rows_left parts all.1 asked.1 ∙ ap (λ (b : Bool). rows_in_turn store.exponent (cond b (interval ∷ js) js) store.history) (sym fails)
   rows_left (Rows interval rows ∷ parts) all asked =
       let js = filter test (plan_intervals parts) in
-      let late : is_late_in 22 interval store.history store.fills ≡ true = (late_by_last 22 interval store.history store.fills).1 all.0.0 in
-      let passes : test interval ≡ true = ap (λ (b : Bool). b && meets_range 22 low high interval) late ∙ meets_is low high interval asked.0.0 in
-      ap (λ (l : List Row). l ++ rows_of_parts parts) all.0.1 ∙ ap (λ (l : List Row). rows_of_interval 22 interval store.history ++ l) (rows_left parts all.1 asked.1)
-      ∙ ap (λ (b : Bool). rows_in_turn 22 (cond b (interval ∷ js) js) store.history) (sym passes)
+      let late : is_late_in store.exponent interval store.history store.fills ≡ true = (late_by_last store.exponent interval store.history store.fills).1 all.0.0 in
+      let passes : test interval ≡ true = ap (λ (b : Bool). b && meets_range store.exponent low high interval) late ∙ meets_is store.exponent low high interval asked.0.0 in
+      ap (λ (l : List Row). l ++ rows_of_parts parts) all.0.1 ∙ ap (λ (l : List Row). rows_of_interval store.exponent interval store.history ++ l) (rows_left parts all.1 asked.1)
+      ∙ ap (λ (b : Bool). rows_in_turn store.exponent (cond b (interval ∷ js) js) store.history) (sym passes)
 
-  pub few_left : (plan : Plan) → IsPlan store low high plan → length (rows_of_parts plan.parts) ≤ length (late_rows_of_range store.history store.fills low high)
+  pub few_left : (plan : Plan) → IsPlan store low high plan → length (rows_of_parts plan.parts) ≤ length (late_rows_of_range store.exponent store.history store.fills low high)
   few_left plan planned =
       let is = plan_intervals plan.parts in
       let left = ap length (rows_left plan.parts planned.each planned.meets) in
-      let few = few_in_turn 22 test (filter test is) store.history (rise_filtered test is planned.rising) (pass_filtered test is) in
+      let few = few_in_turn store.exponent test (filter test is) store.history (rise_filtered test is planned.rising) (pass_filtered test is) in
       omega (arith, left, few)

@@ -1,14 +1,12 @@
 -- What a store gives as a source, and that the partitions of a replay hold its rows.
-use Rattle.std.proofs.Common.{◌≡◌, ℕ, ◌<◌, ◌≤◌, ◌+◌, ◌↔◌, List, [], ◌∷◌, ◌++◌, length, get_or, take, drop, Bool, true, false, Option, Some, None, nat_lt, refl, sym, ap, ◌∙◌, subst, arith, append-nil, append_assoc, drop-cons, add-one}
-use Rattle.std.specs.Prelude.{filter, Contains, position}
+use Rattle.std.proofs.Common.{◌≡◌, ℕ, ◌<◌, ◌≤◌, ◌+◌, ◌↔◌, List, [], ◌∷◌, ◌++◌, length, get_or, take, drop, Option, Some, None, refl, sym, ap, ◌∙◌, subst, append-nil, append_assoc, drop-cons, add-one}
+use Rattle.std.specs.Prelude.{filter, Contains}
 use Rattle.std.specs.List.{AllByRecursion, filter_map, cons_option}
 use mathlib.Core.List.{IsPrefix}
 use Rattle.std.proofs.Math.ListN.{get_or-map}
 use Rattle.std.proofs.Math.Seq.{take-append_seam}
-use Rattle.std.proofs.lemmas.Bool.Decides.{nat_tests}
 use Rattle.std.proofs.lemmas.List.{length-map, take-append-le}
 use Rattle.std.proofs.lemmas.List.Elements.{recursion_from_All, All-from_recursion}
-use Rattle.std.proofs.lemmas.List.Sums.{position_or_len_is}
 use Rattle.arch_types.specs.declared.row.Row.{Row}
 use Rattle.arch_types.specs.History.{IsHistory, is_in_table}
 use Rattle.partitions.specs.Rows.{partitions_of}
@@ -18,7 +16,7 @@ use Rattle.partitions.specs.declared.partition.Partition.{Partition}
 use Rattle.partitions.specs.Bounds.{MayHold}
 use Rattle.replay_merge.specs.Cursor.{CursorView, rest_of}
 use Rattle.replay_merge.specs.Replay.{rows_asked, HoldsEachRow}
-use Rattle.replay_merge.specs.Source.{IsKeyedRow, IsRowSourceHistory}
+use Rattle.replay_merge.specs.RowSource.{IsKeyedRow, IsRowSourceHistory}
 use Rattle.replay_merge.proofs.Bounds.{own_partition, pruned_is_enough}
 use Rattle.replay_merge.proofs.Opening.{rest_at_front}
 use Rattle.replay_merge.proofs.Sources.{each_tested}
@@ -70,15 +68,15 @@ each_named head table history bounds parts all exactly =
     let rows = filter (is_in_table table) history in
     let archived : AllByRecursion (IsArchivedRow head) rows = each_tested (IsArchivedRow head) (IsArchivedRow head) (is_in_table table) (λ row is e. is) history all in
     recursion_from_All (IsNamedPart head) parts (λ k d h.
-    let part = get_or parts k d in
-    let noted = ((exactly part).0 (k, h, default_free parts k part d h)).0 in
-    let row : Row = get_or rows noted.0 (no_row part) in
+    let partition = get_or parts k d in
+    let noted = ((exactly partition).0 (k, h, default_free parts k partition d h)).0 in
+    let row : Row = get_or rows noted.0 (no_row partition) in
     let within : noted.0 < length rows = rw (length-map rows own_partition) at noted.1 in
-    let its : own_partition row ≡ part = sym (get_or-map own_partition rows noted.0 (no_row part)) ∙ default_free (partitions_of rows) noted.0 (own_partition (no_row part)) part noted.1 ∙ noted.2 in
-    subst (IsNamedPart head) its (All-from_recursion (IsArchivedRow head) rows archived noted.0 (no_row part) within).placed.pname)
+    let its : own_partition row ≡ partition = sym (get_or-map own_partition rows noted.0 (no_row partition)) ∙ default_free (partitions_of rows) noted.0 (own_partition (no_row partition)) partition noted.1 ∙ noted.2 in
+    subst (IsNamedPart head) its (All-from_recursion (IsArchivedRow head) rows archived noted.0 (no_row partition) within).placed.pname)
   where
     no_row : Partition → Row
-    no_row part = record { key = record { time = part.day; seq = 0 }; rectime = part.day; packet = []; link = 0; pname = 0; table = 0 }
+    no_row partition = record { key = record { time = partition.day; seq = 0 }; rectime = partition.day; packet = []; link = 0; pname = 0; table = 0 }
 
 -- ---- names that are looked up in a row
 

@@ -5,18 +5,17 @@ use Rattle.std.specs.Option.{is_some, option_or}
 use Rattle.arch_disk.specs.Disk.{Device}
 use Rattle.intervals.specs.declared.interval.Interval.{Interval}
 use Rattle.history_items.specs.declared.fills.Addition.{Addition}
-use Rattle.history_items.specs.declared.fills.Addition.TheVariants.{Nothing, Rows}
 use Rattle.history_items.specs.declared.fills.Fill.{Fill}
 use Rattle.history_items.specs.declared.fills.Fill.TheVariants.{Begun, Done, Freed, Fault}
 use Rattle.history_items.specs.Items.{Item}
-use Rattle.history_items.specs.Fills.{rows_of_faults, pending_fault_of, unacknowledged_rows, in_flight, above, Rising}
+use Rattle.history_items.specs.Fills.{rows_of_faults, pending_fault_of, unacknowledged_in, in_flight, above, Rising}
 use Rattle.history_items.specs.FillList.{flights_of}
 use Rattle.history_items.proofs.FillLists.{rows_of_faults-append, pending_fault_of-append}
 use Rattle.interval_fills.specs.Steps.{freed, all_freed}
 use Rattle.disk_journal.specs.declared.journal.Journal.{Journal}
 use Rattle.field_codec.specs.Spelling.{entry_octets}
 use Rattle.archive_store.specs.declared.head.Head.{Head}
-use Rattle.store_fills.specs.FilledSets.{FilledIntervals, fillings_in}
+use Rattle.store_fills.specs.LastFills.{PlacedFills, fillings_in}
 use Rattle.archive_store.specs.Entries.{FilledArchive, archive, filled_archive, Applies}
 use Rattle.archive_store.specs.Images.{ArchiveInvariant, IsPlainLog}
 use Rattle.archive_store.specs.Inside.{StoreInvariant}
@@ -27,7 +26,7 @@ use Rattle.archive_store.specs.StoreView.{StoreView}
 -- two fill lists tell the same of faults
 pub record TellsSameFaults (old new : List Fill) : Type 0 where
   pub rows : rows_of_faults new ≡ rows_of_faults old
-  pub unacknowledged : unacknowledged_rows new ≡ unacknowledged_rows old
+  pub unacknowledged : unacknowledged_in new ≡ unacknowledged_in old
   pub pending_fault : pending_fault_of new ≡ pending_fault_of old
   pub rising : (low high : ℕ) → Rising low high old → Rising low high new
 
@@ -66,7 +65,7 @@ or_none : {A : Type 0} (o : Option A) → option_or o None ≡ o
 or_none None = refl
 or_none (Some a) = refl
 
-same_unacknowledged : (fills : List Fill) (item : Fill) → IsNoFault item → unacknowledged_rows (fills ++ item ∷ []) ≡ unacknowledged_rows fills
+same_unacknowledged : (fills : List Fill) (item : Fill) → IsNoFault item → unacknowledged_in (fills ++ item ∷ []) ≡ unacknowledged_in fills
 same_unacknowledged [] (Begun i b) none = refl
 same_unacknowledged [] (Done i b) none = refl
 same_unacknowledged [] (Freed i) none = refl
@@ -74,11 +73,7 @@ same_unacknowledged [] (Fault count wrote unacknowledged) none = absurd none
 same_unacknowledged (Begun i b ∷ fills) item none = same_unacknowledged fills item none
 same_unacknowledged (Done i b ∷ fills) item none = same_unacknowledged fills item none
 same_unacknowledged (Freed i ∷ fills) item none = same_unacknowledged fills item none
-same_unacknowledged (Fault count true unacknowledged ∷ fills) item none = first unacknowledged
-  where
-    first : (addition : Addition) → unacknowledged_rows (Fault count true addition ∷ fills ++ item ∷ []) ≡ unacknowledged_rows (Fault count true addition ∷ fills)
-    first Nothing = refl
-    first (Rows rows) = refl
+same_unacknowledged (Fault count true unacknowledged ∷ fills) item none = refl
 same_unacknowledged (Fault count false unacknowledged ∷ fills) item none = same_unacknowledged fills item none
 
 still_rising : (fills : List Fill) (item : Fill) (low high : ℕ) → IsNoFault item → Rising low high fills → Rising low high (fills ++ item ∷ [])
@@ -121,12 +116,12 @@ with_fills store fills = record store { fills = fills }
 
 module _ {D : Type 0} (device : Device D) where
   -- a store over a fill list that tells the same of faults
-  pub same_faults_kept : (disk opened : D) (journal : Journal) (head : Head) (history : List Item) (fills new : List Fill) (filled : FilledIntervals) (pending_fault : Option ℕ)
-      → StoreInvariant device disk opened journal head history fills filled pending_fault → TellsSameFaults fills new
-      → StoreInvariant device disk opened journal head history new filled pending_fault
-  same_faults_kept disk opened journal head history fills new filled pending_fault k same =
-      let now : FilledArchive = filled_archive head history (fillings_in filled) in
-      let before : FilledArchive = filled_archive head k.before k.fillings in record {
+  pub same_faults_kept : (disk opened : D) (journal : Journal) (head : Head) (exponent : ℕ) (history : List Item) (fills new : List Fill) (filled : PlacedFills) (pending_fault : Option ℕ)
+      → StoreInvariant device disk opened journal head exponent history fills filled pending_fault → TellsSameFaults fills new
+      → StoreInvariant device disk opened journal head exponent history new filled pending_fault
+  same_faults_kept disk opened journal head exponent history fills new filled pending_fault k same =
+      let now : FilledArchive = filled_archive head exponent history (fillings_in filled) in
+      let before : FilledArchive = filled_archive head exponent k.before k.fillings in record {
         faults = record {
           rising = same.rising (above (device.fault_count opened)) (device.fault_count disk) k.faults.rising;
           later = k.faults.later;
@@ -138,8 +133,8 @@ module _ {D : Type 0} (device : Device D) where
         begins = k.begins;
         opening = k.opening;
         sound = k.sound;
-        archives = subst (λ (o : Option (List Item)). ArchiveInvariant entry_octets Applies IsPlainLog device disk opened journal now (IsUnacknowledged now o) (IsSinceArchive before (archive head history) (rows_of_faults new))) (sym same.unacknowledged)
-            (subst (λ (l : List (List Item)). ArchiveInvariant entry_octets Applies IsPlainLog device disk opened journal now (IsUnacknowledged now (unacknowledged_rows fills)) (IsSinceArchive before (archive head history) l)) (sym same.rows) k.archives);
+        archives = subst (λ (o : Option Addition). ArchiveInvariant entry_octets Applies IsPlainLog device disk opened journal now (IsUnacknowledged now o) (IsSinceArchive before (archive head exponent history) (rows_of_faults new))) (sym same.unacknowledged)
+            (subst (λ (l : List (List Item)). ArchiveInvariant entry_octets Applies IsPlainLog device disk opened journal now (IsUnacknowledged now (unacknowledged_in fills)) (IsSinceArchive before (archive head exponent history) l)) (sym same.rows) k.archives);
         pending_fault_is = k.pending_fault_is ∙ sym same.pending_fault;
         journal_fault = λ faults is. same.pending_fault ∙ k.journal_fault faults is;
         head_is = k.head_is;

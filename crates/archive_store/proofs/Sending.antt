@@ -16,8 +16,8 @@ use Rattle.mdb_model.specs.contracts.mdb.Mdb as Mdb
 use Rattle.mdb_items.specs.contracts.name.MdbName as MdbName
 use Rattle.mdb_items.specs.contracts.parameter.Parameter as Parameter
 use Rattle.param_segments.specs.contracts.set.SegSet as SegSet
-use Rattle.store_fills.specs.contracts.sets.FilledSets as FilledSets
-use Rattle.store_fills.specs.contracts.sets.FilledSlot as FilledSlot
+use Rattle.store_fills.specs.contracts.last_fills.LastFills as FilledSets
+use Rattle.store_fills.specs.contracts.last_fills.LastFill as FilledSlot
 
 -- ---- the mission database, which plans share
 name_send : IsSend MdbName.the_row

@@ -1,6 +1,6 @@
 -- The rows of an interval, as a set is built of them.
 use Rattle.std.proofs.Common.{◌≡◌, List, [], ◌∷◌, map, Bool, true, false, cond, refl, sym, subst}
-use Rattle.std.specs.Prelude.{filter}
+use Rattle.std.specs.Prelude.{ℕ, filter}
 use Rattle.std.specs.List.{AllByRecursion}
 use Rattle.std.specs.List.Sorted.{IsStrictlySortedBy}
 use Rattle.std.specs.declared.cmp.Ordering.TheVariants.{Less}
@@ -35,19 +35,19 @@ keys_rise (row ∷ rows) up = (keys_above row.key rows up.0, keys_rise rows up.1
 
 -- ---- rows of an interval
 
-module _ (interval : Interval) where
+module _ (exponent : ℕ) (interval : Interval) where
   abbrev in_times : Row → Bool
-  in_times = is_in_time_range (interval_start 22 interval) (interval_end 22 interval)
+  in_times = is_in_time_range (interval_start exponent interval) (interval_end exponent interval)
 
   abbrev AreInside : List Row → Type 0
-  AreInside rows = AllByRecursion (λ row. interval_of 22 row.key.time ≡ interval.0) rows
+  AreInside rows = AllByRecursion (λ row. interval_of exponent row.key.time ≡ interval.0) rows
 
   each_inside : (rows : List Row) → AreInside (filter in_times rows)
   each_inside [] = tt
   each_inside (row ∷ rows) = go (in_times row) refl (each_inside rows)
     where
       go : (b : Bool) → in_times row ≡ b → AreInside (filter in_times rows) → AreInside (cond b (row ∷ filter in_times rows) (filter in_times rows))
-      go true passes later = (range_in 22 interval row passes, later)
+      go true passes later = (range_in exponent interval row passes, later)
       go false passes later = later
 
   rows_rise : (rows : List Row) → IsHistory rows → IsStrictlySortedBy (λ (a b : Row). key_cmp a.key b.key) (filter in_times (table_of 0 rows))
@@ -57,8 +57,8 @@ module _ (interval : Interval) where
       (λ z. one_after in_times z table (one_in_table 0 z rows once))
 
 -- those of a history
-pub task_rows_in_order : (history : List Item) (interval : Interval) (rows : List Row) → rows ≡ rows_of_interval 22 interval history → IsHistory (rows_in history) → IsTaskRows 22 interval rows
-task_rows_in_order history interval rows is once = subst (IsTaskRows 22 interval) (sym is) (record {
-  rising = keys_rise (rows_of_interval 22 interval history) (rows_rise interval (rows_in history) once);
-  inside = each_inside interval (table_of 0 (rows_in history));
+pub task_rows_in_order : (exponent : ℕ) (history : List Item) (interval : Interval) (rows : List Row) → rows ≡ rows_of_interval exponent interval history → IsHistory (rows_in history) → IsTaskRows exponent interval rows
+task_rows_in_order exponent history interval rows is once = subst (IsTaskRows exponent interval) (sym is) (record {
+  rising = keys_rise (rows_of_interval exponent interval history) (rows_rise exponent interval (rows_in history) once);
+  inside = each_inside exponent interval (table_of 0 (rows_in history));
 })

@@ -47,8 +47,8 @@ all_stands P (x ∷ items) zero item all there = let same : x ≡ item = cc (the
 all_stands P (x ∷ items) (suc n) item all there = all_stands P items n item all.1 there
 
 -- an interval in which a row of an archive stands
-pub stands_in_clock : (head : Head) (history : List Item) (interval : Interval) (position : ℕ) → AllByRecursion (IsArchivedRow head) history → StandsIn 22 interval position history → HasClockTime 22 interval
-stands_in_clock head history interval position all stands = (
+pub stands_in_clock : (head : Head) (exponent : ℕ) (history : List Item) (interval : Interval) (position : ℕ) → AllByRecursion (IsArchivedRow head) history → StandsIn exponent interval position history → HasClockTime exponent interval
+stands_in_clock head exponent history interval position all stands = (
   stands.row.key.time,
   archived_time head stands.row (all_stands (IsArchivedRow head) history position stands.row all stands.there),
   stands.time,

@@ -5,7 +5,7 @@ use Rattle.arch_types.specs.declared.row.Row.{Row}
 use Rattle.arch_types.specs.Packet.{IsPacket, is_idle}
 use Rattle.arch_types.specs.GenerationTime.{key_of}
 use Rattle.text_forms.specs.ClockTime.{IsClockTime}
-use Rattle.refusals.specs.declared.refusal.Which.TheVariants.{Links}
+use Rattle.refusals.specs.declared.refusal.Which.TheVariants.{Links, Tables}
 use Rattle.refusals.specs.Limits.{limit_of}
 use Rattle.archive_store.specs.declared.head.Head.{Head}
 use Rattle.archive_store.specs.declared.batch.Arrival.{Arrival}
@@ -23,8 +23,8 @@ arrival_rows arrival = map (in_table arrival.row) arrival.tables
 abbrev pub batch_rows : Batch → List Row
 batch_rows batch = flat_map arrival_rows batch.arrivals
 
--- the row of a packet that isn't idle, received then by a link from 1 to the limit of links, with a packet name and at most 16 tables
--- that the head has
+-- the row of a packet that isn't idle, received then by a link from 1 to the limit of links, with a packet name and tables
+-- that the head has, not too many
 pub record IsArrival (head : Head) (rectime : ℤ) (arrival : Arrival) : Type 0 where
   pub link_low : 1 ≤ arrival.row.link
   pub link_high : arrival.row.link ≤ limit_of Links
@@ -33,7 +33,7 @@ pub record IsArrival (head : Head) (rectime : ℤ) (arrival : Arrival) : Type 0 
   pub received : arrival.row.rectime ≡ rectime
   pub key : arrival.row.key ≡ key_of arrival.row.packet rectime
   pub pname : arrival.row.pname < length head.mdb.containers
-  pub few_tables : length arrival.tables ≤ 16
+  pub few_tables : length arrival.tables ≤ limit_of Tables
   pub tables : AllByRecursion (λ table. table < length head.tables) arrival.tables
 
 -- at most 64 arrivals, received at a time in the clock's range

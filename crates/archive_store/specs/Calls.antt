@@ -1,5 +1,5 @@
 -- What the calls of a store answer, and what each answer leaves of the store and of its disk.
-use Rattle.std.specs.Prelude.{◌≡◌, ◌≢◌, ◌≤◌, ◌⊎◌, ℕ, ◌+◌, ◌++◌, List, [], length, IsTrue, None, Some, Result, Ok, Err, IsErrAnd, MatchResult}
+use Rattle.std.specs.Prelude.{◌≡◌, ◌≢◌, ◌≤◌, ◌⊎◌, ℕ, ◌+◌, ◌++◌, List, [], length, map, true, IsTrue, None, Some, Result, Ok, Err, IsErrAnd, MatchResult}
 use Rattle.std.specs.List.{AllByRecursion}
 use Rattle.arch_disk.specs.Image.{Image}
 use Rattle.arch_disk.specs.Disk.{Device, LeavesOnly, NoWriteFailed, raised}
@@ -10,17 +10,19 @@ use Rattle.refusals.specs.declared.refusal.Which.{Which}
 use Rattle.arch_types.specs.declared.row.Row.{Row}
 use Rattle.refusals.specs.Limits.{limit_of}
 use Rattle.history_items.specs.declared.fills.Addition.TheVariants.{Rows}
-use Rattle.history_items.specs.Fills.{pending_fault_of, reopened, unacknowledged_rows}
+use Rattle.history_items.specs.Fills.{pending_fault_of, reopened, unacknowledged_in}
 use Rattle.store_fills.specs.Faults.{IsDone}
 use Rattle.history_items.specs.Items.{after_rows, items_of}
 use Rattle.history_items.specs.Outcomes.{outcomes_of, fresh_of}
 use Rattle.archive_store.specs.Limits.{IsLimit, IsBelowLimits}
+use Rattle.field_codec.specs.declared.entry.Entry.{Entry}
+use Rattle.field_codec.specs.Spelling.{entry_octets, format_1_exponent}
 use Rattle.disk_journal.specs.Calls.{BeginsOpen, IsJournalCreateFailed, IsJournalOpenFailed}
 use Rattle.disk_journal.specs.Format.{HasRecords, HoldsNone}
-use Rattle.store_fills.specs.FilledSets.{fillings_in}
+use Rattle.store_fills.specs.LastFills.{fillings_in}
 use Rattle.store_fills.specs.Sound.{no_fillings}
 use Rattle.archive_store.specs.declared.head.Head.{Head}
-use Rattle.archive_store.specs.Entries.{Archive, FilledArchive, archive, filled_archive}
+use Rattle.archive_store.specs.Entries.{Archive, FilledArchive, archive, dones_of, filled_archive}
 use Rattle.archive_store.specs.Stands.{IsSoundImage, StandsFilled, StandsFor, IsArchiveDamagedAt}
 use Rattle.archive_store.specs.StoreView.{StoreView, AddsFault, IsKeptWithFills, IsNow, archive_of, filled_of}
 
@@ -28,7 +30,8 @@ use Rattle.archive_store.specs.StoreView.{StoreView, AddsFault, IsKeptWithFills,
 
 -- what a store stands for once rows came to it, with its fills
 abbrev pub archive_with : {D : Type 0} → StoreView D → List Row → FilledArchive
-archive_with store rows = filled_archive store.head (after_rows store.history rows) (fillings_in store.filled)
+archive_with store rows =
+    filled_archive store.head store.exponent (after_rows store.history rows) (fillings_in store.filled)
 
 -- Where the disk is transparent, power lost at any moment of a call leaves one archive or the other, with its fills.
 abbrev pub CrashLeavesEither : {D : Type 0} → Device D → D → D → FilledArchive → FilledArchive → Type 0
@@ -40,11 +43,12 @@ CrashLeavesEither device before after old new =
 abbrev pub CrashLeavesNow : {D : Type 0} → Device D → StoreView D → D → Type 0
 CrashLeavesNow device store after =
     IsTrue device.is_transparent →
-    LeavesOnly device store.disk after (IsNow (filled_of store) (unacknowledged_rows store.fills))
+    LeavesOnly device store.disk after (IsNow (filled_of store) (unacknowledged_in store.fills))
 
 -- an image of before, or one that holds no archive, or one of the head alone
 abbrev pub IsCreateImage : (Image → Type 0) → Head → Image → Type 0
-IsCreateImage before head image = before image ⊎ (HoldsNone (image 0) ⊎ StandsFor image (archive head []))
+IsCreateImage before head image =
+    before image ⊎ (HoldsNone (image 0) ⊎ StandsFor image (archive head format_1_exponent []))
 
 -- Where a disk held no archive, power lost at any moment leaves it without one or with the head alone, or what it could
 -- have left before.
@@ -60,7 +64,7 @@ CrashLeavesHead device before after head =
 pub record AreIngested {D : Type 0} (device : Device D) (old new : StoreView D) (rows : List Row)
     (outcomes : List Inserted) : Type 0 where
   pub healed : pending_fault_of old.fills ≡ None
-  pub below : IsBelowLimits 22 old.records old.history rows
+  pub below : IsBelowLimits old.exponent old.records old.history rows
   pub outcomes_are : outcomes ≡ outcomes_of old.history rows
   pub history : new.history ≡ after_rows old.history rows
   pub fills : new.fills ≡ old.fills
@@ -74,14 +78,14 @@ pub record PassesLimit {D : Type 0} (old : StoreView D) (rows : List Row) (which
   pub healed : pending_fault_of old.fills ≡ None
   pub some_new : fresh_of old.history rows ≢ []
   pub number_is : number ≡ limit_of which
-  pub first : IsLimit 22 which old.records (after_rows old.history rows)
+  pub first : IsLimit old.exponent which old.records (after_rows old.history rows)
 
 -- the disk failed at the record of the new rows: one fault more holds these, and all else but the disk is as before
 pub record IsIngestFailed {D : Type 0} (device : Device D) (old new : StoreView D) (rows : List Row) : Type 0 where
   pub healed : pending_fault_of old.fills ≡ None
   pub some_new : fresh_of old.history rows ≢ []
-  pub below : IsBelowLimits 22 old.records old.history rows
-  pub fault : AddsFault device old new (Rows (fresh_of old.history rows))
+  pub below : IsBelowLimits old.exponent old.records old.history rows
+  pub fault : AddsFault device old new true (Rows (fresh_of old.history rows))
 
 -- why a batch is refused, in the order in which it looks, and what that leaves
 abbrev pub IsIngestRefusal : {D : Type 0} → Device D → StoreView D → StoreView D → List Row → Refusal → Type 0
@@ -101,7 +105,7 @@ pub record AreAppended {D : Type 0} (device : Device D) (old new : StoreView D) 
 
 -- why rows were not appended, and what that leaves
 abbrev pub IsRowsRefusal : {D : Type 0} → Device D → StoreView D → StoreView D → List Row → Refusal → Type 0
-IsRowsRefusal device old new rows DiskFault = AddsFault device old new (Rows rows)
+IsRowsRefusal device old new rows DiskFault = AddsFault device old new true (Rows rows)
 IsRowsRefusal device old new rows OutOfMemory = new ≡ old
 IsRowsRefusal device old new rows _ = ⊥
 
@@ -140,13 +144,16 @@ abbrev pub opened_disk_of : {D : Type 0} → Result (StoreView D) (D × Refusal)
 opened_disk_of (Ok store) = store.opened
 opened_disk_of (Err refused) = refused.0
 
--- The store is what the disk stands for, of as many records as file 0 has, without a fault or a flight; and power lost at
--- any moment from the opening's syncs on leaves that, with its fills.
+-- The store is what the disk stands for, of as many records as file 0 has, of the exponent of format 1, without a fault
+-- or a flight, and with each fill that was read, in their order; and power lost at any moment from the opening's syncs on leaves that, with its fills.
 pub record IsStoreOpened {D : Type 0} (device : Device D) (disk : D) (store : StoreView D) : Type 0 where
   pub stands : IsTrue device.is_transparent → StandsFor (device.reads disk) (archive_of store)
   pub records : IsTrue device.is_transparent →
       (bodies : List (List ℕ)) × HasRecords (device.reads disk 0) bodies × (store.records ≡ length bodies)
+  pub exponent : store.exponent ≡ format_1_exponent
   pub fills : AllByRecursion IsDone store.fills
+  pub dones : IsTrue device.is_transparent →
+      (es : List Entry) × HasRecords (device.reads disk 0) (map entry_octets es) × (store.fills ≡ dones_of es)
   pub filled : IsTrue device.is_transparent → StandsFilled (device.reads disk) (filled_of store)
   pub opening : device.reads store.opened ≡ device.reads disk
   pub since : IsTrue device.is_transparent →
@@ -182,7 +189,7 @@ pub record IsDecidedByImage {D : Type 0} (image : Image) (result : Result (Store
   pub stands : (archive : Archive) → StandsFor image archive →
       MatchResult result (λ s. archive_of s ≡ archive) (λ e. IsFailure e.1)
 
--- the disk held no archive, and holds one of this head without rows
+-- the disk held no archive, and holds one of this head and of format 1 without rows
 pub record IsStoreCreated {D : Type 0} (device : Device D) (disk : D) (head : Head) (store : StoreView D) : Type 0 where
   pub none : IsTrue device.is_transparent → HoldsNone (device.reads disk 0)
   pub history : store.history ≡ []
@@ -190,6 +197,7 @@ pub record IsStoreCreated {D : Type 0} (device : Device D) (disk : D) (head : He
   pub filled : fillings_in store.filled ≡ no_fillings
   pub sound : IsTrue device.is_transparent → IsSoundImage (device.reads store.opened)
   pub head_is : store.head ≡ head
+  pub exponent : store.exponent ≡ format_1_exponent
   pub records : store.records ≡ 1
   pub opened : store.opened ≡ store.disk
   pub no_failed_write : NoWriteFailed device disk store.disk

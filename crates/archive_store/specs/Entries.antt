@@ -1,45 +1,50 @@
 -- What the entries of a journal make, one after the other.
-use Rattle.std.specs.Prelude.{◌≡◌, ◌<◌, ℕ, List, [], ◌++◌, length, Option, Some, None}
+use Rattle.std.specs.Prelude.{◌≡◌, ◌<◌, ℕ, List, [], ◌∷◌, ◌++◌, length, Option, Some, None}
 use Rattle.std.specs.List.{AllByRecursion}
 use Rattle.intervals.specs.declared.interval.Interval.{Interval}
 use Rattle.arch_types.specs.declared.row.Row.{Row}
 use Rattle.octet_fields.specs.Exact.{IsOctets}
+use Rattle.history_items.specs.declared.fills.Fill.{Fill}
+use Rattle.history_items.specs.declared.fills.Fill.TheVariants.{Done}
 use Rattle.history_items.specs.Items.{Item, after_rows, items_of, rows_in}
 use Rattle.interval_fills.specs.Steps.{IsStoredBase}
 use Rattle.param_segments.specs.Extracted.{IsSetOf}
 use Rattle.param_segments.specs.Octets.{rows_in_octets, set_octets}
 use Rattle.param_segments.specs.Rows.{SetRow}
 use Rattle.store_fills.specs.Filled.{HoldsRows}
-use Rattle.store_fills.specs.FilledSets.{fill_over}
+use Rattle.store_fills.specs.LastFills.{fill_over}
 use Rattle.store_fills.specs.Sound.{AreSound, Fillings, no_fillings, with_filling}
 use Rattle.field_codec.specs.declared.entry.Entry.{Entry}
 use Rattle.field_codec.specs.declared.entry.Entry.TheVariants as entries
 use Rattle.field_codec.specs.Entries.{IsArchiveEntry, IsStored}
+use Rattle.field_codec.specs.Spelling.{format_1_exponent}
 use Rattle.archive_store.specs.declared.head.Head.{Head}
 use Rattle.archive_store.specs.Images.{ReplaysBy}
 use Rattle.archive_history.specs.Limits.{IsWithin}
 
--- what a disk stands for: the head of its archive, and the history
+-- what a disk stands for: the head of its archive, the exponent of its intervals, and the history
 pub record Archive : Type 0 where
   pub head : Head
+  pub exponent : ℕ
   pub history : List Item
 
--- an archive of a head and a history
-abbrev pub archive : Head → List Item → Archive
-archive head history = record { head = head; history = history }
+-- an archive of a head, the exponent of its intervals, and a history
+abbrev pub archive : Head → ℕ → List Item → Archive
+archive head exponent history = record { head = head; exponent = exponent; history = history }
 
 -- an archive with the last fill of each interval that has one
 pub record FilledArchive : Type 0 where
   pub plain : Archive
   pub fillings : Fillings (List SetRow)
 
--- an archive of a head and a history, with fills
-abbrev pub filled_archive : Head → List Item → Fillings (List SetRow) → FilledArchive
-filled_archive head history fillings = record { plain = archive head history; fillings = fillings }
+-- the same with fills
+abbrev pub filled_archive : Head → ℕ → List Item → Fillings (List SetRow) → FilledArchive
+filled_archive head exponent history fillings = record { plain = archive head exponent history; fillings = fillings }
 
 -- its fills are sound
 abbrev pub IsSoundArchive : FilledArchive → Type 0
-IsSoundArchive filled = AreSound 22 (HoldsRows filled.plain.head.mdb) filled.plain.history filled.fillings
+IsSoundArchive filled =
+    AreSound filled.plain.exponent (HoldsRows filled.plain.head.mdb) filled.plain.history filled.fillings
 
 -- the table and the packet name of a row are there
 pub record IsPlaced (head : Head) (row : Row) : Type 0 where
@@ -65,14 +70,14 @@ pub record AreAdmitted (old : Archive) (rows : List Row) : Type 0 where
   pub placed : AllByRecursion (IsPlaced old.head) rows
   pub octets : AllByRecursion (λ row. IsOctets row.packet) rows
   pub fresh : after_rows old.history rows ≡ old.history ++ items_of rows
-  pub within : IsWithin 22 (old.history ++ items_of rows)
+  pub within : IsWithin old.exponent (old.history ++ items_of rows)
 
 -- A fill that a record may add: it has a spelling, its base is at most the number of items and its interval is that of
 -- some row among them, and its octets are those of a set of the interval and of the head's database.
 pub record IsFillable (old : FilledArchive) (interval : Interval) (base : ℕ) (octets : List ℕ) : Type 0 where
   pub fits : IsArchiveEntry (entries.Fill interval base octets)
-  pub based : IsStoredBase 22 interval base old.plain.history
-  pub set : IsSetOf old.plain.head.mdb 22 interval.0 (rows_in_octets octets)
+  pub based : IsStoredBase old.plain.exponent interval base old.plain.history
+  pub set : IsSetOf old.plain.head.mdb old.plain.exponent interval.0 (rows_in_octets octets)
   pub spelled : octets ≡ set_octets (rows_in_octets octets)
 
 -- An entry makes an archive of nothing or of what there was: the first is a head, no other is, and rows and fills are
@@ -80,17 +85,24 @@ pub record IsFillable (old : FilledArchive) (interval : Interval) (base : ℕ) (
 abbrev pub Applies : Option FilledArchive → Entry → FilledArchive → Type 0
 Applies None (entries.Head tables mdb) new =
     IsArchiveEntry (entries.Head tables mdb)
-    × (new ≡ filled_archive (record { tables = tables; mdb = mdb }) [] no_fillings)
+    × (new ≡ filled_archive (record { tables = tables; mdb = mdb }) format_1_exponent [] no_fillings)
 Applies None (entries.Rows rows) new = ⊥
 Applies None (entries.Fill interval base octets) new = ⊥
 Applies (Some old) (entries.Head tables mdb) new = ⊥
 Applies (Some old) (entries.Rows rows) new =
     AreAdmitted old.plain rows
-    × (new ≡ filled_archive old.plain.head (old.plain.history ++ items_of rows) old.fillings)
+    × (new ≡ filled_archive old.plain.head old.plain.exponent (old.plain.history ++ items_of rows) old.fillings)
 Applies (Some old) (entries.Fill interval base octets) new =
     IsFillable old interval base octets
-    × (new ≡ filled_archive old.plain.head old.plain.history
+    × (new ≡ filled_archive old.plain.head old.plain.exponent old.plain.history
     (with_filling old.fillings interval (fill_over base (rows_in_octets octets))))
+
+-- the fills among entries, each of which was done, in their order
+abbrev pub dones_of : List Entry → List Fill
+dones_of [] = []
+dones_of (entries.Head tables mdb ∷ rest) = dones_of rest
+dones_of (entries.Rows rows ∷ rest) = dones_of rest
+dones_of (entries.Fill interval base octets ∷ rest) = Done interval base ∷ dones_of rest
 
 -- these entries, one after the other
 abbrev pub Replays : Option FilledArchive → List Entry → Option FilledArchive → Type 0

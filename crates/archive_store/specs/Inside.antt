@@ -11,9 +11,10 @@ use Rattle.disk_journal.specs.State.{unhealed_fault, count_of}
 use Rattle.disk_journal.specs.declared.journal.Journal.{Journal}
 use Rattle.field_codec.specs.declared.entry.Entry.TheVariants as kinds
 use Rattle.field_codec.specs.Entries.{IsArchiveEntry}
+use Rattle.field_codec.specs.Spelling.{format_1_exponent}
 use Rattle.param_segments.specs.Extracted.{IsSetOf}
 use Rattle.param_segments.specs.Rows.{SetRow}
-use Rattle.store_fills.specs.FilledSets.{FilledIntervals, fillings_in}
+use Rattle.store_fills.specs.LastFills.{PlacedFills, fillings_in}
 use Rattle.store_fills.specs.Sound.{Filling, Fillings, base_of_filling}
 use Rattle.archive_history.specs.History.{HistoryView}
 use Rattle.archive_store.specs.declared.head.Head.{Head}
@@ -22,14 +23,15 @@ use Rattle.archive_store.specs.PlainLog.{RowsInvariant}
 use Rattle.archive_store.specs.Stands.{StandsFilled}
 use Rattle.archive_store.specs.StoreView.{StoreView, FaultInvariant}
 
--- what contracts see of a store: the disk now and as it was opened, the journal's records, the head, the history, what
--- happened to fills, and the fills that are there
-abbrev pub view_of : {D : Type 0} → D → D → Journal → Head → List Item → List Fill → FilledIntervals → StoreView D
-view_of disk opened journal head history fills filled = record {
+-- what contracts see of a store: the disk now and as it was opened, the journal's records, the head, the exponent of
+-- the intervals, the history, what happened to fills, and the fills that are there
+abbrev pub view_of : {D : Type 0} → D → D → Journal → Head → ℕ → List Item → List Fill → PlacedFills → StoreView D
+view_of disk opened journal head exponent history fills filled = record {
   history = history;
   fills = fills;
   filled = filled;
   head = head;
+  exponent = exponent;
   records = count_of journal;
   disk = disk;
   opened = opened;
@@ -38,28 +40,30 @@ view_of disk opened journal head history fills filled = record {
 -- what a crash leaves and what the log holds, by the archive of the opening, and how journal, head and faults go
 -- together; a journal that wants a heal does so for the first failed write that is pending
 pub record StoreInvariant {D : Type 0} (device : Device D) (disk opened : D) (journal : Journal) (head : Head)
-    (history : List Item) (fills : List Fill) (filled : FilledIntervals) (pending_fault : Option ℕ) : Type 0 where
-  pub faults : FaultInvariant device (view_of disk opened journal head history fills filled)
+    (exponent : ℕ) (history : List Item) (fills : List Fill)
+    (filled : PlacedFills) (pending_fault : Option ℕ) : Type 0 where
+  pub faults : FaultInvariant device (view_of disk opened journal head exponent history fills filled)
   pub before : List Item
   pub fillings : Fillings (List SetRow)
   pub begins : IsPrefix before history
-  pub opening : IsTrue device.is_transparent → StandsFilled (device.reads opened) (filled_archive head before fillings)
-  pub sound : IsSoundArchive (filled_archive head before fillings) →
-      IsSoundArchive (filled_archive head history (fillings_in filled))
-  pub archives : RowsInvariant device (view_of disk opened journal head history fills filled) journal
-      (filled_archive head before fillings)
+  pub opening : IsTrue device.is_transparent →
+      StandsFilled (device.reads opened) (filled_archive head exponent before fillings)
+  pub sound : IsSoundArchive (filled_archive head exponent before fillings) →
+      IsSoundArchive (filled_archive head exponent history (fillings_in filled))
+  pub archives : RowsInvariant device (view_of disk opened journal head exponent history fills filled) journal
+      (filled_archive head exponent before fillings)
   pub pending_fault_is : pending_fault ≡ pending_fault_of fills
   pub journal_fault : (faults : ℕ) → unhealed_fault journal ≡ Some faults → pending_fault_of fills ≡ Some faults
   pub head_is : IsArchiveEntry (kinds.Head head.tables head.mdb)
   pub rows : AllByRecursion (IsArchivedRow head) (rows_in history)
 
--- the history has a table for each name of the head, and its intervals are those of format 1
+-- the history has a table for each name of the head, and its intervals are those of the head's format
 abbrev pub IsHistoryOf : Head → HistoryView → Type 0
-IsHistoryOf head history = (history.tables ≡ length head.tables) × (history.exponent ≡ 22)
+IsHistoryOf head history = (history.tables ≡ length head.tables) × (history.exponent ≡ format_1_exponent)
 
--- the fill list and the fills that are there tell one base of each interval, and each set is one of its interval and of
--- the database
-pub record HoldsFills (head : Head) (fills : List Fill) (filled : FilledIntervals) : Type 0 where
+-- the fill list and the fills that are there tell one base of each interval, and each set is one of its interval, by
+-- the exponent, and of the database
+pub record HoldsFills (head : Head) (exponent : ℕ) (fills : List Fill) (filled : PlacedFills) : Type 0 where
   pub bases : (i : Interval) → base_in i fills ≡ base_of_filling (fillings_in filled) i
   pub fits : (i : Interval) (f : Filling (List SetRow)) → fillings_in filled i ≡ Some f →
-      IsSetOf head.mdb 22 i.0 f.set
+      IsSetOf head.mdb exponent i.0 f.set

@@ -1,5 +1,5 @@
 -- What an install answers, and what each answer leaves.
-use Rattle.std.specs.Prelude.{◌≡◌, ◌<◌, ◌≤◌, ◌+◌, None, Some}
+use Rattle.std.specs.Prelude.{◌≡◌, ◌<◌, ◌≤◌, ◌+◌, true, None, Some}
 use Rattle.arch_disk.specs.Disk.{Device, NoWriteFailed}
 use Rattle.arch_types.specs.declared.inserted.Installed.{Installed}
 use Rattle.arch_types.specs.declared.inserted.Installed.TheVariants as became
@@ -8,12 +8,12 @@ use Rattle.refusals.specs.declared.refusal.Refusal.{Refusal}
 use Rattle.refusals.specs.declared.refusal.Refusal.TheVariants.{NeedsReopen, Limit, OutOfMemory, DiskFault}
 use Rattle.refusals.specs.declared.refusal.Which.TheVariants.{Records}
 use Rattle.refusals.specs.Limits.{limit_of}
-use Rattle.history_items.specs.declared.fills.Addition.TheVariants.{Nothing}
+use Rattle.history_items.specs.declared.fills.Addition.TheVariants as additions
 use Rattle.history_items.specs.Fills.{pending_fault_of}
 use Rattle.interval_fills.specs.Intervals.{NoRowSince}
 use Rattle.interval_fills.specs.Steps.{InstallsFill, freed}
 use Rattle.store_fills.specs.Built.{BuiltFill}
-use Rattle.store_fills.specs.FilledSets.{fill_over, fillings_in}
+use Rattle.store_fills.specs.LastFills.{fill_over, fillings_in}
 use Rattle.store_fills.specs.Sound.{with_filling}
 use Rattle.archive_store.specs.Entries.{FilledArchive, filled_archive}
 use Rattle.archive_store.specs.StoreView.{StoreView, AddsFault}
@@ -21,12 +21,12 @@ use Rattle.archive_store.specs.Tasks.{machine_state}
 
 -- what a store stands for once a fill is there
 abbrev pub filled_with : {D : Type 0} → StoreView D → BuiltFill → FilledArchive
-filled_with store done = filled_archive store.head store.history
+filled_with store done = filled_archive store.head store.exponent store.history
     (with_filling (fillings_in store.filled) done.interval (fill_over done.base done.set))
 
 -- it is there, in one record more
 pub record FillIsAppended {D : Type 0} (device : Device D) (old new : StoreView D) (done : BuiltFill) : Type 0 where
-  pub step : InstallsFill 22 (machine_state old) done.interval done.base became.Done (machine_state new)
+  pub step : InstallsFill old.exponent (machine_state old) done.interval done.base became.Done (machine_state new)
   pub filled : fillings_in new.filled ≡ with_filling (fillings_in old.filled) done.interval (fill_over done.base done.set)
   pub records : new.records ≡ old.records + 1
   pub no_failed_write : NoWriteFailed device old.disk new.disk
@@ -45,26 +45,27 @@ abbrev pub IsStoreInstalled : {D : Type 0} → Device D → StoreView D → Stor
 IsStoreInstalled device old new done became.Done = IsInstallable old × FillIsAppended device old new done
 IsStoreInstalled device old new done (became.Stale position) =
     (pending_fault_of old.fills ≡ None)
-    × InstallsFill 22 (machine_state old) done.interval done.base (became.Stale position) (machine_state new)
+    × InstallsFill old.exponent (machine_state old) done.interval done.base (became.Stale position) (machine_state new)
     × IsAbandoned old new done.interval
 
 -- why an append of a fill is refused
-abbrev pub IsFillRefusal : {D : Type 0} → Device D → StoreView D → StoreView D → Refusal → Type 0
-IsFillRefusal device old new OutOfMemory = new ≡ old
-IsFillRefusal device old new DiskFault = AddsFault device old new Nothing
-IsFillRefusal device old new _ = ⊥
+abbrev pub IsFillRefusal : {D : Type 0} → Device D → StoreView D → StoreView D → BuiltFill → Refusal → Type 0
+IsFillRefusal device old new done OutOfMemory = new ≡ old
+IsFillRefusal device old new done DiskFault = AddsFault device old new true (additions.Fill done.interval done.base)
+IsFillRefusal device old new done _ = ⊥
 
 -- why an install is refused
 abbrev pub IsInstallRefusal : {D : Type 0} → Device D → StoreView D → StoreView D → BuiltFill → Refusal → Type 0
 IsInstallRefusal device old new done (NeedsReopen faults) =
     (pending_fault_of old.fills ≡ Some faults) × IsAbandoned old new done.interval
 IsInstallRefusal device old new done (Limit which number) =
-    (pending_fault_of old.fills ≡ None) × NoRowSince 22 done.interval done.base old.history
+    (pending_fault_of old.fills ≡ None) × NoRowSince old.exponent done.interval done.base old.history
     × (which ≡ Records) × (number ≡ limit_of Records) × (limit_of Records ≤ old.records)
     × IsAbandoned old new done.interval
 IsInstallRefusal device old new done OutOfMemory =
-    IsInstallable old × NoRowSince 22 done.interval done.base old.history × IsAbandoned old new done.interval
+    IsInstallable old × NoRowSince old.exponent done.interval done.base old.history × IsAbandoned old new done.interval
 IsInstallRefusal {D = D} device old new done DiskFault =
-    IsInstallable old × NoRowSince 22 done.interval done.base old.history
-    × ((failed : StoreView D) × AddsFault device old failed Nothing × IsAbandoned failed new done.interval)
+    IsInstallable old × NoRowSince old.exponent done.interval done.base old.history
+    × ((failed : StoreView D) × AddsFault device old failed true (additions.Fill done.interval done.base)
+    × IsAbandoned failed new done.interval)
 IsInstallRefusal device old new done _ = ⊥

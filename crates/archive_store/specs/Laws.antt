@@ -1,19 +1,32 @@
--- What holds of the images of a disk, of replays, and of rows.
-use Rattle.std.specs.Prelude.{◌≡◌, ◌≤◌, ℕ, List, length}
+-- What holds of the images of a disk, of replays, of rows, and of limits.
+use Rattle.std.specs.Prelude.{◌≡◌, ◌≤◌, ℕ, List, length, None}
 use mathlib.Core.List.{IsPrefix}
 use Rattle.arch_disk.specs.Image.{Image}
 use Rattle.arch_types.specs.declared.row.Row.{Row}
 use Rattle.text_forms.specs.ClockTime.{IsClockTime}
 use Rattle.history_items.specs.Items.{Item, rows_in}
+use Rattle.history_items.specs.declared.fills.Fill.{Fill}
+use Rattle.history_items.specs.Fills.{pending_fault_of, unacknowledged_in}
 use Rattle.disk_journal.specs.Format.{HoldsNone}
+use Rattle.field_codec.specs.Spelling.{format_1_exponent}
 use Rattle.replay_merge.specs.Cursor.{CursorView, rest_of}
 use Rattle.archive_store.specs.declared.head.Head.{Head}
+use Rattle.archive_history.specs.RowLimits.{row_limit}
+use Rattle.archive_history.specs.declared.row_limit.RowLimit.{RowLimit}
+use Rattle.refusals.specs.Limits.{limit_of}
+use Rattle.archive_store.specs.Limits.{limit_of_history}
 use Rattle.archive_store.specs.Entries.{Archive, FilledArchive, IsArchivedRow}
 use Rattle.archive_store.specs.Stands.{StandsFilled, StandsFor, IsArchiveDamagedAt}
+use Rattle.archive_store.specs.StoreView.{IsNow}
 
 -- an image stands for one archive at most
 abbrev pub ArchivesAreOne : Type 0
 ArchivesAreOne = (image : Image) (a b : Archive) → StandsFor image a → StandsFor image b → a ≡ b
+
+-- the exponent of its intervals is that of format 1
+abbrev pub ExponentsAreOfFormat1 : Type 0
+ExponentsAreOfFormat1 =
+    (image : Image) (archive : Archive) → StandsFor image archive → archive.exponent ≡ format_1_exponent
 
 -- with one fill at most of each interval
 abbrev pub FillsAreOne : Type 0
@@ -43,3 +56,12 @@ ReplaysKeepTheirFront =
 -- the time of a row that a store gives is a moment of the clock
 abbrev pub ArchivedRowsHaveClockTimes : Type 0
 ArchivedRowsHaveClockTimes = (head : Head) (row : Row) → IsArchivedRow head row → IsClockTime row.key.time
+
+-- while no failed write is pending, a crash now leaves the archive with its fills, and nothing else
+abbrev pub CalmStoresAreKept : Type 0
+CalmStoresAreKept = (filled : FilledArchive) (fills : List Fill) (image : Image) →
+    pending_fault_of fills ≡ None → IsNow filled (unacknowledged_in fills) image → StandsFilled image filled
+
+-- the limits of a history are those of the archive
+abbrev pub HistoryLimitsAgree : Type 0
+HistoryLimitsAgree = (limit : RowLimit) → row_limit limit ≡ limit_of (limit_of_history limit)

@@ -17,3 +17,5 @@ pub mod Tasks
 pub mod CurrentSets
 pub mod Installs
 pub mod Unacknowledged
+pub mod AddedFills
+pub mod LateFills

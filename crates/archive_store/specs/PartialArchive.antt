@@ -1,8 +1,9 @@
 -- What a reading of an archive gives.
-use Rattle.std.specs.Prelude.{◌≡◌, ◌≤◌, IsTrue, List, Option, Some, None, ℕ, map, length, option_map}
+use Rattle.std.specs.Prelude.{◌≡◌, ◌≤◌, IsTrue, List, [], Option, Some, None, ℕ, map, length, option_map}
 use Rattle.std.specs.List.{AllByRecursion}
 use Rattle.arch_disk.specs.Disk.{Device, raised}
 use Rattle.intervals.specs.declared.interval.Interval.{Interval}
+use Rattle.history_items.specs.declared.fills.Fill.{Fill}
 use Rattle.refusals.specs.declared.refusal.Refusal.{Refusal}
 use Rattle.refusals.specs.declared.refusal.Refusal.TheVariants as refused
 use Rattle.disk_journal.specs.Format.{HasRecords, written}
@@ -19,26 +20,35 @@ use Rattle.store_fills.specs.Faults.{IsDone}
 use Rattle.param_segments.specs.Extracted.{IsSetOf}
 use Rattle.param_segments.specs.Octets.{rows_in_octets, set_octets}
 use Rattle.param_segments.specs.Rows.{SetRow}
-use Rattle.store_fills.specs.FilledSets.{fillings_in}
+use Rattle.store_fills.specs.LastFills.{fillings_in}
 use Rattle.archive_store.specs.declared.head.Head.{Head}
 use Rattle.archive_store.specs.declared.reading.PartialArchive.{PartialArchive}
 use Rattle.archive_store.specs.declared.reading.ReadArchive.{ReadArchive}
-use Rattle.archive_store.specs.Entries.{FilledArchive, filled_archive, HasArchivedRows, Replays}
+use Rattle.archive_store.specs.Entries.{Archive, FilledArchive, archive, filled_archive, HasArchivedRows, Replays, dones_of}
 use Rattle.archive_store.specs.Inside.{HoldsFills, IsHistoryOf}
 use Rattle.archive_store.specs.Stands.{IsArchiveDamagedAt}
 
+-- the archive of what entries have made, without its fills
+abbrev pub plain_made : PartialArchive → Archive
+plain_made made = archive made.head made.history.exponent made.history.items
+
 -- the archive of what entries have made
 abbrev pub filled_made : PartialArchive → FilledArchive
-filled_made made = filled_archive made.head made.history.items (fillings_in made.sets.filled)
+filled_made made = filled_archive made.head made.history.exponent made.history.items (fillings_in made.sets.filled)
 
 -- what the entries so far have made
 abbrev pub archive_made : Option PartialArchive → Option FilledArchive
 archive_made made = option_map filled_made made
 
+-- what the entries so far tell of fills
+abbrev pub fills_made : Option PartialArchive → List Fill
+fills_made None = []
+fills_made (Some made) = made.tracker.fills
+
 -- the history is one of the head, which has a spelling
-abbrev pub HasTables : Option PartialArchive → Type 0
-HasTables None = Unit {0}
-HasTables (Some made) =
+abbrev pub IsReadHistory : Option PartialArchive → Type 0
+IsReadHistory None = Unit {0}
+IsReadHistory (Some made) =
     IsHistoryOf made.head made.history × IsArchiveEntry (entries.Head made.head.tables made.head.mdb)
 
 -- fills that are there were noted and nothing else, the marks are those of the history and of these, and their sets are
@@ -47,15 +57,15 @@ abbrev pub HasMarks : Option PartialArchive → Type 0
 HasMarks None = Unit {0}
 HasMarks (Some made) =
     AllByRecursion IsDone made.tracker.fills
-    × AreMarksOf 22 made.history.items made.tracker.fills made.tracker.marks
-    × HoldsFills made.head made.tracker.fills made.sets.filled
+    × AreMarksOf made.history.exponent made.history.items made.tracker.fills made.tracker.marks
+    × HoldsFills made.head made.history.exponent made.tracker.fills made.sets.filled
 
--- octets hold this set of an interval and of a head's database, or they are the spelling of none
-abbrev pub IsSetRead : Head → Interval → List ℕ → Option (List SetRow) → Type 0
-IsSetRead head interval octets None =
-    (rows : List SetRow) → IsSetOf head.mdb 22 interval.0 rows → octets ≡ set_octets rows → ⊥
-IsSetRead head interval octets (Some rows) =
-    IsSetOf head.mdb 22 interval.0 rows × (octets ≡ set_octets rows) × (rows ≡ rows_in_octets octets)
+-- octets hold this set of an interval of this exponent and of a head's database, or they are the spelling of none
+abbrev pub IsSetRead : Head → ℕ → Interval → List ℕ → Option (List SetRow) → Type 0
+IsSetRead head exponent interval octets None =
+    (rows : List SetRow) → IsSetOf head.mdb exponent interval.0 rows → octets ≡ set_octets rows → ⊥
+IsSetRead head exponent interval octets (Some rows) =
+    IsSetOf head.mdb exponent interval.0 rows × (octets ≡ set_octets rows) × (rows ≡ rows_in_octets octets)
 
 -- the octets of a file are records of entries that make this archive, and the journal has their places
 pub record IsReadArchive (content : List ℕ) (journal : Journal) (found : FilledArchive) : Type 0 where
@@ -85,13 +95,15 @@ refusal_of_create faults.Limit = refused.DiskFault
 refusal_of_create faults.DiskFault = refused.DiskFault
 refusal_of_create faults.OutOfMemory = refused.OutOfMemory
 
--- the journal of file 0 whole, and the archive that its entries make, with all that the type of a store keeps of it
+-- the journal of file 0 whole, and the archive that its entries make, with their fills in the fill list and all that the type of a store keeps of it
 pub record IsArchiveRead {D : Type 0} (device : Device D) (disk : D) (read : ReadArchive) : Type 0 where
   pub archive_is : IsTrue device.is_transparent →
       IsReadArchive (device.reads disk 0) read.journal (filled_made read.made)
+  pub dones : (transparent : IsTrue device.is_transparent) →
+      read.made.tracker.fills ≡ dones_of (archive_is transparent).entries
   pub in_file : file_of read.journal ≡ 0
   pub no_pending_fault : unhealed_fault read.journal ≡ None
-  pub tables : HasTables (Some read.made)
+  pub tables : IsReadHistory (Some read.made)
   pub marks : HasMarks (Some read.made)
   pub rows : HasArchivedRows (archive_made (Some read.made))
 

@@ -3,7 +3,7 @@
 use Rattle.std.specs.Prelude.{◌≡◌, ◌⊎◌, List, ◌++◌, Contains}
 use mathlib.Core.List.{IsPrefix}
 use Rattle.arch_disk.specs.Disk.{Device}
-use Rattle.history_items.specs.Fills.{rows_of_faults, unacknowledged_rows}
+use Rattle.history_items.specs.Fills.{rows_of_faults, unacknowledged_in}
 use Rattle.history_items.specs.Items.{Item}
 use Rattle.disk_journal.specs.declared.journal.Journal.{Journal}
 use Rattle.field_codec.specs.Spelling.{entry_octets}
@@ -19,13 +19,13 @@ pub record IsSinceArchive (before : FilledArchive) (now : Archive) (in_faults : 
   pub kept : List Item
   pub holds : IsPrefix before.plain.history kept
   pub begins : IsPrefix kept now.history
-  pub found_is : (found.plain ≡ archive now.head kept)
-      ⊎ ((more : List Item) × Contains in_faults more × (found.plain ≡ archive now.head (kept ++ more)))
+  pub found_is : (found.plain ≡ archive now.head now.exponent kept)
+      ⊎ ((more : List Item) × Contains in_faults more × (found.plain ≡ archive now.head now.exponent (kept ++ more)))
   pub sound : IsSoundArchive before → IsSoundArchive found
 
 -- what a store keeps of its log and of its images, by the archive of the opening
 abbrev pub RowsInvariant : {D : Type 0} → Device D → StoreView D → Journal → FilledArchive → Type 0
 RowsInvariant device store journal before =
     ArchiveInvariant entry_octets Applies IsPlainLog device store.disk store.opened journal (filled_of store)
-    (IsUnacknowledged (filled_of store) (unacknowledged_rows store.fills))
+    (IsUnacknowledged (filled_of store) (unacknowledged_in store.fills))
     (IsSinceArchive before (archive_of store) (rows_of_faults store.fills))

@@ -1,5 +1,5 @@
 -- What a plan holds.
-use Rattle.std.specs.Prelude.{◌≡◌, ◌<ℤ◌, ℤ, List, Bool, ◌&&◌, filter, length, IsSome, map}
+use Rattle.std.specs.Prelude.{◌≡◌, ◌<ℤ◌, ℕ, ℤ, List, Bool, ◌&&◌, filter, length, IsSome, map}
 use Rattle.std.specs.List.{AllByRecursion}
 use Rattle.std.specs.Arc.{arc_value}
 use Rattle.intervals.specs.declared.interval.Interval.{Interval}
@@ -24,7 +24,8 @@ use Rattle.archive_store.specs.StoreView.{StoreView}
 abbrev pub IsPlanPart : {D : Type 0} → StoreView D → Part → Type 0
 IsPlanPart store (Set interval set) = IsCurrentSet store interval (arc_value set)
 IsPlanPart store (Rows interval rows) =
-    IsLate 22 interval store.history store.fills × (rows ≡ rows_of_interval 22 interval store.history)
+    IsLate store.exponent interval store.history store.fills
+    × (rows ≡ rows_of_interval store.exponent interval store.history)
 
 -- the interval of a part
 abbrev pub interval_of_part : Part → Interval
@@ -35,18 +36,20 @@ abbrev pub plan_intervals : List Part → List Interval
 plan_intervals parts = map interval_of_part parts
 
 -- an interval that has a row of `tm` meets a range of times
-abbrev pub IsRangeInterval : List Item → ℤ → ℤ → Interval → Type 0
-IsRangeInterval history low high interval = MeetsRange 22 low high interval × IsSome (last_in 22 interval history)
+abbrev pub IsRangeInterval : ℕ → List Item → ℤ → ℤ → Interval → Type 0
+IsRangeInterval exponent history low high interval =
+    MeetsRange exponent low high interval × IsSome (last_in exponent interval history)
 
 -- A part for each interval that has rows of `tm` and meets a range, the intervals rising, over the whole history. Each
 -- row that is left to extract is one that a store gives, also over a disk that isn't transparent.
 pub record IsPlan {D : Type 0} (store : StoreView D) (low high : ℤ) (plan : Plan) : Type 0 where
   pub front : plan.front ≡ length store.history
   pub mdb : arc_value plan.mdb ≡ store.head.mdb
+  pub exponent : plan.exponent ≡ store.exponent
   pub each : AllByRecursion (IsPlanPart store) plan.parts
   pub rising : IntervalsRise (plan_intervals plan.parts)
-  pub meets : AllByRecursion (IsRangeInterval store.history low high) (plan_intervals plan.parts)
-  pub cover : low <ℤ high → CoverRange 22 (plan_intervals plan.parts) low high store.history
+  pub meets : AllByRecursion (IsRangeInterval store.exponent store.history low high) (plan_intervals plan.parts)
+  pub cover : low <ℤ high → CoverRange store.exponent (plan_intervals plan.parts) low high store.history
   pub archived : AllByRecursion (IsArchivedRow store.head) (rows_of_parts plan.parts)
 
 -- The parts of a plan are over rows of which those with low <= time < high are the rows of `tm` in that range of the
@@ -57,11 +60,12 @@ pub record IsPlanOver (head : Head) (history : List Item) (low high : ℤ) (plan
   pub in_range : filter (is_in_time_range low high) rows ≡ range_of 0 low high (rows_in history)
 
 -- whether an interval is late and meets a range of times: only of such ones rows are left to extract
-abbrev pub is_late_of_range : List Item → List Fill → ℤ → ℤ → Interval → Bool
-is_late_of_range history fills low high interval =
-    is_late_in 22 interval history fills && meets_range 22 low high interval
+abbrev pub is_late_of_range : ℕ → List Item → List Fill → ℤ → ℤ → Interval → Bool
+is_late_of_range exponent history fills low high interval =
+    is_late_in exponent interval history fills && meets_range exponent low high interval
 
 -- the rows of `tm` in such intervals
-abbrev pub late_rows_of_range : List Item → List Fill → ℤ → ℤ → List Row
-late_rows_of_range history fills low high =
-    filter (λ row. is_late_of_range history fills low high (item_interval 22 row)) (table_of 0 (rows_in history))
+abbrev pub late_rows_of_range : ℕ → List Item → List Fill → ℤ → ℤ → List Row
+late_rows_of_range exponent history fills low high =
+    filter (λ row. is_late_of_range exponent history fills low high (item_interval exponent row))
+    (table_of 0 (rows_in history))

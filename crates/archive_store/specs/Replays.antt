@@ -4,7 +4,7 @@ use Rattle.std.specs.List.{AllByRecursion}
 use mathlib.Core.List.{IsPrefix}
 use Rattle.arch_disk.specs.Disk.{Device}
 use Rattle.asks.specs.declared.ask.ReplayRequest.{ReplayRequest}
-use Rattle.asks.specs.Names.{packet_name_numbers, table_named}
+use Rattle.asks.specs.Names.{packet_name_numbers, table_number}
 use Rattle.arch_types.specs.declared.row.Row.{Row}
 use Rattle.history_items.specs.Items.{Item, rows_in}
 use Rattle.partitions.specs.Rows.{partitions_of}
@@ -15,7 +15,7 @@ use Rattle.partitions.specs.Bounds.{MayHold}
 use Rattle.partitions.specs.Partitions.{AreRising}
 use Rattle.replay_merge.specs.Cursor.{CursorView, rest_of}
 use Rattle.replay_merge.specs.Replay.{replay_of}
-use Rattle.replay_merge.specs.Source.{RowSourceState}
+use Rattle.replay_merge.specs.RowSource.{RowSourceState}
 use Rattle.archive_store.specs.declared.head.Head.{Head}
 use Rattle.archive_store.specs.Entries.{IsArchivedRow}
 use Rattle.archive_store.specs.StoreView.{StoreView}
@@ -44,7 +44,7 @@ replay_asked head request table history =
 
 -- A cursor at the front of a history, before the replay of the request over it, also once more rows came to the history.
 pub record IsReplayOpened (head : Head) (history : List Item) (request : ReplayRequest) (c : CursorView) : Type 0 where
-  pub table : table_named head.tables request.table ≡ Some c.table
+  pub table : table_number head.tables request.table ≡ Some c.table
   pub front : c.front ≡ length history
   pub replay : (later : List Item) → IsPrefix history later →
       rest_of c (rows_in later) ≡ replay_asked head request c.table (rows_in history)
@@ -59,4 +59,4 @@ pub record AreParts (history : List Item) (table : ℕ) (bounds : Bounds) (parts
 
 -- the packet name of a partition is a container's number
 abbrev pub IsNamedPart : Head → Partition → Type 0
-IsNamedPart head part = part.pname < length head.mdb.containers
+IsNamedPart head partition = partition.pname < length head.mdb.containers

@@ -1,5 +1,5 @@
 -- What contracts see of a store, and what its type keeps.
-use Rattle.std.specs.Prelude.{◌≡◌, ◌⊎◌, ℕ, ◌^◌, ◌≤◌, ◌-◌, true, List, [], ◌∷◌, ◌++◌, min, Contains, Option, Some}
+use Rattle.std.specs.Prelude.{◌≡◌, ◌⊎◌, ℕ, ◌^◌, ◌≤◌, ◌-◌, Bool, true, false, List, [], ◌∷◌, ◌++◌, min, Contains, Option, Some}
 use mathlib.Core.List.{IsPrefix}
 use Rattle.arch_disk.specs.Image.{Image}
 use Rattle.arch_disk.specs.Disk.{Device, LeavesOnly, raised}
@@ -7,45 +7,46 @@ use Rattle.history_items.specs.declared.fills.Fill.{Fill}
 use Rattle.history_items.specs.declared.fills.Addition.{Addition}
 use Rattle.history_items.specs.declared.fills.Fill.TheVariants.{Fault}
 use Rattle.history_items.specs.Items.{Item}
-use Rattle.history_items.specs.Fills.{rows_of_faults, pending_fault_of, unacknowledged_rows, Rising, above}
+use Rattle.history_items.specs.Fills.{rows_of_faults, pending_fault_of, unacknowledged_in, Rising, above}
 use Rattle.archive_store.specs.declared.head.Head.{Head}
-use Rattle.store_fills.specs.FilledSets.{FilledIntervals, fillings_in}
+use Rattle.store_fills.specs.LastFills.{PlacedFills, fillings_in}
 use Rattle.archive_store.specs.Entries.{Archive, FilledArchive, archive, filled_archive}
 use Rattle.archive_store.specs.Stands.{StandsFilled, StandsFor, IsSoundImage}
 use Rattle.archive_store.specs.Unacknowledged.{IsUnacknowledged}
 
--- the history and the fill list, the fills that are there, the head, how many records the journal has, the disk, and the
--- disk as it was at the opening
+-- the history and the fill list, the fills that are there, the head, the exponent of the intervals, how many records
+-- the journal has, the disk, and the disk as it was at the opening
 pub record StoreView (D : Type 0) : Type 0 where
   pub history : List Item
   pub fills : List Fill
-  pub filled : FilledIntervals
+  pub filled : PlacedFills
   pub head : Head
+  pub exponent : ℕ
   pub records : ℕ
   pub disk : D
   pub opened : D
 
 -- what a store stands for
 abbrev pub archive_of : {D : Type 0} → StoreView D → Archive
-archive_of store = archive store.head store.history
+archive_of store = archive store.head store.exponent store.history
 
 -- the same with its fills
 abbrev pub filled_of : {D : Type 0} → StoreView D → FilledArchive
-filled_of store = filled_archive store.head store.history (fillings_in store.filled)
+filled_of store = filled_archive store.head store.exponent store.history (fillings_in store.filled)
 
 -- An image stands for a prefix of the history that holds the history of the opening, or for such a prefix followed by
 -- the rows that one fault holds.
-pub record IsSince (head : Head) (before history : List Item) (in_faults : List (List Item))
+pub record IsSince (head : Head) (exponent : ℕ) (before history : List Item) (in_faults : List (List Item))
     (image : Image) : Type 0 where
   pub front : List Item
   pub holds : IsPrefix before front
   pub begins : IsPrefix front history
-  pub stands : StandsFor image (archive head front)
-      ⊎ ((more : List Item) × Contains in_faults more × StandsFor image (archive head (front ++ more)))
+  pub stands : StandsFor image (archive head exponent front)
+      ⊎ ((more : List Item) × Contains in_faults more × StandsFor image (archive head exponent (front ++ more)))
 
--- What a crash now may leave: the archive with its fills, or what a failed write may have made of it: that with the
--- unacknowledged rows, or, where there are none, with one fill more over all rows of its interval.
-abbrev pub IsNow : FilledArchive → Option (List Item) → Image → Type 0
+-- What a crash now may leave: the archive with its fills, or, where a failed write is pending, what that may have made of
+-- it by what its call would have added.
+abbrev pub IsNow : FilledArchive → Option Addition → Image → Type 0
 IsNow filled pending image =
     StandsFilled image filled
     ⊎ ((after : FilledArchive) × IsUnacknowledged filled pending after × StandsFilled image after)
@@ -54,12 +55,12 @@ IsNow filled pending image =
 -- may have left, which has sound fills if the disk of the opening had
 pub record CrashInvariant {D : Type 0} (device : Device D) (store : StoreView D) : Type 0 where
   pub before : List Item
-  pub opening : StandsFor (device.reads store.opened) (archive store.head before)
+  pub opening : StandsFor (device.reads store.opened) (archive store.head store.exponent before)
   pub begins : IsPrefix before store.history
   pub now : (c : Image) → device.images store.disk c →
-      IsNow (filled_of store) (unacknowledged_rows store.fills) c
+      IsNow (filled_of store) (unacknowledged_in store.fills) c
   pub since : LeavesOnly device store.opened store.disk
-      (IsSince store.head before store.history (rows_of_faults store.fills))
+      (IsSince store.head store.exponent before store.history (rows_of_faults store.fills))
   pub sound : IsSoundImage (device.reads store.opened) → LeavesOnly device store.opened store.disk IsSoundImage
 
 -- a crash now leaves the archive with its fills
@@ -75,20 +76,28 @@ pub record FaultInvariant {D : Type 0} (device : Device D) (store : StoreView D)
   pub wrote : (faults : ℕ) → pending_fault_of store.fills ≡ Some faults →
       raised (device.failed_writes store.opened) ≤ device.failed_writes store.disk
 
--- a call whose write failed adds one fault, which holds what it would have added, and leaves history and records
-pub record AddsFault {D : Type 0} (device : Device D) (old new : StoreView D) (addition : Addition) : Type 0 where
+-- the count of failed writes after a call in which one failed, or none
+abbrev pub writes_after : Bool → ℕ → ℕ
+writes_after true count = raised count
+writes_after false count = count
+
+-- a call of which the disk failed adds one fault, which says whether a write failed and holds what it would have added,
+-- and leaves history and records
+pub record AddsFault {D : Type 0} (device : Device D) (old new : StoreView D) (wrote : Bool) (addition : Addition)
+    : Type 0 where
   pub history : new.history ≡ old.history
   pub filled : new.filled ≡ old.filled
   pub records : new.records ≡ old.records
   pub count : ℕ
   pub count_is : count ≡ min (device.fault_count new.disk) (2 ^ 64 - 1)
-  pub fills : new.fills ≡ old.fills ++ Fault count true addition ∷ []
+  pub fills : new.fills ≡ old.fills ++ Fault count wrote addition ∷ []
   pub rose : raised (device.fault_count old.disk) ≤ device.fault_count new.disk
-  pub wrote : device.failed_writes new.disk ≡ raised (device.failed_writes old.disk)
+  pub writes : device.failed_writes new.disk ≡ writes_after wrote (device.failed_writes old.disk)
 
--- both lists begin with the old ones, and head and opening stay
+-- both lists begin with the old ones, and head, exponent and opening stay
 pub record OnlyAppends {D : Type 0} (old new : StoreView D) : Type 0 where
   pub history : IsPrefix old.history new.history
   pub fills : IsPrefix old.fills new.fills
   pub head : new.head ≡ old.head
+  pub exponent : new.exponent ≡ old.exponent
   pub opened : new.opened ≡ old.opened

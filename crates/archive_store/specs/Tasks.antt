@@ -1,5 +1,5 @@
 -- How a fill begins.
-use Rattle.std.specs.Prelude.{◌≡◌, ℤ, Option, Some, None}
+use Rattle.std.specs.Prelude.{◌≡◌, Option, Some, None}
 use Rattle.std.specs.Arc.{arc_value}
 use Rattle.interval_fills.specs.Steps.{MachineState, AllLateInFlight, BeginsFill, state_of}
 use Rattle.store_fills.specs.declared.task.FillTask.{FillTask}
@@ -11,11 +11,12 @@ machine_state store = state_of store.history store.fills
 
 -- a fill began as this task says, under the head's database, and nothing else changed
 pub record BeginsTask {D : Type 0} (old new : StoreView D) (task : FillTask) : Type 0 where
-  pub step : BeginsFill 22 (machine_state old) task.interval task.base task.rows (machine_state new)
+  pub step : BeginsFill old.exponent (machine_state old) task.interval task.base task.rows (machine_state new)
   pub mdb : arc_value task.mdb ≡ old.head.mdb
+  pub exponent : task.exponent ≡ old.exponent
   pub same : new ≡ record old { fills = new.fills }
 
 -- the fill of the next interval began, or none, since each late interval is in flight
 abbrev pub IsFillBegun : {D : Type 0} → StoreView D → StoreView D → Option FillTask → Type 0
-IsFillBegun old new None = AllLateInFlight 22 (machine_state old) × (new ≡ old)
+IsFillBegun old new None = AllLateInFlight old.exponent (machine_state old) × (new ≡ old)
 IsFillBegun old new (Some task) = BeginsTask old new task

@@ -40,9 +40,8 @@ pub(crate) fn rows_of(
     interval: Interval,
 ) -> Result<Rows, AllocError>
     requires tables { 0 < history.now.tables }
-    requires format { history.now.exponent ≡ 22 }
-    requires interval { HasClockTime 22 interval }
-    ensures { IfOk result (λ rows. rows ≡ rows_of_interval 22 interval history.now.items) }
+    requires interval { HasClockTime history.now.exponent interval }
+    ensures { IfOk result (λ rows. rows ≡ rows_of_interval history.now.exponent interval history.now.items) }
 {
     let exponent = history.exponent();
     copies_of(
@@ -60,11 +59,11 @@ fn prepare_task(
     interval: Interval,
 ) -> Result<FillTask, AllocError>
     requires tables { 0 < history.now.tables }
-    requires format { history.now.exponent ≡ 22 }
-    requires interval { HasClockTime 22 interval }
+    requires interval { HasClockTime history.now.exponent interval }
     ensures at { IfOk result (λ task. (task.interval ≡ interval) × (task.base ≡ length history.now.items)) }
-    ensures rows { IfOk result (λ task. task.rows ≡ rows_of_interval 22 interval history.now.items) }
-    ensures in_order { IfOk result (λ task. IsTaskRows 22 task.interval task.rows) }
+    ensures exponent { IfOk result (λ task. task.exponent ≡ history.now.exponent) }
+    ensures rows { IfOk result (λ task. task.rows ≡ rows_of_interval history.now.exponent interval history.now.items) }
+    ensures in_order { IfOk result (λ task. IsTaskRows task.exponent task.interval task.rows) }
     ensures mdb { IfOk result (λ task. arc_value task.mdb ≡ arc_value mdb.now) }
     ensures room { OnOk result ((2 ≤ tracker.new.room) × (1 ≤ tracker.new.flight_room)) }
     ensures same { (tracker.new.fills ≡ tracker.old.fills) × (tracker.new.marks ≡ tracker.old.marks) }
@@ -72,6 +71,7 @@ fn prepare_task(
     tracker.reserve_flight()?;
     Ok(FillTask {
         interval,
+        exponent: history.exponent(),
         base: history.len() as u64,
         rows: rows_of(alloc, history, interval)?,
         mdb: Arc::try_clone(mdb)?,
@@ -84,7 +84,7 @@ impl<D: Disk> Store<D> {
 
     /// Whether an interval has rows that no fill has seen. Takes no memory.
     pub fn is_late(&self, interval: Interval) -> bool
-        ensures { IsTrue result ↔ IsLate 22 interval self.now.history self.now.fills }
+        ensures { IsTrue result ↔ IsLate self.now.exponent interval self.now.history self.now.fills }
     {
         self.tracker.is_late(interval)
     }
@@ -95,7 +95,8 @@ impl<D: Disk> Store<D> {
         ensures begun { IfOk result (IsFillBegun self.old self.new) }
 
         // Its rows are in the order of their keys, no key twice, in the interval, whatever the disk tells.
-        ensures in_order { IfOk result (λ begun. IfSome begun (λ task. IsTaskRows 22 task.interval task.rows)) }
+        ensures in_order { IfOk result (λ begun. IfSome begun (λ task.
+            IsTaskRows task.exponent task.interval task.rows)) }
 
         // Refused, for want of memory alone, all is as it was.
         ensures refused { IfErr result (λ e. (e ≡ OutOfMemory) × (self.new ≡ self.old)) }
@@ -121,15 +122,24 @@ impl<D: Disk> Store<D> {
 
     /// Gives a task up: the flight of its interval ends without a fill, where it is in flight. Takes no memory.
     pub fn abandon(&mut self, task: FillTask)
-        ensures { self.new ≡ record self.old { fills = freed task.interval self.old.fills } }
+        ensures freed { self.new ≡ record self.old { fills = freed task.interval self.old.fills } }
+        ensures grows { OnlyAppends self.old self.new }
     {
         self.give_up(task.interval);
     }
 
     /// Ends each flight without a fill. Takes no memory.
     pub fn settle(&mut self)
-        ensures { self.new ≡ record self.old { fills = all_freed self.old.fills } }
+        ensures freed { self.new ≡ record self.old { fills = all_freed self.old.fills } }
+        ensures grows { OnlyAppends self.old self.new }
     {
         self.tracker.settle();
+    }
+
+    /// The length of the fill list. Takes no memory.
+    pub fn fill_len(&self) -> u64
+        ensures { result ≡ length self.now.fills }
+    {
+        self.tracker.as_slice().len() as u64
     }
 }

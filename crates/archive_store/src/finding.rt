@@ -1,6 +1,7 @@
 //! What an ask names, looked up once.
 
 ghost use Rattle.std.specs.Prelude.{◌≡◌, IfOk, IfErr, Some};
+ghost use Rattle.std.specs.Arc.{arc_value};
 ghost use Rattle.asks.specs.Refusals.{replay_refusal, request_refusal};
 ghost use Rattle.archive_store.specs.Finding.{IsNotFound, IsReplayFound, IsRequestFound, refusal_of_ask};
 
@@ -41,8 +42,32 @@ pub fn refusal_of_ask(refusal: AskRefusal) -> Refusal
     }
 }
 
+impl FoundRequest {
+    /// Finds the parameter of a request in a database, and asks whether its range is one.
+    pub fn of(mdb: &Arc<Mdb, Global>, request: Request) -> Result<FoundRequest, Refusal>
+        ensures found { IfOk result (IsRequestFound (arc_value mdb.now)) }
+        ensures asked { IfOk result (λ found. found.request ≡ request) }
+
+        // Refused by UnknownParameter, or else by BadRange; for want of memory where it is neither.
+        ensures refused { IfErr result (IsNotFound (request_refusal (arc_value mdb.now) request)) }
+    {
+        let Some(number) = mdb.parameter_number(request.parameter.as_str()) else {
+            return Err(Refusal::UnknownParameter);
+        };
+        if let Some(refusal) = range_refusal(request.from, request.to) {
+            return Err(refusal_of_ask(refusal));
+        }
+        let mdb = Arc::try_clone(mdb)?;
+        Ok(FoundRequest {
+            request,
+            mdb,
+            number,
+        })
+    }
+}
+
 impl<D: Disk> Store<D> {
-    /// Finds the parameter of a request in the database in force.
+    /// Finds the parameter of a request in the database in force, and asks whether its range is one.
     pub fn find(&self, request: Request) -> Result<FoundRequest, Refusal>
         ensures found { IfOk result (IsRequestFound self.now.head.mdb) }
         ensures asked { IfOk result (λ found. found.request ≡ request) }
@@ -50,21 +75,10 @@ impl<D: Disk> Store<D> {
         // Refused by UnknownParameter, or else by BadRange; for want of memory where it is neither.
         ensures refused { IfErr result (IsNotFound (request_refusal self.now.head.mdb request)) }
     {
-        let Some(number) = self.head.mdb.parameter_number(request.parameter.as_str()) else {
-            return Err(Refusal::UnknownParameter);
-        };
-        if let Some(refusal) = range_refusal(request.from, request.to) {
-            return Err(refusal_of_ask(refusal));
-        }
-        let mdb = self.shared_mdb()?;
-        Ok(FoundRequest {
-            request,
-            mdb,
-            number,
-        })
+        FoundRequest::of(&self.mdb, request)
     }
 
-    /// Finds the table of a request for rows. It takes no memory.
+    /// Finds the table of a request for rows, and asks whether its range is one. It takes no memory.
     pub fn find_replay(&self, request: ReplayRequest) -> Result<FoundReplay, AskRefusal>
         ensures found { IfOk result (IsReplayFound self.now.head.tables) }
         ensures asked { IfOk result (λ found. found.request ≡ request) }

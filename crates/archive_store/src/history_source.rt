@@ -10,7 +10,7 @@ use arch_types::row::Rows;
 use arch_types::row_fault::RowFault;
 use archive_history::history::History;
 use partitions::partition::Partition;
-use replay_merge::source::RowSource;
+use replay_merge::row_source::RowSource;
 use std::alloc::Global;
 use std::marker::Model;
 
@@ -44,7 +44,7 @@ impl<'a> RowSource for HistorySource<'a> {
         &mut self,
         alloc: Global,
         table: u8,
-        part: &Partition,
+        partition: &Partition,
         front: u64,
     ) -> Result<Rows, RowFault> {
         // It tells the proof that the rows are a history.
@@ -52,7 +52,7 @@ impl<'a> RowSource for HistorySource<'a> {
         if table as usize >= self.head.tables.as_slice().len() {
             return Ok(Rows::new(alloc));
         }
-        Ok(self.history.partition_rows(alloc, table, part, front)?)
+        Ok(self.history.partition_rows(alloc, table, partition, front)?)
     }
 
     /// Likewise, by the index of keys where that costs less than the rows of the partitions.
@@ -100,11 +100,11 @@ impl<D: Disk> RowSource for Store<D> {
         &mut self,
         alloc: Global,
         table: u8,
-        part: &Partition,
+        partition: &Partition,
         front: u64,
     ) -> Result<Rows, RowFault> {
         let mut source = self.source();
-        source.rows(alloc, table, part, front)
+        source.rows(alloc, table, partition, front)
     }
 
     /// Likewise.

@@ -13,9 +13,7 @@ ghost use Rattle.refusals.specs.Limits.{limit_of};
 ghost use Rattle.refusals.specs.declared.refusal.Which.TheVariants as limits;
 ghost use Rattle.history_items.specs.Items.{items_of};
 ghost use Rattle.archive_history.specs.Limits.{IsWithin};
-ghost use Rattle.archive_history.specs.RowLimits.{number_of};
-ghost use Rattle.archive_store.specs.Limits.{IsLimit};
-ghost use Rattle.archive_store.specs.Limits as spec;
+ghost use Rattle.archive_store.specs.Limits.{IsLimit, limit_of_history};
 
 use crate::batch::{Batch, Ingested};
 use crate::classifying::{ClassifiedBatch, classify};
@@ -41,10 +39,9 @@ fn rows_frame(alloc: Global, rows: &[Row]) -> Result<Frame, AllocError>
     Frame::finish(octets)
 }
 
-/// The quantity that a limit of a history is one of, with the same number.
-fn limit_named(limit: RowLimit) -> Which
-    ensures named { result ≡ spec.limit_named limit }
-    ensures number { limit_of result ≡ number_of limit }
+/// A limit of a history among those of the archive.
+fn limit_of_history(limit: RowLimit) -> Which
+    ensures { result ≡ limit_of_history limit }
 {
     match limit {
         RowLimit::Rows => Which::Rows,
@@ -87,13 +84,13 @@ impl<D: Disk> Store<D> {
 
     /// The first limit that is passed with these rows and their record.
     fn limit_passed(&self, fresh: &[Row]) -> Option<Which>
-        ensures none { IfNone result (IsWithin 22 (self.now.history ++ items_of fresh.now) ×
+        ensures none { IfNone result (IsWithin self.now.exponent (self.now.history ++ items_of fresh.now) ×
             (self.now.records < limit_of limits.Records)) }
         ensures first { IfSome result (λ which.
-            IsLimit 22 which self.now.records (self.now.history ++ items_of fresh.now)) }
+            IsLimit self.now.exponent which self.now.records (self.now.history ++ items_of fresh.now)) }
     {
         if let Some(limit) = self.history.limit_passed(fresh) {
-            return Some(limit_named(limit));
+            return Some(limit_of_history(limit));
         }
         if self.journal.count() >= Which::Records.limit() {
             return Some(Which::Records);

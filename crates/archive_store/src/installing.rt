@@ -1,6 +1,6 @@
 //! Fills that are installed.
 
-ghost use Rattle.std.specs.Prelude.{◌≡◌, true, false, ◌≤◌, ◌<◌, ◌⊎◌, IsTrue, None, Some, OnOk, IfOk, IfErr, IfSome, IfNone};
+ghost use Rattle.std.specs.Prelude.{◌≡◌, ◌↔◌, ◌≤◌, ◌<◌, ◌⊎◌, IsTrue, None, Some, OnOk, IfOk, IfErr, IfSome, IfNone};
 ghost use Rattle.arch_disk.specs.Disk.{LeavesOnly};
 ghost use Rattle.refusals.specs.declared.refusal.Which.TheVariants as limits;
 ghost use Rattle.refusals.specs.Limits.{limit_of};
@@ -19,13 +19,13 @@ use history_items::fills::Addition;
 use intervals::Interval;
 use refusals::{Refusal, Which};
 use std::alloc::AllocError;
-use store_fills::{Filled, FilledSets};
+use store_fills::{Filled, LastFills};
 
 /// Takes all memory that a fill needs.
 fn prepare_fill(
     journal: &mut Journal,
     tracker: &mut FillTracker,
-    sets: &mut FilledSets,
+    sets: &mut LastFills,
 ) -> Result<(), AllocError>
     ensures room { OnOk result (HasRoom journal.new × (1 ≤ tracker.new.room) × (1 ≤ sets.new.room)) }
     ensures journal { IsSame journal.old journal.new }
@@ -45,8 +45,9 @@ impl<D: Disk> Store<D> {
 
     /// The position of an interval's last row, where that stands at or after a base.
     fn later_row(&self, interval: Interval, base: u64) -> Option<u64>
-        ensures later { IfSome result (λ p. (base ≤ p) × (last_in 22 interval self.now.history ≡ Some p)) }
-        ensures none { IfNone result (NoRowSince 22 interval base self.now.history) }
+        ensures later { IfSome result (λ p.
+            (base ≤ p) × (last_in self.now.exponent interval self.now.history ≡ Some p)) }
+        ensures none { IfNone result (NoRowSince self.now.exponent interval base self.now.history) }
     {
         let last = self.tracker.last(interval)?;
         if last < base {
@@ -57,8 +58,7 @@ impl<D: Disk> Store<D> {
 
     /// Whether no more record may come.
     fn is_full(&self) -> bool
-        ensures full { result ≡ true → limit_of limits.Records ≤ self.now.records }
-        ensures room { result ≡ false → self.now.records < limit_of limits.Records }
+        ensures { IsTrue result ↔ (limit_of limits.Records ≤ self.now.records) }
     {
         self.journal.count() >= Which::Records.limit()
     }
@@ -67,10 +67,11 @@ impl<D: Disk> Store<D> {
     fn append_fill(&mut self, done: Filled) -> Result<(), Refusal>
         requires healed { pending_fault_of self.old.fills ≡ None }
         requires records { self.old.records < limit_of limits.Records }
-        requires right { IsRightFill 22 self.old.head.mdb self.old.history done.interval done.base done.set }
-        requires none { NoRowSince 22 done.interval done.base self.old.history }
+        requires right { IsRightFill self.old.exponent self.old.head.mdb self.old.history
+            done.interval done.base done.set }
+        requires none { NoRowSince self.old.exponent done.interval done.base self.old.history }
         ensures appended { OnOk result (FillIsAppended D.device self.old self.new done) }
-        ensures refused { IfErr result (IsFillRefusal D.device self.old self.new) }
+        ensures refused { IfErr result (IsFillRefusal D.device self.old self.new done) }
         ensures crash { IsTrue D.device.is_transparent → LeavesOnly D.device self.old.disk self.new.disk
             (λ c. StandsFilled c (filled_of self.old) ⊎ StandsFilled c (filled_with self.old done)) }
         ensures grows { OnlyAppends self.old self.new }
@@ -93,7 +94,8 @@ impl<D: Disk> Store<D> {
             }
             Err(_) => {
                 let count = self.disk.faults();
-                self.tracker.note_fault(count, true, Addition::Nothing);
+                self.tracker
+                    .note_fault(count, true, Addition::Fill { interval, base });
                 self.pending_fault = Some(count);
                 Err(Refusal::DiskFault)
             }
@@ -103,7 +105,7 @@ impl<D: Disk> Store<D> {
     /// Installs a fill: its set is the interval's from now on. Where a row of the interval came at or after its base it is
     /// given up, and so it is where the call is refused.
     pub fn install(&mut self, done: Filled) -> Result<Installed, Refusal>
-        requires { IsRightFill 22 self.old.head.mdb self.old.history done.interval done.base done.set }
+        requires { IsRightFill self.old.exponent self.old.head.mdb self.old.history done.interval done.base done.set }
 
         // Ok: the fill stands in one record more; or it is stale, by the last row of its interval.
         ensures installed { IfOk result (IsStoreInstalled D.device self.old self.new done) }

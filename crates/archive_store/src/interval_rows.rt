@@ -10,7 +10,7 @@ ghost use Rattle.history_items.specs.Fills.{is_same};
 ghost use Rattle.history_items.specs.Late.{StandsIn, last_in};
 ghost use Rattle.interval_fills.specs.Intervals.{rows_of_interval};
 ghost use Rattle.interval_walks.specs.Turns.{IntervalsRise};
-ghost use Rattle.store_fills.specs.FilledSets.{fillings_in};
+ghost use Rattle.store_fills.specs.LastFills.{fillings_in};
 
 use crate::filling::rows_of;
 use crate::store::Store;
@@ -25,9 +25,9 @@ impl<D: Disk> Store<D> {
     pub fn intervals(&self, alloc: Global) -> Result<Vec<Interval>, AllocError>
         ensures rising { IfOk result (λ intervals. IntervalsRise intervals.items) }
         ensures rows { IfOk result (λ intervals.
-            AllByRecursion (λ i. IsSome (last_in 22 i self.now.history)) intervals.items) }
+            AllByRecursion (λ i. IsSome (last_in self.now.exponent i self.now.history)) intervals.items) }
         ensures cover { IfOk result (λ intervals. (i : AnInterval) (position : ℕ) →
-            StandsIn 22 i position self.now.history → list_any (is_same i) intervals.items ≡ true) }
+            StandsIn self.now.exponent i position self.now.history → list_any (is_same i) intervals.items ≡ true) }
 
         // Each interval that was filled has rows, so it is among them.
         ensures filled { IfOk result (λ intervals. (i : AnInterval) →
@@ -40,10 +40,10 @@ impl<D: Disk> Store<D> {
     /// The rows of table `tm` in an interval that has some, in the order of their keys. They share their packets with the
     /// store. The one error is want of memory.
     pub fn interval_rows(&self, alloc: Global, interval: Interval) -> Result<Rows, AllocError>
-        requires some { IsSome (last_in 22 interval self.now.history) }
-        ensures rows { IfOk result (λ rows. rows ≡ rows_of_interval 22 interval self.now.history) }
+        requires some { IsSome (last_in self.now.exponent interval self.now.history) }
+        ensures rows { IfOk result (λ rows. rows ≡ rows_of_interval self.now.exponent interval self.now.history) }
         ensures rising { IfOk result (λ rows. IsStrictlySortedBy key_cmp (map (λ row. row.key) rows)) }
-        ensures inside { IfOk result (AllByRecursion (λ row. interval_of 22 row.key.time ≡ interval.0)) }
+        ensures inside { IfOk result (AllByRecursion (λ row. interval_of self.now.exponent row.key.time ≡ interval.0)) }
     {
         // told of the history: no two of its rows have one key in a table
         self.history.len();

@@ -1,6 +1,6 @@
-//! Laws of what an image of the disk stands for, of replays and of rows, carried by functions that do nothing.
+//! Laws of what an image of the disk stands for, of replays, rows and limits, carried by functions that do nothing.
 
-ghost use Rattle.archive_store.specs.Laws.{ArchivedRowsHaveClockTimes, ArchivesAreOne, ArchivesAreWhole, DamageIsOne, FillsAreOne, NoneIsNone, ReplaysKeepTheirFront};
+ghost use Rattle.archive_store.specs.Laws.{ArchivedRowsHaveClockTimes, ArchivesAreOne, ArchivesAreWhole, CalmStoresAreKept, DamageIsOne, ExponentsAreOfFormat1, FillsAreOne, HistoryLimitsAgree, NoneIsNone, ReplaysKeepTheirFront};
 
 use crate::store::Store;
 use arch_disk::Disk;
@@ -9,6 +9,11 @@ use std::marker::Send;
 /// An image stands for one archive at most.
 pub fn archives_are_one()
     ensures { ArchivesAreOne }
+{}
+
+/// The exponent of its intervals is that of format 1.
+pub fn exponents_are_of_format_1()
+    ensures { ExponentsAreOfFormat1 }
 {}
 
 /// It has one fill at most of each interval.
@@ -39,6 +44,16 @@ pub fn replays_keep_their_front()
 /// The time of a row that a store gives is a moment of the clock, so that it fits the texts and the intervals.
 pub fn archived_rows_have_clock_times()
     ensures { ArchivedRowsHaveClockTimes }
+{}
+
+/// While no failed write is pending, a crash leaves the archive with its fills, and nothing else.
+pub fn calm_stores_are_kept()
+    ensures { CalmStoresAreKept }
+{}
+
+/// The limits of a history are those of the archive.
+pub fn history_limits_agree()
+    ensures { HistoryLimitsAgree }
 {}
 
 fn is_sendable<T: Send>() {}

@@ -19,7 +19,8 @@
 // name of the head; their order is kept for contracts alone (archive_history). What an ask names is looked up once
 // (src/finding.rt), and plans and replays take what was found. A plan of param_segments shares
 // the sets that stand for intervals, and has copies of the rows of those that are late. A replay goes over them by a cursor of replay_merge; a step of it borrows them.
-// To be changed together: `Applies` in specs/Entries.antt, src/reading.rt and `IsBatch`; the limits, in archive_history.
+// To be changed together: `Applies` in specs/Entries.antt, src/reading.rt and `IsBatch`; the limits in archive_history,
+// those of refusals, and specs/Limits.antt.
 //
 // A caller takes a failed write back before it gives the batch again, and gives up a task that it can't build:
 //

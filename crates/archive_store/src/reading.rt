@@ -1,6 +1,6 @@
 //! Reading an archive, record by record.
 
-ghost use Rattle.std.specs.Prelude.{◌≡◌, ◌++◌, [], ◌∷◌, None, Some, IsTrue, true, false, length, OnErr, OnOk, IfOk, IfErr, Err};
+ghost use Rattle.std.specs.Prelude.{◌≡◌, ◌↔◌, ◌++◌, [], ◌∷◌, None, Some, IsTrue, true, false, length, OnErr, OnOk, IfOk, IfErr, Err};
 ghost use Rattle.std.specs.List.{AllByRecursion};
 ghost use Rattle.arch_disk.specs.Disk.{OnlyReads};
 ghost use Rattle.disk_journal.specs.Calls.{BeginsOpen};
@@ -12,15 +12,15 @@ ghost use Rattle.history_items.specs.declared.fills.Fill.TheVariants as noted;
 ghost use Rattle.late_marks.specs.Marks.{has_rows};
 ghost use Rattle.fill_tracker.specs.FillTracker.{KeepsMarks};
 ghost use Rattle.interval_fills.specs.Steps.{IsStoredBase};
-ghost use Rattle.store_fills.specs.FilledSets.{fill_over, fillings_in};
+ghost use Rattle.store_fills.specs.LastFills.{fill_over, fillings_in};
 ghost use Rattle.store_fills.specs.Sound.{no_fillings, with_filling};
 ghost use Rattle.field_codec.specs.declared.entry.Entry.{Entry as AnEntry};
 ghost use Rattle.field_codec.specs.declared.entry.Entry.TheVariants as entries;
 ghost use Rattle.field_codec.specs.Entries.{IsArchiveEntry};
-ghost use Rattle.field_codec.specs.Spelling.{entry_octets};
-ghost use Rattle.archive_store.specs.Entries.{archive, filled_archive, Applies, AreAdmitted, FilledArchive, IsFillable, IsPlaced};
+ghost use Rattle.field_codec.specs.Spelling.{entry_octets, format_1_exponent};
+ghost use Rattle.archive_store.specs.Entries.{filled_archive, Applies, AreAdmitted, FilledArchive, IsFillable, IsPlaced, dones_of};
 ghost use Rattle.archive_store.specs.Inside.{IsHistoryOf};
-ghost use Rattle.archive_store.specs.PartialArchive.{archive_made, filled_made, IsSetRead, HasMarks, HasTables, read_refusal, IsArchiveRead, IsArchiveReadRefusal};
+ghost use Rattle.archive_store.specs.PartialArchive.{archive_made, fills_made, filled_made, plain_made, IsSetRead, HasMarks, IsReadHistory, read_refusal, IsArchiveRead, IsArchiveReadRefusal};
 ghost use Rattle.archive_store.specs.Stands.{Breaks};
 
 use crate::head::Head;
@@ -37,7 +37,7 @@ use param_segments::{NotASegment, SegSet};
 use refusals::Refusal;
 use std::alloc::{AllocError, Global};
 use std::sync::Arc;
-use store_fills::FilledSets;
+use store_fills::LastFills;
 
 /// What the entries so far have made.
 #[derive(Drop)]
@@ -47,19 +47,20 @@ pub(crate) struct PartialArchive {
     /// What happened to fills, with the late marks of the history.
     pub tracker: FillTracker,
     /// The last fill of each interval.
-    pub sets: FilledSets,
+    pub sets: LastFills,
 }
 
 /// What a head makes.
 fn of_head(alloc: Global, head: Head) -> Result<PartialArchive, AllocError>
     requires { IsArchiveEntry (entries.Head head.tables head.mdb) }
-    ensures made { IfOk result (λ made. filled_made made ≡ filled_archive head [] no_fillings) }
-    ensures tables { IfOk result (λ made. HasTables (Some made)) }
+    ensures made { IfOk result (λ made. filled_made made ≡ filled_archive head format_1_exponent [] no_fillings) }
+    ensures tables { IfOk result (λ made. IsReadHistory (Some made)) }
     ensures marks { IfOk result (λ made. HasMarks (Some made)) }
+    ensures fills { IfOk result (λ made. made.tracker.fills ≡ []) }
 {
     let history = History::new(alloc, head.tables.as_slice().len(), Exponent::of_format_1())?;
     let tracker = FillTracker::new(alloc);
-    let sets = FilledSets::new(alloc);
+    let sets = LastFills::new(alloc);
     Ok(PartialArchive {
         head,
         history,
@@ -70,9 +71,8 @@ fn of_head(alloc: Global, head: Head) -> Result<PartialArchive, AllocError>
 
 /// Whether the tables and packet names of rows are there.
 fn are_placed(head: &Head, rows: &[Row]) -> bool
-    ensures yes { result ≡ true → AllByRecursion (IsPlaced head.now) rows.now }
-    ensures octets { result ≡ true → AllByRecursion (λ row. IsOctets row.packet) rows.now }
-    ensures no { result ≡ false → AllByRecursion (IsPlaced head.now) rows.now → ⊥ }
+    ensures placed { IsTrue result ↔ AllByRecursion (IsPlaced head.now) rows.now }
+    ensures octets { IsTrue result → AllByRecursion (λ row. IsOctets row.packet) rows.now }
 {
     let tables = head.tables.as_slice().len();
     let names = head.mdb.containers();
@@ -90,10 +90,11 @@ fn admit(made: &mut PartialArchive, rows: Rows) -> Result<bool, AllocError>
     requires entry { IsArchiveEntry (entries.Rows rows) }
     requires tables { IsHistoryOf made.old.head made.old.history }
     requires marks { HasMarks (Some made.old) }
-    ensures yes { IfOk result (λ ok. ok ≡ true → AreAdmitted (archive made.old.head made.old.history.items) rows
+    ensures yes { IfOk result (λ ok. ok ≡ true → AreAdmitted (plain_made made.old) rows
         × (made.new.history.items ≡ made.old.history.items ++ rows)) }
-    ensures no { IfOk result (λ ok. ok ≡ false → AreAdmitted (archive made.old.head made.old.history.items) rows → ⊥) }
+    ensures no { IfOk result (λ ok. ok ≡ false → AreAdmitted (plain_made made.old) rows → ⊥) }
     ensures head { (made.new.head ≡ made.old.head) × (made.new.sets.filled ≡ made.old.sets.filled) }
+    ensures fills { made.new.tracker.fills ≡ made.old.tracker.fills }
     ensures tables { (made.new.history.tables ≡ made.old.history.tables)
         × (made.new.history.exponent ≡ made.old.history.exponent) }
     ensures marks { IfOk result (λ ok. ok ≡ true → HasMarks (Some made.new)) }
@@ -115,9 +116,8 @@ fn admit(made: &mut PartialArchive, rows: Rows) -> Result<bool, AllocError>
 /// Whether a fill of an interval over the first `base` items may be there: the history has these, and the interval a row.
 fn may_fill(made: &PartialArchive, interval: Interval, base: u64) -> bool
     requires { HasMarks (Some made.now) }
-    ensures yes { result ≡ true → IsStoredBase 22 interval base made.now.history.items }
-    ensures no { result ≡ false → IsStoredBase 22 interval base made.now.history.items → ⊥ }
-    ensures rows { result ≡ true → has_rows made.now.tracker.marks interval ≡ true }
+    ensures based { IsTrue result ↔ IsStoredBase made.now.history.exponent interval base made.now.history.items }
+    ensures rows { IsTrue result → IsTrue (has_rows made.now.tracker.marks interval) }
 {
     let count = made.history.len() as u64;
     if base > count {
@@ -155,8 +155,7 @@ fn read_set(
     octets: Octets,
     head: &Head,
 ) -> Result<Option<SegSet>, AllocError>
-    requires { exponent ≡ 22 }
-    ensures { IfOk result (IsSetRead head.now interval octets) }
+    ensures { IfOk result (IsSetRead head.now exponent interval octets) }
 {
     match SegSet::from_octets(alloc, interval, exponent, octets, &head.mdb) {
         Ok(set) => Ok(Some(set)),
@@ -174,10 +173,10 @@ fn admit_fill(
     octets: Octets,
 ) -> Result<bool, AllocError>
     requires entry { IsArchiveEntry (entries.Fill interval base octets) }
-    requires tables { HasTables (Some made.old) }
     requires marks { HasMarks (Some made.old) }
     ensures yes { IfOk result (λ ok. ok ≡ true →
-        Applies (Some (filled_made made.old)) (entries.Fill interval base octets) (filled_made made.new)) }
+        Applies (Some (filled_made made.old)) (entries.Fill interval base octets) (filled_made made.new)
+        × (made.new.tracker.fills ≡ made.old.tracker.fills ++ noted.Done interval base ∷ [])) }
     ensures no { IfOk result (λ ok. ok ≡ false → IsFillable (filled_made made.old) interval base octets → ⊥) }
     ensures rest { (made.new.head ≡ made.old.head) × (made.new.history ≡ made.old.history) }
     ensures marks { IfOk result (λ ok. ok ≡ true → HasMarks (Some made.new)) }
@@ -203,13 +202,14 @@ fn take_fill(
     octets: Octets,
 ) -> Result<bool, AllocError>
     requires entry { IsArchiveEntry (entries.Fill interval base octets) }
-    requires tables { HasTables made.old }
+    requires tables { IsReadHistory made.old }
     requires marks { HasMarks made.old }
     ensures yes { IfOk result (λ ok. ok ≡ true → (after : FilledArchive) × (archive_made made.new ≡ Some after)
-        × Applies (archive_made made.old) (entries.Fill interval base octets) after) }
+        × Applies (archive_made made.old) (entries.Fill interval base octets) after
+        × (fills_made made.new ≡ fills_made made.old ++ noted.Done interval base ∷ [])) }
     ensures no { IfOk result (λ ok. ok ≡ false → (after : FilledArchive) →
         Applies (archive_made made.old) (entries.Fill interval base octets) after → ⊥) }
-    ensures tables { HasTables made.new }
+    ensures tables { IsReadHistory made.new }
     ensures marks { IfOk result (λ ok. ok ≡ true → HasMarks made.new) }
 {
     match made {
@@ -224,13 +224,14 @@ fn take_in(
     made: &mut Option<PartialArchive>,
     body: &Octets,
 ) -> Result<bool, AllocError>
-    requires tables { HasTables made.old }
+    requires tables { IsReadHistory made.old }
     requires marks { HasMarks made.old }
     ensures yes { IfOk result (λ ok. ok ≡ true → (entry : AnEntry) × (body.now ≡ entry_octets entry)
         × (after : FilledArchive) × (archive_made made.new ≡ Some after)
-        × Applies (archive_made made.old) entry after) }
+        × Applies (archive_made made.old) entry after
+        × (fills_made made.new ≡ fills_made made.old ++ dones_of (entry ∷ []))) }
     ensures no { IfOk result (λ ok. ok ≡ false → Breaks (archive_made made.old) body.now) }
-    ensures tables { HasTables made.new }
+    ensures tables { IsReadHistory made.new }
     ensures marks { IfOk result (λ ok. ok ≡ true → HasMarks made.new) }
 {
     match read_shared(alloc, body) {

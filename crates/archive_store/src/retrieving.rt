@@ -43,7 +43,7 @@ fn parts_of<D: Disk>(
     store: &Store<D>,
     intervals: &[Interval],
 ) -> Result<Parts, AllocError>
-    requires { AllByRecursion (λ i. IsSome (last_in 22 i store.now.history)) intervals.now }
+    requires { AllByRecursion (λ i. IsSome (last_in store.now.exponent i store.now.history)) intervals.now }
     ensures each { IfOk result (λ parts. AllByRecursion (IsPlanPart store.now) parts) }
     ensures intervals { IfOk result (λ parts. plan_intervals parts ≡ intervals.now) }
 {
@@ -63,9 +63,9 @@ impl<D: Disk> Store<D> {
     fn range_intervals(&self, alloc: Global, request: &Request) -> Result<Vec<Interval>, AllocError>
         ensures rising { IfOk result (λ intervals. IntervalsRise intervals.items) }
         ensures meets { IfOk result (λ intervals. AllByRecursion
-            (IsRangeInterval self.now.history request.now.from request.now.to) intervals.items) }
+            (IsRangeInterval self.now.exponent self.now.history request.now.from request.now.to) intervals.items) }
         ensures cover { IfOk result (λ intervals. request.now.from <ℤ request.now.to →
-            CoverRange 22 intervals.items request.now.from request.now.to self.now.history) }
+            CoverRange self.now.exponent intervals.items request.now.from request.now.to self.now.history) }
     {
         if request.from >= request.to {
             return Ok(Vec::new(alloc));
@@ -81,7 +81,7 @@ impl<D: Disk> Store<D> {
 
     /// What a plan has of an interval that has rows of table `tm`: its set, where it isn't late, else its rows.
     fn part_of(&self, alloc: Global, interval: Interval) -> Result<Part, AllocError>
-        requires { IsSome (last_in 22 interval self.now.history) }
+        requires { IsSome (last_in self.now.exponent interval self.now.history) }
         ensures part { IfOk result (IsPlanPart self.now) }
         ensures interval { IfOk result (λ part. part_interval part ≡ interval.0) }
     {
@@ -101,19 +101,22 @@ impl<D: Disk> Store<D> {
         mdb: Arc<Mdb, Global>,
     ) -> Result<Plan, AllocError>
         requires { arc_value mdb ≡ self.now.head.mdb }
-        ensures { IfOk result (IsPlan self.now request.now.from request.now.to) }
+        ensures planned { IfOk result (IsPlan self.now request.now.from request.now.to) }
+        ensures over { IsTrue D.device.is_transparent → IsSoundImage (D.device.reads self.now.opened) →
+            IfOk result (IsPlanOver self.now.head self.now.history request.now.from request.now.to) }
     {
         let intervals = self.range_intervals(alloc, request)?;
         let parts = parts_of(alloc, self, intervals.as_slice())?;
         Ok(Plan {
             front: self.front(),
+            exponent: self.exponent(),
             mdb,
             parts,
         })
     }
 
     /// What a retrieval reads: the sets of the intervals that its range meets, and the rows of those that are late. The
-    /// request was found in the database in force. The one error is want of memory.
+    /// request was found in the database in force, which the plan shares. The one error is want of memory.
     pub fn plan(&mut self, alloc: Global, found: &FoundRequest) -> Result<Plan, AllocError>
         requires in_force { arc_value found.now.mdb ≡ self.old.head.mdb }
         ensures planned { IfOk result (IsPlan self.old found.now.request.from found.now.request.to) }
@@ -127,18 +130,11 @@ impl<D: Disk> Store<D> {
 
         // Rows are left to extract of late intervals that meet the range alone.
         ensures steps { IfOk result (λ plan. length (rows_of_parts plan.parts) ≤ length (late_rows_of_range
-            self.old.history self.old.fills found.now.request.from found.now.request.to)) }
+            self.old.exponent self.old.history self.old.fills found.now.request.from found.now.request.to)) }
         ensures same { self.new ≡ self.old }
     {
-        let mdb = Arc::try_clone(&self.mdb)?;
+        let mdb = Arc::try_clone(&found.mdb)?;
         self.planned(alloc, &found.request, mdb)
-    }
-
-    /// The head's database, shared. The one error is want of memory.
-    pub fn shared_mdb(&self) -> Result<Arc<Mdb, Global>, AllocError>
-        ensures { IfOk result (λ mdb. arc_value mdb ≡ self.now.head.mdb) }
-    {
-        Arc::try_clone(&self.mdb)
     }
 
     /// The packet names, in the order of their numbers.

@@ -29,7 +29,7 @@ use std::alloc::{AllocError, Global};
 use std::marker::Model;
 use std::snapshot::Snapshot;
 use std::sync::Arc;
-use store_fills::FilledSets;
+use store_fills::LastFills;
 
 /// An archive on a disk, and its history in memory.
 #[derive(Drop)]
@@ -44,29 +44,29 @@ pub struct Store<D: Disk> {
     /// What happened to fills, with the late marks of the history.
     pub(crate) tracker: FillTracker,
     /// The last fill of each interval.
-    pub(crate) sets: FilledSets,
+    pub(crate) sets: LastFills,
     /// The disk's count of faults at the first failed write that isn't healed.
     pub(crate) pending_fault: Option<u64>,
 }
 
 impl<D: Disk> Model for Store<D> {
-    ghost use Rattle.std.specs.Prelude.{◌≡◌};
+    ghost use Rattle.std.specs.Prelude.{◌≡◌, length};
     ghost use Rattle.std.specs.Arc.{arc_value};
     ghost use Rattle.fill_tracker.specs.FillTracker.{AreMarksOf};
     ghost use Rattle.archive_store.specs.StoreView.{StoreView};
-    ghost use Rattle.archive_store.specs.Inside.{view_of, HoldsFills, IsHistoryOf, StoreInvariant};
+    ghost use Rattle.archive_store.specs.Inside.{view_of, HoldsFills, StoreInvariant};
 
     ghost Value = { StoreView D };
 
-    ghost view = { λ s. view_of s.disk s.opened.value s.journal s.head s.history.items s.tracker.fills
-        s.sets.filled };
+    ghost view = { λ s. view_of s.disk s.opened.value s.journal s.head s.history.exponent s.history.items
+        s.tracker.fills s.sets.filled };
 
     ghost invariant = { λ s.
-        StoreInvariant D.device s.disk s.opened.value s.journal s.head s.history.items s.tracker.fills s.sets.filled
-        s.pending_fault
-        × IsHistoryOf s.head s.history × (arc_value s.mdb ≡ s.head.mdb)
-        × AreMarksOf 22 s.history.items s.tracker.fills s.tracker.marks
-        × HoldsFills s.head s.tracker.fills s.sets.filled };
+        StoreInvariant D.device s.disk s.opened.value s.journal s.head s.history.exponent s.history.items
+        s.tracker.fills s.sets.filled s.pending_fault
+        × (s.history.tables ≡ length s.head.tables) × (arc_value s.mdb ≡ s.head.mdb)
+        × AreMarksOf s.history.exponent s.history.items s.tracker.fills s.tracker.marks
+        × HoldsFills s.head s.history.exponent s.tracker.fills s.sets.filled };
 }
 
 /// A record with this head.
@@ -123,7 +123,7 @@ fn prepare_new(alloc: Global, head: Head) -> Result<NewArchive, AllocError>
 impl<D: Disk> Store<D> {
     ghost use Rattle.intervals.specs.declared.interval.Interval.{Interval as AnInterval};
     ghost use Rattle.history_items.specs.Fills.{base_in, pending_fault_of};
-    ghost use Rattle.store_fills.specs.FilledSets.{fillings_in};
+    ghost use Rattle.store_fills.specs.LastFills.{fillings_in};
     ghost use Rattle.store_fills.specs.Sound.{base_of_filling};
     ghost use Rattle.archive_store.specs.Entries.{IsSoundArchive};
     ghost use Rattle.archive_store.specs.Stands.{IsSoundImage};
@@ -165,7 +165,7 @@ impl<D: Disk> Store<D> {
             Ok(journal) => {
                 let opened = Snapshot::of(&disk);
                 let tracker = FillTracker::new(alloc);
-                let sets = FilledSets::new(alloc);
+                let sets = LastFills::new(alloc);
                 Ok(Store {
                     disk,
                     opened,
@@ -254,7 +254,7 @@ impl<D: Disk> Store<D> {
     /// The length of the history.
     pub fn front(&self) -> u64
         ensures front { result ≡ length self.now.history }
-        ensures history { IsHistory (rows_in self.now.history) × IsWithin 22 self.now.history }
+        ensures history { IsHistory (rows_in self.now.history) × IsWithin self.now.exponent self.now.history }
         ensures rows { AllByRecursion (IsArchivedRow self.now.head) (rows_in self.now.history) }
         ensures images { IsTrue D.device.is_transparent → CrashInvariant D.device self.now }
         ensures faults { FaultInvariant D.device self.now }
@@ -286,6 +286,13 @@ impl<D: Disk> Store<D> {
         ensures sound { IsArchiveEntry (entries.Head self.now.head.tables self.now.head.mdb) }
     {
         &self.head
+    }
+
+    /// The exponent of the archive's intervals. Takes no memory.
+    pub fn exponent(&self) -> Exponent
+        ensures { result ≡ self.now.exponent }
+    {
+        self.history.exponent()
     }
 }
 

@@ -20,7 +20,7 @@ use Rattle.interval_walks.specs.Turns.{IntervalsRise}
 use Rattle.interval_walks.proofs.Counts.{as_many, intervals_apart, interval_there}
 use Rattle.store_fills.specs.Sound.{base_of_filling}
 use Rattle.archive_store.specs.Entries.{FilledArchive}
-use Rattle.archive_verify.specs.Verified.{is_late_in_archive, late_in_archive}
+use Rattle.archive_store.specs.LateFills.{is_late_in_archive, late_in_archive}
 
 -- ---- rising intervals are apart
 
@@ -79,35 +79,35 @@ counted_stands ex i history h = go (stands_from ex i history [] h)
 
 -- ---- the intervals of a store
 
-pub last_stands : (i : Interval) (history : List Item) → IsSome (last_in 22 i history) → (p : ℕ) × StandsIn 22 i p history
-last_stands i history some = go (last_in 22 i history) (last_is_greatest 22 i history) some
+pub last_stands : (ex : ℕ) (i : Interval) (history : List Item) → IsSome (last_in ex i history) → (p : ℕ) × StandsIn ex i p history
+last_stands ex i history some = go (last_in ex i history) (last_is_greatest ex i history) some
   where
-    go : (o : Option ℕ) → IsLastIn 22 i history o → IsSome o → (p : ℕ) × StandsIn 22 i p history
+    go : (o : Option ℕ) → IsLastIn ex i history o → IsSome o → (p : ℕ) × StandsIn ex i p history
     go None never some = absurd cc
     go (Some last) row some = (last, row.0)
 
-among_has : (i : Interval) (history : List Item) (is : List Interval) → AllByRecursion (λ j. IsSome (last_in 22 j history)) is → list_any (is_same i) is ≡ true → IsSome (last_in 22 i history)
-among_has i history [] all h = absurd (true≢false (sym h))
-among_has i history (j ∷ is) all h = go (is_same i j) refl (among_has i history is all.1) h
+among_has : (ex : ℕ) (i : Interval) (history : List Item) (is : List Interval) → AllByRecursion (λ j. IsSome (last_in ex j history)) is → list_any (is_same i) is ≡ true → IsSome (last_in ex i history)
+among_has ex i history [] all h = absurd (true≢false (sym h))
+among_has ex i history (j ∷ is) all h = go (is_same i j) refl (among_has ex i history is all.1) h
   where
-    go : (b : Bool) → is_same i j ≡ b → (list_any (is_same i) is ≡ true → IsSome (last_in 22 i history)) → (b || list_any (is_same i) is) ≡ true → IsSome (last_in 22 i history)
-    go true e later h = subst (λ (k : Interval). IsSome (last_in 22 k history)) (sym (same_interval i j e)) all.0
-    go false e later h = later h
+    go : (b : Bool) → is_same i j ≡ b → (list_any (is_same i) is ≡ true → IsSome (last_in ex i history)) → (b || list_any (is_same i) is) ≡ true → IsSome (last_in ex i history)
+    go true same later h = subst (λ (k : Interval). IsSome (last_in ex k history)) (sym (same_interval i j same)) all.0
+    go false same later h = later h
 
 both_true : (a b : Bool) → (a ≡ true → b ≡ true) → (b ≡ true → a ≡ true) → a ≡ b
 both_true true b to from = sym (to refl)
 both_true false true to from = from refl
 both_true false false to from = refl
 
-module _ (history : List Item) (is : List Interval) (rise : IntervalsRise is) (rows : AllByRecursion (λ i. IsSome (last_in 22 i history)) is)
-    (cover : (i : Interval) (p : ℕ) → StandsIn 22 i p history → list_any (is_same i) is ≡ true) where
-  same_members : (i : Interval) → list_any (is_same i) is ≡ list_any (is_same i) (intervals_in 22 history)
-  same_members i = both_true (list_any (is_same i) is) (list_any (is_same i) (intervals_in 22 history))
-      (λ there. let stands = last_stands i history (among_has i history is rows there) in interval_there 22 i stands.0 history stands.1)
-      (λ counted. let stands = counted_stands 22 i history counted in cover i stands.0 stands.1)
+module _ (ex : ℕ) (history : List Item) (is : List Interval) (rise : IntervalsRise is) (rows : AllByRecursion (λ i. IsSome (last_in ex i history)) is)
+    (cover : (i : Interval) (p : ℕ) → StandsIn ex i p history → list_any (is_same i) is ≡ true) where
+  same_members : (i : Interval) → list_any (is_same i) is ≡ list_any (is_same i) (intervals_in ex history)
+  same_members i = both_true (list_any (is_same i) is) (list_any (is_same i) (intervals_in ex history))
+      (λ there. let stands = last_stands ex i history (among_has ex i history is rows there) in interval_there ex i stands.0 history stands.1)
+      (λ counted. let stands = counted_stands ex i history counted in cover i stands.0 stands.1)
 
-  pub as_many_intervals : length is ≡ length (intervals_in 22 history)
-  as_many_intervals = as_many is (intervals_in 22 history) (rising_apart is rise) (intervals_apart 22 history) same_members
+  pub as_many_intervals : length is ≡ length (intervals_in ex history)
+  as_many_intervals = as_many is (intervals_in ex history) (rising_apart is rise) (intervals_apart ex history) same_members
 
   -- ---- those that pass a test
 
@@ -142,9 +142,9 @@ module _ (history : List Item) (is : List Interval) (rise : IntervalsRise is) (r
         go true rest = (alone, rest)
         go false rest = rest
 
-    pub as_many_passed : length (filter test is) ≡ length (filter test (intervals_in 22 history))
-    as_many_passed = as_many (filter test is) (filter test (intervals_in 22 history)) (apart_passed is (rising_apart is rise)) (apart_passed (intervals_in 22 history) (intervals_apart 22 history))
-        (λ i. any_passed i is ∙ ap (λ (b : Bool). test i && b) (same_members i) ∙ sym (any_passed i (intervals_in 22 history)))
+    pub as_many_passed : length (filter test is) ≡ length (filter test (intervals_in ex history))
+    as_many_passed = as_many (filter test is) (filter test (intervals_in ex history)) (apart_passed is (rising_apart is rise)) (apart_passed (intervals_in ex history) (intervals_apart ex history))
+        (λ i. any_passed i is ∙ ap (λ (b : Bool). test i && b) (same_members i) ∙ sym (any_passed i (intervals_in ex history)))
 
 -- ---- late by the fills of an archive
 
@@ -152,10 +152,10 @@ same_filter : (p q : Interval → Bool) (l : List Interval) → ((i : Interval) 
 same_filter p q [] same = refl
 same_filter p q (i ∷ l) same = ap (λ (b : Bool). cond b (i ∷ filter p l) (filter p l)) (same i) ∙ ap (λ (rest : List Interval). cond (q i) (i ∷ rest) rest) (same_filter p q l same)
 
-pub late_by_bases : (filled : FilledArchive) (fills : List Fill) → ((i : Interval) → base_in i fills ≡ base_of_filling filled.fillings i) → late_intervals 22 filled.plain.history fills ≡ late_in_archive filled
+pub late_by_bases : (filled : FilledArchive) (fills : List Fill) → ((i : Interval) → base_in i fills ≡ base_of_filling filled.fillings i) → late_intervals filled.plain.exponent filled.plain.history fills ≡ late_in_archive filled
 late_by_bases filled fills bases =
-    same_filter (λ i. is_late_in 22 i filled.plain.history fills) (is_late_in_archive filled) (intervals_in 22 filled.plain.history)
-    (λ i. ap (λ (base : Option ℕ). option_map_or (λ last. is_late_by last base) (last_in 22 i filled.plain.history) false) (bases i))
+    same_filter (λ i. is_late_in filled.plain.exponent i filled.plain.history fills) (is_late_in_archive filled) (intervals_in filled.plain.exponent filled.plain.history)
+    (λ i. ap (λ (base : Option ℕ). option_map_or (λ last. is_late_by last base) (last_in filled.plain.exponent i filled.plain.history) false) (bases i))
 
 -- ---- intervals one after the other
 
@@ -181,7 +181,7 @@ pub passed_more : (test : Interval → Bool) (n : ℕ) (is : List Interval) (x :
 passed_more test n is x at = ap (λ (k : ℕ). length (filter test (take k is))) (add-one n) ∙ passed_next test n is x at
 
 -- what tells that an interval is late is the test by its last row
-pub late_told : (told : Bool) (i : Interval) (history : List Item) (fills : List Fill) → (told ≡ true) ↔ IsLate 22 i history fills → is_late_in 22 i history fills ≡ told
-late_told told i history fills says =
-    let last = late_by_last 22 i history fills in
-    both_true (is_late_in 22 i history fills) told (λ e. says.1 (last.0 e)) (λ e. last.1 (says.0 e))
+pub late_told : (ex : ℕ) (told : Bool) (i : Interval) (history : List Item) (fills : List Fill) → (told ≡ true) ↔ IsLate ex i history fills → is_late_in ex i history fills ≡ told
+late_told ex told i history fills says =
+    let last = late_by_last ex i history fills in
+    both_true (is_late_in ex i history fills) told (λ late. says.1 (last.0 late)) (λ is. last.1 (says.0 is))

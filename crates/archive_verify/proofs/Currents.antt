@@ -14,7 +14,7 @@ use Rattle.interval_walks.specs.Turns.{IntervalsRise}
 use Rattle.param_segments.specs.Cells.{set_cells}
 use Rattle.param_segments.specs.Rows.{SetRow}
 use Rattle.store_fills.specs.Sound.{Filling, base_of_filling}
-use Rattle.store_fills.specs.FilledSets.{fill_over, fillings_in}
+use Rattle.store_fills.specs.LastFills.{fill_over, fillings_in}
 use Rattle.archive_store.specs.Entries.{FilledArchive}
 use Rattle.archive_store.specs.StoreView.{StoreView, filled_of}
 use Rattle.archive_store.specs.CurrentSets.{IsCurrentSet}
@@ -40,13 +40,13 @@ one_fill filled i f g is other = some_is f g (sym is.there ∙ other.there)
 pub current_of : {D : Type 0} (store : StoreView D) (i : Interval) (set : List SetRow) → ((j : Interval) → base_in j store.fills ≡ base_of_filling (fillings_in store.filled) j) → (is : IsCurrentSet store i set) → IsCurrentFill (filled_of store) i (fill_over is.base set)
 current_of store i set bases is = record {
   there = is.filled;
-  current = none_since 22 i is.base store.history store.fills (bases i ∙ ap (λ (o : Option (Filling (List SetRow))). base_of_filling (λ _. o) i) is.filled) is.current;
+  current = none_since store.exponent i is.base store.history store.fills (bases i ∙ ap (λ (o : Option (Filling (List SetRow))). base_of_filling (λ _. o) i) is.filled) is.current;
 }
 
 -- where no set is told of an interval, no fill stands for it
-pub none_current : {D : Type 0} (store : StoreView D) (i : Interval) → ((j : Interval) → base_in j store.fills ≡ base_of_filling (fillings_in store.filled) j) → IsLate 22 i store.history store.fills ⊎ (fillings_in store.filled i ≡ None) → HoldsWhereCurrent (filled_of store) i
+pub none_current : {D : Type 0} (store : StoreView D) (i : Interval) → ((j : Interval) → base_in j store.fills ≡ base_of_filling (fillings_in store.filled) j) → IsLate store.exponent i store.history store.fills ⊎ (fillings_in store.filled i ≡ None) → HoldsWhereCurrent (filled_of store) i
 none_current store i bases (inl late) f is =
-    absurd (punctual 22 i f.base store.history store.fills (bases i ∙ ap (λ (o : Option (Filling (List SetRow))). base_of_filling (λ _. o) i) is.there) is.current late)
+    absurd (punctual store.exponent i f.base store.history store.fills (bases i ∙ ap (λ (o : Option (Filling (List SetRow))). base_of_filling (λ _. o) i) is.there) is.current late)
 none_current store i bases (inr none) f is = absurd (let both : None ≡ Some f = sym none ∙ is.there in cc)
 
 -- a difference of the current set from the one that an interval's rows give is a mismatch

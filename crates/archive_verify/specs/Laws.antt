@@ -9,7 +9,8 @@ use Rattle.store_fills.specs.Sound.{base_of_filling}
 use Rattle.archive_store.specs.Entries.{FilledArchive}
 use Rattle.archive_store.specs.Stands.{IsSoundImage, StandsFilled}
 use Rattle.archive_verify.specs.declared.compared_sets.SetDifference.{SetDifference}
-use Rattle.archive_verify.specs.Verified.{HoldCurrentFills, IsFirstMismatch, late_in_archive}
+use Rattle.archive_verify.specs.Verified.{HoldCurrentFills, IsFirstMismatch}
+use Rattle.archive_store.specs.LateFills.{late_in_archive}
 
 -- an archive with a mismatch isn't sound
 abbrev pub MismatchIsUnsound : Type 0
@@ -30,4 +31,4 @@ SoundImageHoldsRows = (image : Image) (filled : FilledArchive) → StandsFilled 
 abbrev pub LateByFillings : Type 0
 LateByFillings = (filled : FilledArchive) (fills : List Fill) →
     ((i : Interval) → base_in i fills ≡ base_of_filling filled.fillings i) →
-    late_intervals 22 filled.plain.history fills ≡ late_in_archive filled
+    late_intervals filled.plain.exponent filled.plain.history fills ≡ late_in_archive filled

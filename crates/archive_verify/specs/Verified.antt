@@ -1,8 +1,7 @@
 -- Whether what an archive keeps of its intervals is what their rows give. Of an archive with its fills, as a disk
 -- stands for one.
-use Rattle.std.specs.Prelude.{◌≡◌, ℕ, ◌<◌, ◌<ℤ◌, Bool, true, false, List, length, map, filter, slice_get, Some}
+use Rattle.std.specs.Prelude.{◌≡◌, ℕ, ◌<◌, ◌<ℤ◌, true, List, length, map, slice_get, Some}
 use Rattle.std.specs.List.{filter_map, list_any}
-use Rattle.std.specs.Option.{option_map_or}
 use Rattle.arch_types.specs.declared.cell.Cell.{Cell}
 use Rattle.intervals.specs.declared.interval.Interval.{Interval}
 use Rattle.refusals.specs.declared.refusal.Refusal.{Refusal}
@@ -10,14 +9,12 @@ use Rattle.refusals.specs.declared.refusal.Refusal.TheVariants.{Mismatch, OutOfM
 use Rattle.mdb_items.specs.Database.{Database}
 use Rattle.container_extract.specs.Extraction.{cell_of}
 use Rattle.history_items.specs.Fills.{is_same}
-use Rattle.history_items.specs.Late.{last_in}
-use Rattle.late_marks.specs.Mark.{is_late_by}
 use Rattle.interval_fills.specs.Intervals.{NoRowSince, rows_of_interval}
 use Rattle.interval_walks.specs.Counts.{intervals_in, late_intervals}
 use Rattle.param_segments.specs.Cells.{set_cells}
 use Rattle.param_segments.specs.Rows.{SetRow}
 use Rattle.store_fills.specs.Filled.{HoldsRows}
-use Rattle.store_fills.specs.Sound.{Filling, base_of_filling}
+use Rattle.store_fills.specs.Sound.{Filling}
 use Rattle.archive_store.specs.Entries.{FilledArchive}
 use Rattle.archive_store.specs.StoreView.{StoreView}
 use Rattle.archive_verify.specs.declared.compared_sets.SetDifference.{SetDifference}
@@ -32,19 +29,19 @@ database_in filled = filled.plain.head.mdb
 -- the cells of a parameter that an interval's rows give
 abbrev pub replayed_cells : FilledArchive → Interval → ℕ → List Cell
 replayed_cells filled interval q =
-    filter_map (cell_of (database_in filled) q) (rows_of_interval 22 interval filled.plain.history)
+    filter_map (cell_of (database_in filled) q) (rows_of_interval filled.plain.exponent interval filled.plain.history)
 
 -- ---- sound
 
 -- a fill stands for an interval: it is the interval's, and no row of the interval came at or after its base
 pub record IsCurrentFill (filled : FilledArchive) (interval : Interval) (f : Filling (List SetRow)) : Type 0 where
   pub there : filled.fillings interval ≡ Some f
-  pub current : NoRowSince 22 interval f.base filled.plain.history
+  pub current : NoRowSince filled.plain.exponent interval f.base filled.plain.history
 
 -- it holds the cells that the interval's rows give of each parameter
 abbrev pub HoldsInterval : FilledArchive → Interval → Filling (List SetRow) → Type 0
 HoldsInterval filled interval f =
-    HoldsRows (database_in filled) f.set (rows_of_interval 22 interval filled.plain.history)
+    HoldsRows (database_in filled) f.set (rows_of_interval filled.plain.exponent interval filled.plain.history)
 
 -- so does the fill that stands for an interval, if one does
 abbrev pub HoldsWhereCurrent : FilledArchive → Interval → Type 0
@@ -102,15 +99,5 @@ IsVerifyRefusal filled _ = ⊥
 -- how many rows a store has, in how many intervals rows of `tm` stand, and how many of these are late
 pub record IsCounted {D : Type 0} (store : StoreView D) (sound : Sound) : Type 0 where
   pub rows : sound.rows ≡ length store.history
-  pub intervals : sound.intervals ≡ length (intervals_in 22 store.history)
-  pub late : sound.late ≡ length (late_intervals 22 store.history store.fills)
-
--- whether an interval is late by its last row and the base of its fill
-abbrev pub is_late_in_archive : FilledArchive → Interval → Bool
-is_late_in_archive filled interval =
-    option_map_or (λ last. is_late_by last (base_of_filling filled.fillings interval))
-    (last_in 22 interval filled.plain.history) false
-
--- the late intervals of an archive
-abbrev pub late_in_archive : FilledArchive → List Interval
-late_in_archive filled = filter (is_late_in_archive filled) (intervals_in 22 filled.plain.history)
+  pub intervals : sound.intervals ≡ length (intervals_in store.exponent store.history)
+  pub late : sound.late ≡ length (late_intervals store.exponent store.history store.fills)

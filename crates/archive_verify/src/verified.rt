@@ -12,7 +12,7 @@ use arch_disk::Disk;
 use arch_types::name::Name;
 use arch_types::octets::Octets;
 use archive_store::Store;
-use intervals::{Exponent, Interval};
+use intervals::Interval;
 use mdb_model::Mdb;
 use param_segments::SegSet;
 use refusals::Refusal;
@@ -43,7 +43,7 @@ fn interval_difference<D: Disk>(
     store: &Store<D>,
     interval: Interval,
 ) -> Result<Option<SetDifference>, AllocError>
-    requires { IsSome (last_in 22 interval store.now.history) }
+    requires { IsSome (last_in store.now.exponent interval store.now.history) }
     ensures some { IfOk result (λ o. IfSome o (IsIntervalMismatch (filled_of store.now) interval)) }
     ensures none { IfOk result (λ o. IfNone o (HoldsWhereCurrent (filled_of store.now) interval)) }
 {
@@ -55,7 +55,7 @@ fn interval_difference<D: Disk>(
     let mdb = &store.head().mdb;
     mdb.is_sound();
     let rows = store.interval_rows(alloc, interval)?;
-    let replayed = SegSet::build(alloc, interval, Exponent::of_format_1(), &rows, mdb)?;
+    let replayed = SegSet::build(alloc, interval, store.exponent(), &rows, mdb)?;
     set_difference(alloc, mdb, &*stored, &replayed)
 }
 
@@ -66,7 +66,7 @@ fn first_difference_among<D: Disk>(
     intervals: &[Interval],
 ) -> Result<Option<IntervalDifference>, AllocError>
     requires rising { IntervalsRise intervals.now }
-    requires rows { AllByRecursion (λ i. IsSome (last_in 22 i store.now.history)) intervals.now }
+    requires rows { AllByRecursion (λ i. IsSome (last_in store.now.exponent i store.now.history)) intervals.now }
     ensures some { IfOk result (λ o. IfSome o (λ d. IsIntervalMismatch (filled_of store.now) d.interval d.sets
         × HoldBelow (filled_of store.now) intervals.now d.interval)) }
     ensures none { IfOk result (λ o. IfNone o (AllByRecursion (HoldsWhereCurrent (filled_of store.now)) intervals.now)) }
@@ -82,7 +82,8 @@ fn first_difference_among<D: Disk>(
 
 /// How many of these intervals are late.
 fn late_among<D: Disk>(store: &Store<D>, intervals: &[Interval]) -> u64
-    ensures { result ≡ length (filter (λ i. is_late_in 22 i store.now.history store.now.fills) intervals.now) }
+    ensures { result ≡ length (filter (λ i.
+        is_late_in store.now.exponent i store.now.history store.now.fills) intervals.now) }
 {
     let mut late = 0;
     for interval in intervals {

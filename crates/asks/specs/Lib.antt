@@ -1,3 +1,3 @@
 pub mod Names
-pub mod Directions
 pub mod Refusals
+pub mod Laws

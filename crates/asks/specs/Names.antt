@@ -5,12 +5,12 @@ use Rattle.mdb_items.specs.Database.{Database}
 use Rattle.mdb_items.specs.Texts.{Text, place_of}
 
 -- the number of the parameter that has a name, if the database has it
-abbrev pub parameter_named : Database → Text → Option ℕ
-parameter_named db name = place_of name (map (λ p. p.name) db.parameters)
+abbrev pub parameter_number : Database → Text → Option ℕ
+parameter_number db name = place_of name (map (λ p. p.name) db.parameters)
 
 -- the number of the table that has a name, if there is one
-abbrev pub table_named : List Text → Text → Option ℕ
-table_named tables name = place_of name tables
+abbrev pub table_number : List Text → Text → Option ℕ
+table_number tables name = place_of name tables
 
 -- the number of a packet name, if the database has it
 abbrev pub packet_name_number : Database → Text → Option ℕ

@@ -9,7 +9,7 @@ use Rattle.asks.specs.declared.ask.ReplayRequest.{ReplayRequest}
 use Rattle.asks.specs.declared.ask.Request.{Request}
 use Rattle.asks.specs.declared.refusal.AskRefusal.{AskRefusal}
 use Rattle.asks.specs.declared.refusal.AskRefusal.TheVariants.{UnknownParameter, BadRange, UnknownTable}
-use Rattle.asks.specs.Names.{parameter_named, table_named}
+use Rattle.asks.specs.Names.{parameter_number, table_number}
 
 -- why a range is none: it ends before it begins
 abbrev pub range_refusal : ℤ → ℤ → Option AskRefusal
@@ -18,13 +18,13 @@ range_refusal from to = if int_lt to from then Some (BadRange from to) else None
 -- why a request has no answer: the database lacks its parameter, or else its range ends before it begins
 abbrev pub request_refusal : Database → Request → Option AskRefusal
 request_refusal db request =
-    option_map_or (λ number. range_refusal request.from request.to) (parameter_named db request.parameter)
+    option_map_or (λ number. range_refusal request.from request.to) (parameter_number db request.parameter)
     (Some UnknownParameter)
 
 -- why a replay has no rows: no table has its name, or else its range ends before it begins
 abbrev pub replay_refusal : List Text → ReplayRequest → Option AskRefusal
 replay_refusal tables request =
-    option_map_or (λ table. range_refusal request.from request.to) (table_named tables request.table)
+    option_map_or (λ table. range_refusal request.from request.to) (table_number tables request.table)
     (Some (UnknownTable request.table))
 
 -- why an ask has no answer over tables and a database

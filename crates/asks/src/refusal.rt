@@ -1,7 +1,7 @@
 //! Why an ask has no answer, and the look-up of a table.
 
 ghost use Rattle.std.specs.Prelude.{◌≡◌, ◌<◌, ◌≤ℤ◌, IfNone, IfSome, length};
-ghost use Rattle.asks.specs.Names.{table_named};
+ghost use Rattle.asks.specs.Names.{table_number};
 ghost use Rattle.asks.specs.Refusals.{range_refusal};
 
 use arch_types::name::{Name, Names};
@@ -19,7 +19,7 @@ pub enum AskRefusal {
 
 /// The number of the table that has a name: its place among the names of the tables.
 pub fn table_number(tables: &Names, name: &Name) -> Option<usize>
-    ensures value { result ≡ table_named tables.now name.now }
+    ensures value { result ≡ table_number tables.now name.now }
     ensures within { IfSome result (λ number. number < length tables.now) }
 {
     for (i, table) in tables.as_slice().iter().enumerate() {

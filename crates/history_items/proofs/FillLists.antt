@@ -4,7 +4,7 @@ use Rattle.std.specs.Prelude.{fold}
 use Rattle.std.specs.Option.{option_or}
 use Rattle.std.proofs.lemmas.List.Sums.{fold-append}
 use Rattle.intervals.specs.declared.interval.Interval.{Interval}
-use Rattle.history_items.specs.declared.fills.Addition.TheVariants.{Nothing, Rows}
+use Rattle.history_items.specs.declared.fills.Addition.TheVariants as additions
 use Rattle.history_items.specs.declared.fills.Fill.{Fill}
 use Rattle.history_items.specs.declared.fills.Fill.TheVariants.{Begun, Done, Freed, Fault}
 use Rattle.history_items.specs.Items.{Item, items_of}
@@ -23,8 +23,9 @@ rows_of_faults-append [] more = refl
 rows_of_faults-append (Begun i b ∷ fills) more = rows_of_faults-append fills more
 rows_of_faults-append (Done i b ∷ fills) more = rows_of_faults-append fills more
 rows_of_faults-append (Freed i ∷ fills) more = rows_of_faults-append fills more
-rows_of_faults-append (Fault count wrote Nothing ∷ fills) more = rows_of_faults-append fills more
-rows_of_faults-append (Fault count wrote (Rows rows) ∷ fills) more = ap (λ (l : List (List Item)). items_of rows ∷ l) (rows_of_faults-append fills more)
+rows_of_faults-append (Fault count wrote additions.Nothing ∷ fills) more = rows_of_faults-append fills more
+rows_of_faults-append (Fault count wrote (additions.Fill interval base) ∷ fills) more = rows_of_faults-append fills more
+rows_of_faults-append (Fault count wrote (additions.Rows rows) ∷ fills) more = ap (λ (l : List (List Item)). items_of rows ∷ l) (rows_of_faults-append fills more)
 
 pub pending_fault_of-append : (fills more : List Fill) → pending_fault_of (fills ++ more) ≡ option_or (pending_fault_of fills) (pending_fault_of more)
 pending_fault_of-append [] more = refl
@@ -74,8 +75,9 @@ rows_of_faults-reopened [] = refl
 rows_of_faults-reopened (Begun i b ∷ fills) = rows_of_faults-reopened fills
 rows_of_faults-reopened (Done i b ∷ fills) = rows_of_faults-reopened fills
 rows_of_faults-reopened (Freed i ∷ fills) = rows_of_faults-reopened fills
-rows_of_faults-reopened (Fault count wrote Nothing ∷ fills) = rows_of_faults-reopened fills
-rows_of_faults-reopened (Fault count wrote (Rows rows) ∷ fills) = ap (λ (l : List (List Item)). items_of rows ∷ l) (rows_of_faults-reopened fills)
+rows_of_faults-reopened (Fault count wrote additions.Nothing ∷ fills) = rows_of_faults-reopened fills
+rows_of_faults-reopened (Fault count wrote (additions.Fill interval base) ∷ fills) = rows_of_faults-reopened fills
+rows_of_faults-reopened (Fault count wrote (additions.Rows rows) ∷ fills) = ap (λ (l : List (List Item)). items_of rows ∷ l) (rows_of_faults-reopened fills)
 
 pub length-reopened : (fills : List Fill) → length (reopened fills) ≡ length fills
 length-reopened [] = refl

@@ -2,7 +2,8 @@
 use Rattle.std.specs.Prelude.{◌≡◌, ℕ, ◌+◌, ◌-◌, ◌^◌, ◌<◌, ◌≤◌, slice_get, Bool, true, false, List, [], ◌∷◌, fold, map, min, Option, Some, None, if◌then◌else◌}
 use Rattle.std.specs.Ordering.{int_eq}
 use Rattle.intervals.specs.declared.interval.Interval.{Interval}
-use Rattle.history_items.specs.declared.fills.Addition.TheVariants.{Nothing, Rows}
+use Rattle.history_items.specs.declared.fills.Addition.{Addition}
+use Rattle.history_items.specs.declared.fills.Addition.TheVariants as additions
 use Rattle.history_items.specs.declared.fills.Fill.{Fill}
 use Rattle.history_items.specs.declared.fills.Fill.TheVariants.{Begun, Done, Freed, Fault}
 use Rattle.history_items.specs.Items.{Item, items_of}
@@ -62,8 +63,9 @@ rows_of_faults [] = []
 rows_of_faults (Begun i b ∷ fills) = rows_of_faults fills
 rows_of_faults (Done i b ∷ fills) = rows_of_faults fills
 rows_of_faults (Freed i ∷ fills) = rows_of_faults fills
-rows_of_faults (Fault count wrote Nothing ∷ fills) = rows_of_faults fills
-rows_of_faults (Fault count wrote (Rows rows) ∷ fills) = items_of rows ∷ rows_of_faults fills
+rows_of_faults (Fault count wrote additions.Nothing ∷ fills) = rows_of_faults fills
+rows_of_faults (Fault count wrote (additions.Rows rows) ∷ fills) = items_of rows ∷ rows_of_faults fills
+rows_of_faults (Fault count wrote (additions.Fill interval base) ∷ fills) = rows_of_faults fills
 
 -- the count of the first fault after whose failed write no reopen has succeeded
 abbrev pub pending_fault_of : List Fill → Option ℕ
@@ -74,15 +76,14 @@ pending_fault_of (Freed i ∷ fills) = pending_fault_of fills
 pending_fault_of (Fault count true unacknowledged ∷ fills) = Some count
 pending_fault_of (Fault count false unacknowledged ∷ fills) = pending_fault_of fills
 
--- the items that this fault holds: none where its call would have added no entry
-abbrev pub unacknowledged_rows : List Fill → Option (List Item)
-unacknowledged_rows [] = None
-unacknowledged_rows (Begun i b ∷ fills) = unacknowledged_rows fills
-unacknowledged_rows (Done i b ∷ fills) = unacknowledged_rows fills
-unacknowledged_rows (Freed i ∷ fills) = unacknowledged_rows fills
-unacknowledged_rows (Fault count true Nothing ∷ fills) = None
-unacknowledged_rows (Fault count true (Rows rows) ∷ fills) = Some (items_of rows)
-unacknowledged_rows (Fault count false unacknowledged ∷ fills) = unacknowledged_rows fills
+-- what that fault's call would have added
+abbrev pub unacknowledged_in : List Fill → Option Addition
+unacknowledged_in [] = None
+unacknowledged_in (Begun i b ∷ fills) = unacknowledged_in fills
+unacknowledged_in (Done i b ∷ fills) = unacknowledged_in fills
+unacknowledged_in (Freed i ∷ fills) = unacknowledged_in fills
+unacknowledged_in (Fault count true unacknowledged ∷ fills) = Some unacknowledged
+unacknowledged_in (Fault count false unacknowledged ∷ fills) = unacknowledged_in fills
 
 -- an item after a reopen that succeeded
 abbrev pub cleared : Fill → Fill

@@ -13,6 +13,8 @@ pub enum Addition {
     Nothing,
     /// Rows of a batch, in one entry.
     Rows(Rows),
+    /// A fill of the interval over the first `base` items of the history, in one entry.
+    Fill { interval: Interval, base: u64 },
 }
 
 /// An item of a fill list.

@@ -20,7 +20,7 @@ use Rattle.stream_graph.specs.Laws.{AreTablesBelow}
 use Rattle.stream_graph.proofs.ReachedTables.{tables_named}
 use Rattle.load_session.specs.Receiving.{Receiving, IsRouteOver, arrived, rows_received, tables_of_packet}
 use Rattle.load_session.specs.Batches.{arrival_from, arrivals_with, IsBatchOf}
-use Rattle.refusals.specs.declared.refusal.Which.TheVariants.{Links}
+use Rattle.refusals.specs.declared.refusal.Which.TheVariants.{Links, Tables}
 use Rattle.refusals.specs.Limits.{limit_of}
 
 -- ---- rows
@@ -78,6 +78,9 @@ pub record CanReceive (r : Receiving) : Type 0 where
   pub few : length r.head.tables ≤ 16
   pub over : IsRouteOver r.head r.route
 
+within_limit : (count most : ℕ) → count ≤ most → most ≤ 16 → count ≤ limit_of Tables
+within_limit count most few at_most = let bound : count ≤ 16 = omega (arith, few, at_most) in bound
+
 arrival_fits : (r : Receiving) (packet : List ℕ) → CanReceive r → IsPacket packet → is_idle packet ≡ false → IsArrival r.head r.moment (arrival_from r packet)
 arrival_fits r packet can whole carries =
     let there = tables_there r packet can.over in
@@ -90,7 +93,7 @@ arrival_fits r packet can whole carries =
       received = refl;
       key = refl;
       pname = packet_name_is_known r.head.mdb packet can.database;
-      few_tables = omega (arith, few, most);
+      few_tables = within_limit _ _ few most;
       tables = there.each;
     }
 

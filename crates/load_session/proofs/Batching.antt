@@ -24,7 +24,7 @@ use Rattle.history_items.specs.Outcomes.{fresh_of}
 use Rattle.history_items.proofs.Outcomes.{fresh_added, ingested-append}
 use Rattle.text_forms.specs.ClockTime.{IsClockTime}
 use Rattle.space_packet.specs.declared.dump.Why.{Why}
-use Rattle.space_packet.specs.Cut.{IsCut, IsPart}
+use Rattle.space_packet.specs.Cut.{IsCut, IsPacketRange}
 use Rattle.space_packet.specs.Rest.{why_of}
 use Rattle.space_packet.proofs.Cuts.{cut_whole}
 use Rattle.archive_store.specs.Calls.{IsIngestRefusal}
@@ -52,17 +52,17 @@ taken_none dump at r taken count received none time = record {
 
 -- one packet more
 pub taken_more : (dump : List ℕ) (start mid end : ℕ) (r : Receiving) (old new : NextBatch) → CanReceive r → old.packets < 64
-    → IsNextBatch dump start mid r old → IsPart dump mid end → new.packets ≡ old.packets + 1 → new.batch.rectime ≡ old.batch.rectime
+    → IsNextBatch dump start mid r old → IsPacketRange dump mid end → new.packets ≡ old.packets + 1 → new.batch.rectime ≡ old.batch.rectime
     → new.batch.arrivals ≡ arrivals_with r old.batch.arrivals (slice_range dump mid end) → IsNextBatch dump start end r new
-taken_more dump start mid end r old new can left t part count received grown =
+taken_more dump start mid end r old new can left t range count received grown =
     let packet = slice_range dump mid end in
     let had = t.count in
     let more = length-append t.packets (packet ∷ []) in record {
       packets = t.packets ++ packet ∷ [];
-      run = run_more dump start t.packets mid end t.run part;
+      run = run_more dump start t.packets mid end t.run range;
       count = omega (arith, had, count, more);
       few = omega (arith, had, left, more);
-      batch = batch_more r t.packets packet old.batch new.batch can (omega (arith, had, left)) part.packet t.batch received grown;
+      batch = batch_more r t.packets packet old.batch new.batch can (omega (arith, had, left)) range.packet t.batch received grown;
     }
 
 -- ---- all batches
@@ -110,7 +110,7 @@ module _ {D : Type 0} (old : StoreView D) (dump : List ℕ) (r : Receiving) wher
     so_far = [];
     cut = record { within = omega arith; joined = refl; each = All-nil IsPacket };
     few = omega arith;
-    done = record { history = refl; head = refl; opened = refl; filled = refl; fills = faults_behind old old no_fault refl; records = λ none. omega arith };
+    done = record { history = refl; head = refl; exponent = refl; opened = refl; filled = refl; fills = faults_behind old old no_fault refl; records = λ none. omega arith };
     no_fault = no_fault;
     of_packets = refl;
     of_idle = refl;
@@ -119,10 +119,10 @@ module _ {D : Type 0} (old : StoreView D) (dump : List ℕ) (r : Receiving) wher
 
   -- one batch more
   pub so_far_more : (mid new : StoreView D) (start end packets idle routed : ℕ) (taken : NextBatch) → IsSoFar old mid dump r start packets idle routed → IsNextBatch dump start end r taken
-      → new.history ≡ ingested mid.history (batch_rows taken.batch) → new.fills ≡ mid.fills → new.head ≡ mid.head → new.opened ≡ mid.opened → new.filled ≡ mid.filled
+      → new.history ≡ ingested mid.history (batch_rows taken.batch) → new.fills ≡ mid.fills → new.head ≡ mid.head → new.exponent ≡ mid.exponent → new.opened ≡ mid.opened → new.filled ≡ mid.filled
       → (fresh_of mid.history (batch_rows taken.batch) ≢ [] → new.records ≡ mid.records + 1) → (fresh_of mid.history (batch_rows taken.batch) ≡ [] → new ≡ mid)
       → IsSoFar old new dump r end (packets + taken.packets) (idle + (taken.packets - length taken.batch.arrivals)) (routed + length (batch_rows taken.batch))
-  so_far_more mid new start end packets idle routed taken s t history fills head opened filled some none =
+  so_far_more mid new start end packets idle routed taken s t history fills head exponent opened filled some none =
       let few = s.few in let rising = t.run.rising in let of_packets = s.of_packets in let of_idle = s.of_idle in let count = t.count in let arrivals = t.batch.count in
       let less = few_arrived t.packets in
       let more = length-append s.so_far t.packets in
@@ -138,6 +138,7 @@ module _ {D : Type 0} (old : StoreView D) (dump : List ℕ) (r : Receiving) wher
               ∙ sym (ingested-append old.history (rows_received r s.so_far) (rows_received r t.packets))
               ∙ ap (ingested old.history) (sym (rows-append r s.so_far t.packets));
           head = head ∙ s.done.head;
+          exponent = exponent ∙ s.done.exponent;
           opened = opened ∙ s.done.opened;
           filled = filled ∙ s.done.filled;
           fills = fills ∙ s.done.fills ∙ ap (λ (l : List Fill). old.fills ++ faults_in l) (sym fills);
@@ -198,10 +199,10 @@ module _ {D : Type 0} (old : StoreView D) (dump : List ℕ) (r : Receiving) wher
   -- a batch was refused
   stopped_at : (mid new : StoreView D) (start end packets idle routed : ℕ) (taken : NextBatch) (refusal : Refusal) (more : List (List ℕ)) (rest : List ℕ) → (s : IsSoFar old mid dump r start packets idle routed)
       → (t : IsNextBatch dump start end r taken) → IsDump dump ((s.so_far ++ t.packets) ++ more) rest → (length t.packets ≡ 64) ⊎ (more ≡ [])
-      → new.history ≡ mid.history → new.head ≡ mid.head → new.opened ≡ mid.opened → new.filled ≡ mid.filled → new.fills ≡ mid.fills ++ faults_in new.fills
+      → new.history ≡ mid.history → new.head ≡ mid.head → new.exponent ≡ mid.exponent → new.opened ≡ mid.opened → new.filled ≡ mid.filled → new.fills ≡ mid.fills ++ faults_in new.fills
       → (faults_in new.fills ≡ [] → new.records ≡ mid.records) → IsRefusedFor new (batch_rows taken.batch) refusal
       → IsStoppedAt old new dump r refusal
-  stopped_at mid new start end packets idle routed taken refusal more rest s t parts full history head opened filled fills still cause =
+  stopped_at mid new start end packets idle routed taken refusal more rest s t parts full history head exponent opened filled fills still cause =
       let a = length-append (s.so_far ++ t.packets) more in
       let b = length-append s.so_far t.packets in
       let first : take (length s.so_far) ((s.so_far ++ t.packets) ++ more) ≡ s.so_far = ap (take (length s.so_far)) (append_assoc s.so_far t.packets more) ∙ take-append_seam s.so_far (t.packets ++ more) in
@@ -216,6 +217,7 @@ module _ {D : Type 0} (old : StoreView D) (dump : List ℕ) (r : Receiving) wher
         done = record {
           history = history ∙ s.done.history ∙ ap (λ (l : List (List ℕ)). ingested old.history (rows_received r l)) (sym first);
           head = head ∙ s.done.head;
+          exponent = exponent ∙ s.done.exponent;
           opened = opened ∙ s.done.opened;
           filled = filled ∙ s.done.filled;
           fills = fills ∙ ap (λ (l : List Fill). l ++ faults_in new.fills) (fills_stay old mid s.done.fills s.no_fault);
@@ -226,25 +228,25 @@ module _ {D : Type 0} (old : StoreView D) (dump : List ℕ) (r : Receiving) wher
 
   pub so_far_refused : (mid new : StoreView D) (start end packets idle routed : ℕ) (taken : NextBatch) (refusal : Refusal) → IsSoFar old mid dump r start packets idle routed
       → IsNextBatch dump start end r taken → (taken.packets < 64 → BeginsWithNoPacket (drop end dump))
-      → new.history ≡ mid.history → new.head ≡ mid.head → new.opened ≡ mid.opened → new.filled ≡ mid.filled → new.fills ≡ mid.fills ++ faults_in new.fills
+      → new.history ≡ mid.history → new.head ≡ mid.head → new.exponent ≡ mid.exponent → new.opened ≡ mid.opened → new.filled ≡ mid.filled → new.fills ≡ mid.fills ++ faults_in new.fills
       → (faults_in new.fills ≡ [] → new.records ≡ mid.records) → IsRefusedFor new (batch_rows taken.batch) refusal
       → IsStoppedAt old new dump r refusal
-  so_far_refused mid new start end packets idle routed taken refusal s t last history head opened filled fills still cause = go (ltb taken.packets 64) refl
+  so_far_refused mid new start end packets idle routed taken refusal s t last history head exponent opened filled fills still cause = go (ltb taken.packets 64) refl
     where
       go : (b : Bool) → ltb taken.packets 64 ≡ b → IsStoppedAt old new dump r refusal
       go true less =
           let whole = cut_whole dump (s.so_far ++ t.packets) end (t.run.follows s.so_far s.cut) (last (ltb-true taken.packets 64 less)) in
           stopped_at mid new start end packets idle routed taken refusal [] (drop end dump) s t
-          (subst (λ (l : List (List ℕ)). IsDump dump l (drop end dump)) (sym (append-nil (s.so_far ++ t.packets))) whole) (inr refl) history head opened filled fills still cause
+          (subst (λ (l : List (List ℕ)). IsDump dump l (drop end dump)) (sym (append-nil (s.so_far ++ t.packets))) whole) (inr refl) history head exponent opened filled fills still cause
       go false full =
           let all = completes dump (s.so_far ++ t.packets) end (t.run.follows s.so_far s.cut) in
           let least = ltb-false taken.packets 64 full in
           let count = t.count in
           let few = t.few in
-          stopped_at mid new start end packets idle routed taken refusal all.0 all.1 s t all.2 (inl (omega (arith, least, count, few))) history head opened filled fills still cause
+          stopped_at mid new start end packets idle routed taken refusal all.0 all.1 s t all.2 (inl (omega (arith, least, count, few))) history head exponent opened filled fills still cause
 
 -- the fault of a batch is the one that the fill list holds
-one_fault : {D : Type 0} (device : Device D) (mid new : StoreView D) (rows : List Row) → faults_in mid.fills ≡ [] → (f : AddsFault device mid new (Rows rows)) → faults_in new.fills ≡ Fault f.count true (Rows rows) ∷ []
+one_fault : {D : Type 0} (device : Device D) (mid new : StoreView D) (rows : List Row) → faults_in mid.fills ≡ [] → (f : AddsFault device mid new true (Rows rows)) → faults_in new.fills ≡ Fault f.count true (Rows rows) ∷ []
 one_fault device mid new rows none f =
     ap faults_in f.fills ∙ faults_in-append mid.fills (Fault f.count true (Rows rows) ∷ []) ∙ ap (λ (l : List Fill). l ++ Fault f.count true (Rows rows) ∷ []) none
 
@@ -258,7 +260,7 @@ refused_fills device mid new rows refusal none refused =
 -- why a store refused a batch
 pub refused_for : {D : Type 0} (device : Device D) (mid new : StoreView D) (rows : List Row) (refusal : Refusal) → faults_in mid.fills ≡ [] → IsIngestRefusal device mid new rows refusal → IsRefusedFor new rows refusal
 refused_for {D = D} device mid new rows (Limit which number) none refused =
-    subst (λ (s : StoreView D). (faults_in s.fills ≡ []) × (number ≡ limit_of which) × IsLimit 22 which s.records (ingested s.history rows)) (sym refused.1) (none, refused.0.number_is, refused.0.first)
+    subst (λ (s : StoreView D). (faults_in s.fills ≡ []) × (number ≡ limit_of which) × IsLimit s.exponent which s.records (ingested s.history rows)) (sym refused.1) (none, refused.0.number_is, refused.0.first)
 refused_for device mid new rows DiskFault none refused =
     let f = refused.fault in (
       f.count,
@@ -272,8 +274,8 @@ refused_for device mid new rows other none refused = absurd refused
 
 -- a batch was refused
 pub refused_writes : {D : Type 0} (device : Device D) (old new : StoreView D) (rows : List Row) (refusal : Refusal) (before : ℕ) → device.failed_writes old.disk ≡ before
-    → (refusal ≡ DiskFault → AddsFault device old new (Rows rows)) → (refusal ≡ DiskFault) ⊎ (new ≡ old)
+    → (refusal ≡ DiskFault → AddsFault device old new true (Rows rows)) → (refusal ≡ DiskFault) ⊎ (new ≡ old)
     → ExactlyOne (Some refusal) before (device.failed_writes new.disk)
-refused_writes device old new rows DiskFault before same fault untouched = (fault refl).wrote ∙ ap raised same
+refused_writes device old new rows DiskFault before same fault untouched = (fault refl).writes ∙ ap raised same
 refused_writes device old new rows other before same fault (inl is) = absurd (cc (is))
 refused_writes {D = D} device old new rows other before same fault (inr is) = ap (λ (s : StoreView D). device.failed_writes s.disk) is ∙ same

@@ -18,6 +18,7 @@ use Rattle.history_items.specs.Outcomes.{fresh_of}
 use Rattle.history_items.proofs.Outcomes.{fresh_added, length-ingested}
 use Rattle.history_items.specs.Items.{Item}
 use Rattle.archive_store.specs.StoreView.{StoreView, FaultInvariant}
+use Rattle.archive_store.specs.Limits.{IsLimit}
 use Rattle.load_session.specs.declared.batches.DumpSummary.{DumpSummary}
 use Rattle.load_session.specs.Receiving.{Receiving, rows_received}
 use Rattle.load_session.specs.Batches.{ExactlyOne, IsIngested, IsStoppedAt}
@@ -69,7 +70,7 @@ module _ {D : Type 0} (device : Device D) (old new : StoreView D) (dump : List �
           ∙ ap (λ (l : List (List ℕ)). ingested old.history (rows_received r l)) (sym (take_all (length i.packets) i.packets (omega arith)));
       cause = refl;
     };
-    reached = record { history = refl; head = i.done.head; opened = i.done.opened; filled = i.done.filled; fills = i.done.fills; failed_write = i.no_fault; records = i.done.records };
+    reached = record { history = refl; head = i.done.head; exponent = i.done.exponent; opened = i.done.opened; filled = i.done.filled; fills = i.done.fills; failed_write = i.no_fault; records = i.done.records };
     limit = tt;
     answer_is = refl;
     summary = record { within = i.within; rest = refl; why = i.why; of_packets = i.of_packets; of_idle = i.of_idle; of_routed = i.of_routed };
@@ -79,18 +80,18 @@ module _ {D : Type 0} (device : Device D) (old new : StoreView D) (dump : List �
   abbrev stopped_result : (refusal : Refusal) → IsStoppedAt old new dump r refusal → SessionResult
   stopped_result refusal s = record { packets = s.packets; rest = s.rest; place = s.place; reached = new.history; refusal = Some refusal }
 
-  is_stopped : (refusal : Refusal) (s : IsStoppedAt old new dump r refusal) → IsSessionEnd (λ n. n ≡ old.records) old.history r (stopped_result refusal s) (Some refusal)
-      → IsSession (λ n. n ≡ old.records) old.history dump r (stopped_result refusal s)
+  is_stopped : (refusal : Refusal) (s : IsStoppedAt old new dump r refusal) → IsSessionEnd old.exponent (λ n. n ≡ old.records) old.history r (stopped_result refusal s) (Some refusal)
+      → IsSession old.exponent (λ n. n ≡ old.records) old.history dump r (stopped_result refusal s)
   is_stopped refusal s cause = record { parts = s.parts; within = s.within; reached_is = s.done.history; cause = cause }
 
   -- and no call of the disk failed
-  still_run : (refusal : Refusal) (s : IsStoppedAt old new dump r refusal) → IsSessionEnd (λ n. n ≡ old.records) old.history r (stopped_result refusal s) (Some refusal)
+  still_run : (refusal : Refusal) (s : IsStoppedAt old new dump r refusal) → IsSessionEnd old.exponent (λ n. n ≡ old.records) old.history r (stopped_result refusal s) (Some refusal)
       → HoldsFailedWrite device new (next_fresh_rows r (stopped_result refusal s)) (Some refusal)
       → IsLimitOf new (next_rows r (stopped_result refusal s)) (Some refusal) → IsSessionRun device old new dump r (Err refusal)
   still_run refusal s cause holds limit = record {
     came_to = stopped_result refusal s;
     session = is_stopped refusal s cause;
-    reached = record { history = refl; head = s.done.head; opened = s.done.opened; filled = s.done.filled; fills = s.done.fills; failed_write = holds; records = s.done.records };
+    reached = record { history = refl; head = s.done.head; exponent = s.done.exponent; opened = s.done.opened; filled = s.done.filled; fills = s.done.fills; failed_write = holds; records = s.done.records };
     limit = limit;
     answer_is = refl;
     summary = tt;
@@ -105,6 +106,7 @@ module _ {D : Type 0} (device : Device D) (old new : StoreView D) (dump : List �
       reached = record {
         history = again.history;
         head = again.head ∙ s.done.head;
+        exponent = again.exponent ∙ s.done.exponent;
         opened = again.opened ∙ s.done.opened;
         filled = again.filled ∙ s.done.filled;
         fills = elim again.healed [
@@ -138,16 +140,19 @@ module _ {D : Type 0} (device : Device D) (old new : StoreView D) (dump : List �
         subst (λ (x : StoreView D). IsSessionRun device old x dump r (Err OutOfMemory)) (sym (same (λ e. cc))) (still_run OutOfMemory s tt s.cause tt)
     stopped_run (Limit which number) s same again =
         subst (λ (x : StoreView D). IsSessionRun device old x dump r (Err (Limit which number))) (sym (same (λ e. cc)))
-        (still_run (Limit which number) s (s.cause.1, (old.records, new.records, refl, s.done.records s.cause.0, s.cause.2)) s.cause.0 s.cause.2)
+        (still_run (Limit which number) s (s.cause.1, (old.records, new.records, refl, s.done.records s.cause.0, passed)) s.cause.0 s.cause.2)
+      where
+        passed : IsLimit old.exponent which new.records (ingested new.history (next_rows r (stopped_result (Limit which number) s)))
+        passed = subst (λ (e : ℕ). IsLimit e which new.records (ingested new.history (next_rows r (stopped_result (Limit which number) s)))) s.done.exponent s.cause.2
     stopped_run other s same again = absurd s.cause
 
 -- ---- the records at the beginning
 
 -- what a session came to, where less is said of the records at its beginning
-pub session_from : (Began Less : ℕ → Type 0) (before : List Item) (dump : List ℕ) (r : Receiving) (s : SessionResult) → ((n : ℕ) → Began n → Less n) → IsSession Began before dump r s → IsSession Less before dump r s
-session_from Began Less before dump r s says is = record { parts = is.parts; within = is.within; reached_is = is.reached_is; cause = ended s.refusal is.cause }
+pub session_from : (exponent : ℕ) (Began Less : ℕ → Type 0) (before : List Item) (dump : List ℕ) (r : Receiving) (s : SessionResult) → ((n : ℕ) → Began n → Less n) → IsSession exponent Began before dump r s → IsSession exponent Less before dump r s
+session_from exponent Began Less before dump r s says is = record { parts = is.parts; within = is.within; reached_is = is.reached_is; cause = ended s.refusal is.cause }
   where
-    ended : (refusal : Option Refusal) → IsSessionEnd Began before r s refusal → IsSessionEnd Less before r s refusal
+    ended : (refusal : Option Refusal) → IsSessionEnd exponent Began before r s refusal → IsSessionEnd exponent Less before r s refusal
     ended None e = e
     ended (Some (Limit which number)) e = (e.0, (e.1.0, e.1.1, says e.1.0 e.1.2, e.1.3, e.1.4))
     ended (Some DiskFault) e = e
@@ -156,7 +161,7 @@ session_from Began Less before dump r s says is = record { parts = is.parts; wit
 
 -- ---- the history that was reached
 
-module _ (Began : ℕ → Type 0) (before : List Item) (dump : List ℕ) (r : Receiving) (s : SessionResult) (is : IsSession Began before dump r s) where
+module _ (exponent : ℕ) (Began : ℕ → Type 0) (before : List Item) (dump : List ℕ) (r : Receiving) (s : SessionResult) (is : IsSession exponent Began before dump r s) where
   -- it only grows,
   pub session_grew : length before ≤ length s.reached
   session_grew =
@@ -168,7 +173,7 @@ module _ (Began : ℕ → Type 0) (before : List Item) (dump : List ℕ) (r : Re
   -- and by no more rows than the packets of a whole dump are
   pub session_added : s.refusal ≡ None → length s.reached ≤ length before + length (rows_received r s.packets)
   session_added whole =
-      let all : s.place ≡ length s.packets = subst (IsSessionEnd Began before r s) whole is.cause in
+      let all : s.place ≡ length s.packets = subst (IsSessionEnd exponent Began before r s) whole is.cause in
       let taken : take s.place s.packets ≡ s.packets = take_all s.place s.packets (omega (arith, all)) in
       let rows = rows_received r s.packets in
       let longer = ap length (is.reached_is ∙ ap (λ (l : List (List ℕ)). ingested before (rows_received r l)) taken) in

@@ -9,8 +9,8 @@ use Rattle.std.proofs.lemmas.List.Elements.{All-nil, All-cons, All-append}
 use Rattle.std.proofs.lemmas.List.Folds.{concat-append}
 use Rattle.arch_types.specs.Dump.{IsDump, BeginsWithNoPacket}
 use Rattle.arch_types.specs.Packet.{IsPacket, packet_length}
-use Rattle.arch_types.proofs.Parts.{part_length}
-use Rattle.space_packet.specs.Cut.{IsCut, IsPart}
+use Rattle.arch_types.proofs.Slices.{slice_length}
+use Rattle.space_packet.specs.Cut.{IsCut, IsPacketRange}
 use Rattle.space_packet.proofs.Cuts.{cut_more}
 use Rattle.load_session.specs.Batches.{IsRun}
 
@@ -124,13 +124,13 @@ run_none dump at = record {
   follows = λ before cut. subst (λ (l : List (List ℕ)). IsCut dump l at) (sym (append-nil before)) cut;
 }
 
-pub run_more : (dump : List ℕ) (start : ℕ) (packets : List (List ℕ)) (mid end : ℕ) → IsRun dump start packets mid → IsPart dump mid end → IsRun dump start (packets ++ slice_range dump mid end ∷ []) end
-run_more dump start packets mid end run part =
+pub run_more : (dump : List ℕ) (start : ℕ) (packets : List (List ℕ)) (mid end : ℕ) → IsRun dump start packets mid → IsPacketRange dump mid end → IsRun dump start (packets ++ slice_range dump mid end ∷ []) end
+run_more dump start packets mid end run range =
     let rising = run.rising in
-    let header = part.packet.header in
-    let len = part_length dump mid end part.rising part.within in
+    let header = range.packet.header in
+    let len = slice_length dump mid end range.rising range.within in
     record {
       rising = omega (arith, rising, header, len, length-append packets (slice_range dump mid end ∷ []));
       follows = λ before cut.
-          subst (λ (l : List (List ℕ)). IsCut dump l end) (append_assoc before packets (slice_range dump mid end ∷ [])) (cut_more dump (before ++ packets) mid end (run.follows before cut) part);
+          subst (λ (l : List (List ℕ)). IsCut dump l end) (append_assoc before packets (slice_range dump mid end ∷ [])) (cut_more dump (before ++ packets) mid end (run.follows before cut) range);
     }

@@ -67,6 +67,7 @@ pub record IsNextBatch (dump : List ℕ) (start end : ℕ) (r : Receiving) (take
 pub record HasIngested {D : Type 0} (old new : StoreView D) (r : Receiving) (packets : List (List ℕ)) : Type 0 where
   pub history : new.history ≡ after_rows old.history (rows_received r packets)
   pub head : new.head ≡ old.head
+  pub exponent : new.exponent ≡ old.exponent
   pub opened : new.opened ≡ old.opened
   pub filled : new.filled ≡ old.filled
   pub fills : new.fills ≡ old.fills ++ faults_in new.fills
@@ -89,7 +90,8 @@ pub record IsIngested {D : Type 0} (old new : StoreView D) (dump : List ℕ) (r 
 -- memory was wanting
 abbrev pub IsRefusedFor : {D : Type 0} → StoreView D → List Row → Refusal → Type 0
 IsRefusedFor store rows (Limit which number) =
-    (faults_in store.fills ≡ []) × (number ≡ limit_of which) × IsLimit 22 which store.records (after_rows store.history rows)
+    (faults_in store.fills ≡ []) × (number ≡ limit_of which)
+    × IsLimit store.exponent which store.records (after_rows store.history rows)
 IsRefusedFor store rows DiskFault =
     (count : ℕ) × (faults_in store.fills ≡ Fault count true (Rows (fresh_of store.history rows)) ∷ [])
 IsRefusedFor store rows OutOfMemory = faults_in store.fills ≡ []

@@ -8,6 +8,7 @@ use Rattle.archive_store.specs.StoreView.{StoreView, FaultInvariant}
 pub record IsReopened {D : Type 0} (device : Device D) (old new : StoreView D) : Type 0 where
   pub history : new.history ≡ old.history
   pub head : new.head ≡ old.head
+  pub exponent : new.exponent ≡ old.exponent
   pub opened : new.opened ≡ old.opened
   pub filled : new.filled ≡ old.filled
   pub counted : FaultInvariant device old

@@ -38,24 +38,25 @@ next_rows r s = rows_received r (batch_at s.place s.packets)
 abbrev pub next_fresh_rows : Receiving → SessionResult → List Row
 next_fresh_rows r s = fresh_of s.reached (next_rows r s)
 
--- Why a session ended: all packets were ingested; or the next batch passes a limit, the disk failed, or there was no memory. `Began` says what is known of
--- the number of the journal's records at the beginning: the records since then are no more than the rows.
-abbrev pub IsSessionEnd : (ℕ → Type 0) → List Item → Receiving → SessionResult → Option Refusal → Type 0
-IsSessionEnd Began before r s None = s.place ≡ length s.packets
-IsSessionEnd Began before r s (Some (Limit which number)) =
+-- Why a session ended: all packets were ingested; or the next batch passes a limit, by the exponent of the intervals, the disk failed, or there was no memory.
+-- `Began` says what is known of the number of the journal's records at the beginning: the records since then are no more than the rows.
+abbrev pub IsSessionEnd : ℕ → (ℕ → Type 0) → List Item → Receiving → SessionResult → Option Refusal → Type 0
+IsSessionEnd exponent Began before r s None = s.place ≡ length s.packets
+IsSessionEnd exponent Began before r s (Some (Limit which number)) =
     (number ≡ limit_of which)
     × ((began records : ℕ) × Began began × (records + length before ≤ began + length s.reached)
-    × IsLimit 22 which records (after_rows s.reached (next_rows r s)))
-IsSessionEnd Began before r s (Some DiskFault) = Unit {0}
-IsSessionEnd Began before r s (Some OutOfMemory) = Unit {0}
-IsSessionEnd Began before r s (Some other) = ⊥
+    × IsLimit exponent which records (after_rows s.reached (next_rows r s)))
+IsSessionEnd exponent Began before r s (Some DiskFault) = Unit {0}
+IsSessionEnd exponent Began before r s (Some OutOfMemory) = Unit {0}
+IsSessionEnd exponent Began before r s (Some other) = ⊥
 
--- The packets of a dump were ingested behind a history, up to where the session ended.
-pub record IsSession (Began : ℕ → Type 0) (before : List Item) (dump : List ℕ) (r : Receiving) (s : SessionResult) : Type 0 where
+-- The packets of a dump were ingested behind a history of intervals of this exponent, up to where the session ended.
+pub record IsSession (exponent : ℕ) (Began : ℕ → Type 0) (before : List Item) (dump : List ℕ) (r : Receiving)
+    (s : SessionResult) : Type 0 where
   pub parts : IsDump dump s.packets s.rest
   pub within : s.place ≤ length s.packets
   pub reached_is : s.reached ≡ after_rows before (rows_received r (take s.place s.packets))
-  pub cause : IsSessionEnd Began before r s s.refusal
+  pub cause : IsSessionEnd exponent Began before r s s.refusal
 
 -- ---- the store
 
@@ -72,6 +73,7 @@ HoldsFailedWrite device store rows other = faults_in store.fills ≡ []
 pub record HasReached {D : Type 0} (device : Device D) (old new : StoreView D) (r : Receiving) (s : SessionResult) : Type 0 where
   pub history : new.history ≡ s.reached
   pub head : new.head ≡ old.head
+  pub exponent : new.exponent ≡ old.exponent
   pub opened : new.opened ≡ old.opened
   pub filled : new.filled ≡ old.filled
   pub fills : new.fills ≡ old.fills ++ faults_in new.fills
@@ -91,13 +93,14 @@ pub record IsSummary (dump : List ℕ) (r : Receiving) (s : SessionResult) (whol
 
 -- a limit is the first that a store passes with these rows
 abbrev pub IsLimitOf : {D : Type 0} → StoreView D → List Row → Option Refusal → Type 0
-IsLimitOf store rows (Some (Limit which number)) = IsLimit 22 which store.records (after_rows store.history rows)
+IsLimitOf store rows (Some (Limit which number)) =
+    IsLimit store.exponent which store.records (after_rows store.history rows)
 IsLimitOf store rows other = Unit {0}
 
 -- A session over an open store came to this end, and is answered by its refusal, or by what the dump had.
 pub record IsSessionRun {D : Type 0} (device : Device D) (old new : StoreView D) (dump : List ℕ) (r : Receiving) (answer : Result DumpSummary Refusal) : Type 0 where
   pub came_to : SessionResult
-  pub session : IsSession (λ n. n ≡ old.records) old.history dump r came_to
+  pub session : IsSession old.exponent (λ n. n ≡ old.records) old.history dump r came_to
   pub reached : HasReached device old new r came_to
   pub limit : IsLimitOf new (next_rows r came_to) came_to.refusal
   pub answer_is : came_to.refusal ≡ result_err answer

@@ -130,10 +130,10 @@ fn next_batch(
         packets: 0,
     };
     while taken.packets < BATCH {
-        let Some(part) = places.next_packet() else {
+        let Some(range) = places.next_packet() else {
             return Ok(taken);
         };
-        let packet = dump.part(part.start, part.end)?;
+        let packet = dump.slice(range.start, range.end)?;
         taken.add(alloc, head, graph, extractor, packet, link)?;
     }
     Ok(taken)

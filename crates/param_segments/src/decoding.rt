@@ -6,7 +6,7 @@ ghost use Rattle.std.specs.List.{AllByRecursion};
 ghost use Rattle.octet_fields.specs.Spelling.{counted};
 ghost use Rattle.param_segments.specs.RowPlaces.{IsKnownSegment, are_known_parameters, places_from, places_in_segment, raw_in_row, values_in_row};
 ghost use Rattle.segment_codec.specs.Segment.{HasSegmentAt, IsSegment, most_rows, segment_octets};
-ghost use Rattle.segment_codec.specs.declared.fault.NotASegment.TheVariants.{OutOfMemory};
+ghost use Rattle.octet_fields.specs.declared.fault.DecodeError.TheVariants.{OutOfMemory};
 ghost use Rattle.segment_codec.specs.declared.segment.Segment.{Segment as ASegment};
 
 use crate::asking::are_known_parameters;

@@ -2,7 +2,7 @@
 
 use crate::set::SegSet;
 use arch_types::row::Rows;
-use intervals::Interval;
+use intervals::{Exponent, Interval};
 use item_list::Items;
 use mdb_model::Mdb;
 use std::alloc::Global;
@@ -45,6 +45,8 @@ pub type Parts = Items<Part>;
 pub struct Plan {
     /// The number of rows of the history.
     pub front: u64,
+    /// The exponent of the archive's intervals.
+    pub exponent: Exponent,
     /// The database in force.
     pub mdb: Arc<Mdb, Global>,
     pub parts: Parts,

@@ -12,7 +12,7 @@ ghost use Rattle.param_segments.specs.Octets.{rows_in_octets, set_octets};
 ghost use Rattle.param_segments.specs.RowPlaces.{IsRowPlace, placed_row};
 ghost use Rattle.param_segments.specs.Rows.{SetRow};
 ghost use Rattle.segment_codec.specs.Segment.{IsSegment};
-ghost use Rattle.segment_codec.specs.declared.fault.NotASegment.TheVariants.{OutOfMemory};
+ghost use Rattle.octet_fields.specs.declared.fault.DecodeError.TheVariants.{OutOfMemory};
 
 use crate::asking::{are_inside, are_rising, are_segments_of};
 use crate::builder::SetBuilder;

@@ -8,7 +8,7 @@ use Rattle.std.proofs.lemmas.Option.{slice_get_within}
 use Rattle.asks.specs.declared.ask.Ask.{Ask}
 use Rattle.asks.specs.declared.ask.Ask.TheVariants.{Values, Replay}
 use Rattle.asks.specs.declared.ask.Request.{Request}
-use Rattle.asks.specs.Names.{parameter_named}
+use Rattle.asks.specs.Names.{parameter_number}
 use Rattle.arch_types.specs.declared.cell.Cell.{Cell}
 use Rattle.intervals.specs.declared.interval.Interval.{Interval}
 use Rattle.history_items.specs.Items.{Item}
@@ -17,72 +17,73 @@ use Rattle.history_items.proofs.Late.{last_is_greatest}
 use Rattle.interval_fills.specs.Intervals.{rows_of_interval}
 use Rattle.late_marks.specs.Mark.{is_late_by}
 use Rattle.param_segments.specs.Rows.{SetRow}
-use Rattle.store_fills.specs.FilledSets.{fill_over}
+use Rattle.store_fills.specs.LastFills.{fill_over}
 use Rattle.store_fills.specs.Sound.{Filling, Fillings}
 use Rattle.archive_store.specs.declared.head.Head.{Head}
-use Rattle.retrieval.specs.AddedFills.{AddsWholeFills, IsWholeFill}
+use Rattle.archive_store.specs.AddedFills.{AddsWholeFills, IsWholeFill}
 use Rattle.retrieval.specs.AnswerText.{answer_lines, as_asked}
 use Rattle.retrieval.specs.AskText.{ask_text, asks_text}
-use Rattle.retrieval.specs.FilledAnswer.{cells_of_fill, cells_of_interval, filled_answer, intervals_of_range, is_late_by_fill}
+use Rattle.retrieval.specs.FilledAnswer.{cells_of_fill, cells_of_interval, filled_answer, intervals_of_range}
 use Rattle.retrieval.specs.Laws.{AddedFillsAnswerAlike}
 use Rattle.retrieval.specs.PartCells.{cells_of_rows, is_cell_in_range}
 use Rattle.retrieval.proofs.OneList.{asked_have}
 use Rattle.retrieval.proofs.OverRows.{timely_cells}
+use Rattle.archive_store.specs.LateFills.{is_late_by_fill}
 
-module _ (head : Head) (history : List Item) (old new : Fillings (List SetRow)) (adds : AddsWholeFills head history old new) where
+module _ (head : Head) (exponent : ℕ) (history : List Item) (old new : Fillings (List SetRow)) (adds : AddsWholeFills head exponent history old new) where
   module _ (q : ℕ) (low high : ℤ) where
     abbrev of_rows : Interval → List Cell
-    of_rows i = cells_of_rows head.mdb q low high (rows_of_interval 22 i history)
+    of_rows i = cells_of_rows head.mdb q low high (rows_of_interval exponent i history)
 
     -- an interval that was late, and one behind its fill
-    was_late : (fillings : Fillings (List SetRow)) (i : Interval) → is_late_by_fill history fillings i ≡ true → cells_of_interval head.mdb q low high history fillings i ≡ of_rows i
+    was_late : (fillings : Fillings (List SetRow)) (i : Interval) → is_late_by_fill exponent history fillings i ≡ true → cells_of_interval head.mdb q low high exponent history fillings i ≡ of_rows i
     was_late fillings i late = ap (λ (b : Bool). if b then of_rows i else cells_of_fill head.mdb q low high (fillings i)) late
 
-    is_punctual : (i : Interval) (o : Option ℕ) → IsLastIn 22 i history o → is_some o ≡ true → (set : List SetRow)
+    is_punctual : (i : Interval) (o : Option ℕ) → IsLastIn exponent i history o → is_some o ≡ true → (set : List SetRow)
         → option_map_or (λ last. is_late_by last (option_map (λ f. f.base) (Some (fill_over (length history) set)))) o false ≡ false
     is_punctual i None last some set = absurd (true≢false (sym some))
     is_punctual i (Some l) last some set =
         let within = slice_get_within history l last.0.row last.0.there in
         grind (arith, nat_tests, within)
 
-    whole_cells : (i : Interval) → is_some (last_in 22 i history) ≡ true → IsWholeFill head history old i (new i) → cells_of_interval head.mdb q low high history new i ≡ of_rows i
+    whole_cells : (i : Interval) → is_some (last_in exponent i history) ≡ true → IsWholeFill head exponent history old i (new i) → cells_of_interval head.mdb q low high exponent history new i ≡ of_rows i
     whole_cells i some whole =
         let set = whole.1.0 in
-        let punctual : is_late_by_fill history new i ≡ false =
-        ap (λ (f : Option (Filling (List SetRow))). option_map_or (λ last. is_late_by last (option_map (λ g. g.base) f)) (last_in 22 i history) false) whole.1.1
-        ∙ is_punctual i (last_in 22 i history) (last_is_greatest 22 i history) some set in
+        let punctual : is_late_by_fill exponent history new i ≡ false =
+        ap (λ (f : Option (Filling (List SetRow))). option_map_or (λ last. is_late_by last (option_map (λ g. g.base) f)) (last_in exponent i history) false) whole.1.1
+        ∙ is_punctual i (last_in exponent i history) (last_is_greatest exponent i history) some set in
         ap (λ (b : Bool). if b then of_rows i else cells_of_fill head.mdb q low high (new i)) punctual
         ∙ ap (cells_of_fill head.mdb q low high) whole.1.1
-        ∙ ap (filter (is_cell_in_range low high)) (whole.1.2 q) ∙ timely_cells head.mdb q low high (rows_of_interval 22 i history)
+        ∙ ap (filter (is_cell_in_range low high)) (whole.1.2 q) ∙ timely_cells head.mdb q low high (rows_of_interval exponent i history)
 
-    interval_same : (i : Interval) → is_some (last_in 22 i history) ≡ true → cells_of_interval head.mdb q low high history new i ≡ cells_of_interval head.mdb q low high history old i
+    interval_same : (i : Interval) → is_some (last_in exponent i history) ≡ true → cells_of_interval head.mdb q low high exponent history new i ≡ cells_of_interval head.mdb q low high exponent history old i
     interval_same i some = go (adds i)
       where
-        go : (new i ≡ old i) ⊎ IsWholeFill head history old i (new i) → cells_of_interval head.mdb q low high history new i ≡ cells_of_interval head.mdb q low high history old i
+        go : (new i ≡ old i) ⊎ IsWholeFill head exponent history old i (new i) → cells_of_interval head.mdb q low high exponent history new i ≡ cells_of_interval head.mdb q low high exponent history old i
         go (inl same) =
-            ap (λ (f : Option (Filling (List SetRow))). if option_map_or (λ last. is_late_by last (option_map (λ g. g.base) f)) (last_in 22 i history) false then of_rows i else cells_of_fill head.mdb q low high f) same
+            ap (λ (f : Option (Filling (List SetRow))). if option_map_or (λ last. is_late_by last (option_map (λ g. g.base) f)) (last_in exponent i history) false then of_rows i else cells_of_fill head.mdb q low high f) same
         go (inr whole) = whole_cells i some whole ∙ sym (was_late old i whole.0)
 
-    intervals_same : (is : List Interval) → AllByRecursion (λ i. IsSome (last_in 22 i history)) is
-        → flat_map (cells_of_interval head.mdb q low high history new) is ≡ flat_map (cells_of_interval head.mdb q low high history old) is
+    intervals_same : (is : List Interval) → AllByRecursion (λ i. IsSome (last_in exponent i history)) is
+        → flat_map (cells_of_interval head.mdb q low high exponent history new) is ≡ flat_map (cells_of_interval head.mdb q low high exponent history old) is
     intervals_same [] all = refl
     intervals_same (i ∷ is) all =
-        ap (λ (l : List Cell). l ++ flat_map (cells_of_interval head.mdb q low high history new) is) (interval_same i all.0)
-        ∙ ap (λ (l : List Cell). cells_of_interval head.mdb q low high history old i ++ l) (intervals_same is all.1)
+        ap (λ (l : List Cell). l ++ flat_map (cells_of_interval head.mdb q low high exponent history new) is) (interval_same i all.0)
+        ∙ ap (λ (l : List Cell). cells_of_interval head.mdb q low high exponent history old i ++ l) (intervals_same is all.1)
 
-  answer_same : (number : ℕ) (request : Request) → filled_answer head.mdb number request history new ≡ filled_answer head.mdb number request history old
+  answer_same : (number : ℕ) (request : Request) → filled_answer head.mdb number request exponent history new ≡ filled_answer head.mdb number request exponent history old
   answer_same number request =
-      ap (as_asked request) (intervals_same number request.from request.to (intervals_of_range request.from request.to history) (asked_have request.from request.to history))
+      ap (as_asked request) (intervals_same number request.from request.to (intervals_of_range exponent request.from request.to history) (asked_have exponent request.from request.to history))
 
-  text_same : (k : ℕ) (ask : Ask) → ask_text head history new k ask ≡ ask_text head history old k ask
+  text_same : (k : ℕ) (ask : Ask) → ask_text head exponent history new k ask ≡ ask_text head exponent history old k ask
   text_same k (Values request) =
-      let number = unwrap_or (parameter_named head.mdb request.parameter) 0 in
+      let number = unwrap_or (parameter_number head.mdb request.parameter) 0 in
       ap (answer_lines k (length history) head.mdb number) (answer_same number request)
   text_same k (Replay request) = refl
 
-  pub same_texts : (k : ℕ) (asks : List Ask) → asks_text head history new k asks ≡ asks_text head history old k asks
+  pub same_texts : (k : ℕ) (asks : List Ask) → asks_text head exponent history new k asks ≡ asks_text head exponent history old k asks
   same_texts k [] = refl
-  same_texts k (ask ∷ asks) = ap (λ (t : List ℕ). t ++ asks_text head history new (suc k) asks) (text_same k ask) ∙ ap (λ (t : List ℕ). ask_text head history old k ask ++ t) (same_texts (suc k) asks)
+  same_texts k (ask ∷ asks) = ap (λ (t : List ℕ). t ++ asks_text head exponent history new (suc k) asks) (text_same k ask) ∙ ap (λ (t : List ℕ). ask_text head exponent history old k ask ++ t) (same_texts (suc k) asks)
 
 pub answer_alike : AddedFillsAnswerAlike
 answer_alike = same_texts

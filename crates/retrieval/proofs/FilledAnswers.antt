@@ -25,37 +25,38 @@ use Rattle.param_segments.specs.declared.plan.Part.TheVariants.{Rows, Set}
 use Rattle.param_segments.specs.declared.plan.Plan.{Plan}
 use Rattle.param_segments.specs.Rows.{SetRow}
 use Rattle.store_fills.specs.Filled.{HoldsRows}
-use Rattle.store_fills.specs.FilledSets.{fillings_in}
+use Rattle.store_fills.specs.LastFills.{fillings_in}
 use Rattle.store_fills.specs.Sound.{AreSound, Filling, Fillings, base_of_filling}
 use Rattle.archive_store.specs.Plans.{IsPlan, IsPlanPart, interval_of_part, plan_intervals}
 use Rattle.archive_store.specs.StoreView.{StoreView}
 use Rattle.archive_store.proofs.Planning.{none_in_range}
 use Rattle.retrieval.specs.AnswerText.{as_asked}
-use Rattle.retrieval.specs.FilledAnswer.{cells_of_fill, cells_of_interval, filled_answer, intervals_of_range, is_late_by_fill}
+use Rattle.retrieval.specs.FilledAnswer.{cells_of_fill, cells_of_interval, filled_answer, intervals_of_range}
 use Rattle.retrieval.specs.Laws.{FilledIsAnswered}
 use Rattle.retrieval.specs.PartCells.{answer_over_parts, cells_of_part, cells_of_rows, is_cell_in_range}
 use Rattle.retrieval.proofs.OneList.{asked_covers, asked_have, asked_rises, range_one}
 use Rattle.retrieval.proofs.OverRows.{joined, timely_cells}
+use Rattle.archive_store.specs.LateFills.{is_late_by_fill}
 
 -- ---- a part has the cells of its interval
 
 module _ {D : Type 0} (store : StoreView D) (bases : (i : Interval) → base_in i store.fills ≡ base_of_filling (fillings_in store.filled) i) (db : Database) (q : ℕ) (low high : ℤ) where
   abbrev of_interval : Interval → List Cell
-  of_interval = cells_of_interval db q low high store.history (fillings_in store.filled)
+  of_interval = cells_of_interval db q low high store.exponent store.history (fillings_in store.filled)
 
-  late_same : (i : Interval) → is_late_in 22 i store.history store.fills ≡ is_late_by_fill store.history (fillings_in store.filled) i
-  late_same i = ap (λ (base : Option ℕ). option_map_or (λ last. is_late_by last base) (last_in 22 i store.history) false) (bases i)
+  late_same : (i : Interval) → is_late_in store.exponent i store.history store.fills ≡ is_late_by_fill store.exponent store.history (fillings_in store.filled) i
+  late_same i = ap (λ (base : Option ℕ). option_map_or (λ last. is_late_by last base) (last_in store.exponent i store.history) false) (bases i)
 
-  by_lateness : (i : Interval) (b : Bool) → is_late_by_fill store.history (fillings_in store.filled) i ≡ b
-      → of_interval i ≡ (if b then cells_of_rows db q low high (rows_of_interval 22 i store.history) else cells_of_fill db q low high (fillings_in store.filled i))
-  by_lateness i b late = ap (λ (t : Bool). if t then cells_of_rows db q low high (rows_of_interval 22 i store.history) else cells_of_fill db q low high (fillings_in store.filled i)) late
+  by_lateness : (i : Interval) (b : Bool) → is_late_by_fill store.exponent store.history (fillings_in store.filled) i ≡ b
+      → of_interval i ≡ (if b then cells_of_rows db q low high (rows_of_interval store.exponent i store.history) else cells_of_fill db q low high (fillings_in store.filled i))
+  by_lateness i b late = ap (λ (t : Bool). if t then cells_of_rows db q low high (rows_of_interval store.exponent i store.history) else cells_of_fill db q low high (fillings_in store.filled i)) late
 
   part_cells : (part : Part) → IsPlanPart store part → cells_of_part db q low high part ≡ of_interval (interval_of_part part)
   part_cells (Set i set) current =
-      let punctual : is_late_in 22 i store.history store.fills ≡ false = false_from_ne_true (is_late_in 22 i store.history store.fills) (λ late. current.current ((late_by_last 22 i store.history store.fills).0 late)) in
+      let punctual : is_late_in store.exponent i store.history store.fills ≡ false = false_from_ne_true (is_late_in store.exponent i store.history store.fills) (λ late. current.current ((late_by_last store.exponent i store.history store.fills).0 late)) in
       sym (by_lateness i false (sym (late_same i) ∙ punctual) ∙ ap (cells_of_fill db q low high) current.filled)
   part_cells (Rows i rows) late =
-      ap (cells_of_rows db q low high) late.1 ∙ sym (by_lateness i true (sym (late_same i) ∙ (late_by_last 22 i store.history store.fills).1 late.0))
+      ap (cells_of_rows db q low high) late.1 ∙ sym (by_lateness i true (sym (late_same i) ∙ (late_by_last store.exponent i store.history store.fills).1 late.0))
 
   pub parts_cells : (parts : List Part) → AllByRecursion (IsPlanPart store) parts → flat_map (cells_of_part db q low high) parts ≡ flat_map of_interval (plan_intervals parts)
   parts_cells [] all = refl
@@ -101,57 +102,57 @@ module _ (low high : ℤ) (empty : high ≤ℤ low) where
 
 pub plan_filled : {D : Type 0} (store : StoreView D) (q : ℕ) (request : Request) (plan : Plan) → ((i : Interval) → base_in i store.fills ≡ base_of_filling (fillings_in store.filled) i)
     → IsPlan store request.from request.to plan
-    → answer_over_parts store.head.mdb q request plan.parts ≡ filled_answer store.head.mdb q request store.history (fillings_in store.filled)
+    → answer_over_parts store.head.mdb q request plan.parts ≡ filled_answer store.head.mdb q request store.exponent store.history (fillings_in store.filled)
 plan_filled store q request plan bases planned =
     ap (as_asked request) (parts_cells store bases store.head.mdb q request.from request.to plan.parts planned.each ∙ by_range (int_lt request.from request.to) refl)
   where
     f : Interval → List Cell
-    f = cells_of_interval store.head.mdb q request.from request.to store.history (fillings_in store.filled)
+    f = cells_of_interval store.head.mdb q request.from request.to store.exponent store.history (fillings_in store.filled)
 
     asked : List Interval
-    asked = intervals_of_range request.from request.to store.history
+    asked = intervals_of_range store.exponent request.from request.to store.history
 
     by_range : (b : Bool) → int_lt request.from request.to ≡ b → flat_map f (plan_intervals plan.parts) ≡ flat_map f asked
     by_range true test =
         let less : request.from <ℤ request.to = grind (arith, ints, test) in
-        ap (flat_map f) (range_one request.from request.to store.history (plan_intervals plan.parts) planned.rising planned.meets (planned.cover less))
+        ap (flat_map f) (range_one store.exponent request.from request.to store.history (plan_intervals plan.parts) planned.rising planned.meets (planned.cover less))
     by_range false test =
         let empty : request.to ≤ℤ request.from = grind (arith, ints, test) in
-        let each = λ (i : Interval). interval_none request.from request.to empty store.head.mdb q (rows_of_interval 22 i store.history) (fillings_in store.filled i) (is_late_by_fill store.history (fillings_in store.filled) i) in
+        let each = λ (i : Interval). interval_none request.from request.to empty store.head.mdb q (rows_of_interval store.exponent i store.history) (fillings_in store.filled i) (is_late_by_fill store.exponent store.history (fillings_in store.filled) i) in
         flat_none f (plan_intervals plan.parts) each ∙ sym (flat_none f asked each)
 
 -- ---- sound fills
 
-module _ (db : Database) (q : ℕ) (low high : ℤ) (history : List Item) (fillings : Fillings (List SetRow)) (sound : AreSound 22 (HoldsRows db) history fillings) where
+module _ (db : Database) (q : ℕ) (low high : ℤ) (exponent : ℕ) (history : List Item) (fillings : Fillings (List SetRow)) (sound : AreSound exponent (HoldsRows db) history fillings) where
   abbrev of_rows : Interval → List Cell
-  of_rows i = cells_of_rows db q low high (rows_of_interval 22 i history)
+  of_rows i = cells_of_rows db q low high (rows_of_interval exponent i history)
 
   -- the set of an interval that isn't late and has rows
-  set_holds : (i : Interval) (o : Option ℕ) → IsLastIn 22 i history o → is_some o ≡ true → (f : Option (Filling (List SetRow))) → fillings i ≡ f
+  set_holds : (i : Interval) (o : Option ℕ) → IsLastIn exponent i history o → is_some o ≡ true → (f : Option (Filling (List SetRow))) → fillings i ≡ f
       → option_map_or (λ last. is_late_by last (option_map (λ g. g.base) f)) o false ≡ false → cells_of_fill db q low high f ≡ of_rows i
   set_holds i None last some f there punctual = absurd (true≢false (sym some))
   set_holds i (Some l) last some None there punctual = absurd (true≢false punctual)
   set_holds i (Some l) last some (Some f) there punctual =
       let before : l < f.base = grind (arith, nat_tests, punctual) in
-      let since : NoRowSince 22 i f.base history = λ p stands. let most = last.1 p stands in omega (arith, most, before) in
-      ap (filter (is_cell_in_range low high)) (sound.each i f there since q) ∙ timely_cells db q low high (rows_of_interval 22 i history)
+      let since : NoRowSince exponent i f.base history = λ p stands. let most = last.1 p stands in omega (arith, most, before) in
+      ap (filter (is_cell_in_range low high)) (sound.each i f there since q) ∙ timely_cells db q low high (rows_of_interval exponent i history)
 
-  interval_holds : (i : Interval) → is_some (last_in 22 i history) ≡ true → cells_of_interval db q low high history fillings i ≡ of_rows i
-  interval_holds i some = go (is_late_by_fill history fillings i) refl
+  interval_holds : (i : Interval) → is_some (last_in exponent i history) ≡ true → cells_of_interval db q low high exponent history fillings i ≡ of_rows i
+  interval_holds i some = go (is_late_by_fill exponent history fillings i) refl
     where
-      go : (b : Bool) → is_late_by_fill history fillings i ≡ b → (if b then of_rows i else cells_of_fill db q low high (fillings i)) ≡ of_rows i
+      go : (b : Bool) → is_late_by_fill exponent history fillings i ≡ b → (if b then of_rows i else cells_of_fill db q low high (fillings i)) ≡ of_rows i
       go true late = refl
-      go false punctual = set_holds i (last_in 22 i history) (last_is_greatest 22 i history) some (fillings i) refl punctual
+      go false punctual = set_holds i (last_in exponent i history) (last_is_greatest exponent i history) some (fillings i) refl punctual
 
-  pub intervals_hold : (is : List Interval) → AllByRecursion (λ i. IsSome (last_in 22 i history)) is
-      → flat_map (cells_of_interval db q low high history fillings) is ≡ cells_of_rows db q low high (rows_in_turn 22 is history)
+  pub intervals_hold : (is : List Interval) → AllByRecursion (λ i. IsSome (last_in exponent i history)) is
+      → flat_map (cells_of_interval db q low high exponent history fillings) is ≡ cells_of_rows db q low high (rows_in_turn exponent is history)
   intervals_hold [] all = refl
   intervals_hold (i ∷ is) all =
-      ap (λ (l : List Cell). l ++ flat_map (cells_of_interval db q low high history fillings) is) (interval_holds i all.0)
-      ∙ ap (λ (l : List Cell). of_rows i ++ l) (intervals_hold is all.1) ∙ joined db q low high (rows_of_interval 22 i history) (rows_in_turn 22 is history)
+      ap (λ (l : List Cell). l ++ flat_map (cells_of_interval db q low high exponent history fillings) is) (interval_holds i all.0)
+      ∙ ap (λ (l : List Cell). of_rows i ++ l) (intervals_hold is all.1) ∙ joined db q low high (rows_of_interval exponent i history) (rows_in_turn exponent is history)
 
 pub filled_answered : FilledIsAnswered
-filled_answered db history fillings request number sound =
-    let is = intervals_of_range request.from request.to history in
-    ap (as_asked request) (intervals_hold db number request.from request.to history fillings sound is (asked_have request.from request.to history)
-    ∙ ap (filter_map (cell_of db number)) (ranges 22 is request.from request.to history (asked_rises request.from request.to history) (asked_covers request.from request.to history)))
+filled_answered db exponent history fillings request number sound =
+    let is = intervals_of_range exponent request.from request.to history in
+    ap (as_asked request) (intervals_hold db number request.from request.to exponent history fillings sound is (asked_have exponent request.from request.to history)
+    ∙ ap (filter_map (cell_of db number)) (ranges exponent is request.from request.to history (asked_rises exponent request.from request.to history) (asked_covers exponent request.from request.to history)))

@@ -88,10 +88,10 @@ kept_any p outside (row ∷ rows) = go (is_in_table 0 row) refl (kept_any p outs
 zero_flipped : (t : ℕ) → (t == 0) ≡ (0 == t)
 zero_flipped t = both_ways (t == 0) (0 == t) (λ e. eq-eqb 0 t (sym (eqb-true t 0 e))) (λ e. eq-eqb t 0 (sym (eqb-true 0 t e)))
 
-table_any : (i : Interval) (history : List Item) → list_any (is_row_of_interval 22 i) (table_of 0 (rows_in history)) ≡ list_any (is_row_of_interval 22 i) (rows_in history)
-table_any i history =
-    order_any (is_row_of_interval 22 i) [] (filter (is_in_table 0) (rows_in history))
-    ∙ kept_any (is_row_of_interval 22 i) (λ row out. ap (λ (t : Bool). t && int_eq (interval_of 22 row.key.time) i.0) (zero_flipped row.table ∙ out)) (rows_in history)
+table_any : (exponent : ℕ) (i : Interval) (history : List Item) → list_any (is_row_of_interval exponent i) (table_of 0 (rows_in history)) ≡ list_any (is_row_of_interval exponent i) (rows_in history)
+table_any exponent i history =
+    order_any (is_row_of_interval exponent i) [] (filter (is_in_table 0) (rows_in history))
+    ∙ kept_any (is_row_of_interval exponent i) (λ row out. ap (λ (t : Bool). t && int_eq (interval_of exponent row.key.time) i.0) (zero_flipped row.table ∙ out)) (rows_in history)
 
 -- a last one is there where one is
 last_any : (test : Item → Bool) (items : List Item) → is_some (last_place test items) ≡ list_any test items
@@ -107,11 +107,11 @@ last_any test (x ∷ xs) = go (test x) (last_place test xs) (list_any test xs) (
 -- ---- the intervals that have rows
 
 -- an interval is among them where one of its rows is there
-with_any : (i : Interval) (so_far : List Interval) (item : Item) → list_any (is_same i) (with_interval 22 so_far item) ≡ (list_any (is_same i) so_far || is_row_of_interval 22 i item)
-with_any i so_far item = go (item.table == 0) (list_any (is_same j) so_far) refl
+with_any : (exponent : ℕ) (i : Interval) (so_far : List Interval) (item : Item) → list_any (is_same i) (with_interval exponent so_far item) ≡ (list_any (is_same i) so_far || is_row_of_interval exponent i item)
+with_any exponent i so_far item = go (item.table == 0) (list_any (is_same j) so_far) refl
   where
     j : Interval
-    j = item_interval 22 item
+    j = item_interval exponent item
 
     there : Bool
     there = list_any (is_same i) so_far
@@ -128,14 +128,14 @@ with_any i so_far item = go (item.table == 0) (list_any (is_same j) so_far) refl
     go true true e = known (int_eq j.0 i.0) refl e
     go true false e = list_any-append (is_same i) so_far (j ∷ []) ∙ ap (λ (t : Bool). there || t) (or_false (is_same i j) ∙ flipped i.0 j.0)
 
-fold_any : (i : Interval) (so_far : List Interval) (rows : List Item) → list_any (is_same i) (fold (with_interval 22) so_far rows) ≡ (list_any (is_same i) so_far || list_any (is_row_of_interval 22 i) rows)
-fold_any i so_far [] = sym (or_false (list_any (is_same i) so_far))
-fold_any i so_far (row ∷ rows) =
-    fold_any i (with_interval 22 so_far row) rows ∙ ap (λ (t : Bool). t || list_any (is_row_of_interval 22 i) rows) (with_any i so_far row)
-    ∙ or_grouped (list_any (is_same i) so_far) (is_row_of_interval 22 i row) (list_any (is_row_of_interval 22 i) rows)
+fold_any : (exponent : ℕ) (i : Interval) (so_far : List Interval) (rows : List Item) → list_any (is_same i) (fold (with_interval exponent) so_far rows) ≡ (list_any (is_same i) so_far || list_any (is_row_of_interval exponent i) rows)
+fold_any exponent i so_far [] = sym (or_false (list_any (is_same i) so_far))
+fold_any exponent i so_far (row ∷ rows) =
+    fold_any exponent i (with_interval exponent so_far row) rows ∙ ap (λ (t : Bool). t || list_any (is_row_of_interval exponent i) rows) (with_any exponent i so_far row)
+    ∙ or_grouped (list_any (is_same i) so_far) (is_row_of_interval exponent i row) (list_any (is_row_of_interval exponent i) rows)
 
-in_order_any : (i : Interval) (history : List Item) → list_any (is_same i) (intervals_in 22 (table_of 0 (rows_in history))) ≡ is_some (last_in 22 i history)
-in_order_any i history = fold_any i [] (table_of 0 (rows_in history)) ∙ table_any i history ∙ sym (last_any (is_row_of_interval 22 i) history)
+in_order_any : (exponent : ℕ) (i : Interval) (history : List Item) → list_any (is_same i) (intervals_in exponent (table_of 0 (rows_in history))) ≡ is_some (last_in exponent i history)
+in_order_any exponent i history = fold_any exponent i [] (table_of 0 (rows_in history)) ∙ table_any exponent i history ∙ sym (last_any (is_row_of_interval exponent i) history)
 
 -- they rise, since the rows do
 below_all : (i : Interval) (is : List Interval) → AllByRecursion (λ j. j.0 ≤ℤ i.0) is → list_any (is_same i) is ≡ false → AllBelow is i.0
@@ -147,43 +147,43 @@ below_all i (j ∷ is) all none =
     (omega (arith, ints, le, other), below_all i is all.1 p.1)
 
 -- intervals so far are no later than rows
-abbrev NoLater : List Interval → List Row → Type 0
-NoLater so_far rows = AllByRecursion (λ row. AllByRecursion (λ j. j.0 ≤ℤ interval_of 22 row.key.time) so_far) rows
+abbrev NoLater : ℕ → List Interval → List Row → Type 0
+NoLater exponent so_far rows = AllByRecursion (λ row. AllByRecursion (λ j. j.0 ≤ℤ interval_of exponent row.key.time) so_far) rows
 
 at_most_push : (t : ℤ) (is : List Interval) (i : Interval) → AllByRecursion (λ j. j.0 ≤ℤ t) is → i.0 ≤ℤ t → AllByRecursion (λ j. j.0 ≤ℤ t) (is ++ i ∷ [])
 at_most_push t [] i all here = (here, tt)
 at_most_push t (j ∷ is) i all here = (all.0, at_most_push t is i all.1 here)
 
-no_later_push : (so_far : List Interval) (row : Row) (rows : List Row) → NoLater so_far rows → AllByRecursion (λ z. is_before z row ≡ false) rows → NoLater (so_far ++ item_interval 22 row ∷ []) rows
-no_later_push so_far row [] all up = tt
-no_later_push so_far row (z ∷ rows) all up =
-    (at_most_push (interval_of 22 z.key.time) so_far (item_interval 22 row) all.0 (interval_rises 22 row.key.time z.key.time (not_before z row up.0)), no_later_push so_far row rows all.1 up.1)
+no_later_push : (exponent : ℕ) (so_far : List Interval) (row : Row) (rows : List Row) → NoLater exponent so_far rows → AllByRecursion (λ z. is_before z row ≡ false) rows → NoLater exponent (so_far ++ item_interval exponent row ∷ []) rows
+no_later_push exponent so_far row [] all up = tt
+no_later_push exponent so_far row (z ∷ rows) all up =
+    (at_most_push (interval_of exponent z.key.time) so_far (item_interval exponent row) all.0 (interval_rises exponent row.key.time z.key.time (not_before z row up.0)), no_later_push exponent so_far row rows all.1 up.1)
 
-with_rises : (so_far : List Interval) (row : Row) (rows : List Row) → IntervalsRise so_far → AllByRecursion (λ j. j.0 ≤ℤ interval_of 22 row.key.time) so_far → NoLater so_far rows → AllByRecursion (λ z. is_before z row ≡ false) rows
-    → IntervalsRise (with_interval 22 so_far row) × NoLater (with_interval 22 so_far row) rows
-with_rises so_far row rows rising here later up = go (row.table == 0) (list_any (is_same j) so_far) refl
+with_rises : (exponent : ℕ) (so_far : List Interval) (row : Row) (rows : List Row) → IntervalsRise so_far → AllByRecursion (λ j. j.0 ≤ℤ interval_of exponent row.key.time) so_far → NoLater exponent so_far rows → AllByRecursion (λ z. is_before z row ≡ false) rows
+    → IntervalsRise (with_interval exponent so_far row) × NoLater exponent (with_interval exponent so_far row) rows
+with_rises exponent so_far row rows rising here later up = go (row.table == 0) (list_any (is_same j) so_far) refl
   where
     j : Interval
-    j = item_interval 22 row
+    j = item_interval exponent row
 
     go : (tm has : Bool) → list_any (is_same j) so_far ≡ has
-        → IntervalsRise (if tm && not has then so_far ++ j ∷ [] else so_far) × NoLater (if tm && not has then so_far ++ j ∷ [] else so_far) rows
+        → IntervalsRise (if tm && not has then so_far ++ j ∷ [] else so_far) × NoLater exponent (if tm && not has then so_far ++ j ∷ [] else so_far) rows
     go false has e = (rising, later)
     go true true e = (rising, later)
-    go true false e = (rising_push so_far j j.0 rising (below_all j so_far here e) (omega (arith, ints)), no_later_push so_far row rows later up)
+    go true false e = (rising_push so_far j j.0 rising (below_all j so_far here e) (omega (arith, ints)), no_later_push exponent so_far row rows later up)
 
-fold_rises : (so_far : List Interval) (rows : List Row) → IntervalsRise so_far → NoLater so_far rows → IsAscending is_before rows → IntervalsRise (fold (with_interval 22) so_far rows)
-fold_rises so_far [] rising later up = rising
-fold_rises so_far (row ∷ rows) rising later up =
-    let next = with_rises so_far row rows rising later.0 later.1 up.0 in
-    fold_rises (with_interval 22 so_far row) rows next.0 next.1 up.1
+fold_rises : (exponent : ℕ) (so_far : List Interval) (rows : List Row) → IntervalsRise so_far → NoLater exponent so_far rows → IsAscending is_before rows → IntervalsRise (fold (with_interval exponent) so_far rows)
+fold_rises exponent so_far [] rising later up = rising
+fold_rises exponent so_far (row ∷ rows) rising later up =
+    let next = with_rises exponent so_far row rows rising later.0 later.1 up.0 in
+    fold_rises exponent (with_interval exponent so_far row) rows next.0 next.1 up.1
 
-no_later_none : (rows : List Row) → NoLater [] rows
-no_later_none [] = tt
-no_later_none (row ∷ rows) = (tt, no_later_none rows)
+no_later_none : (exponent : ℕ) (rows : List Row) → NoLater exponent [] rows
+no_later_none exponent [] = tt
+no_later_none exponent (row ∷ rows) = (tt, no_later_none exponent rows)
 
-in_order_rises : (history : List Item) → IntervalsRise (intervals_in 22 (table_of 0 (rows_in history)))
-in_order_rises history = fold_rises [] (table_of 0 (rows_in history)) tt (no_later_none (table_of 0 (rows_in history))) (table_ascending (rows_in history))
+in_order_rises : (exponent : ℕ) (history : List Item) → IntervalsRise (intervals_in exponent (table_of 0 (rows_in history)))
+in_order_rises exponent history = fold_rises exponent [] (table_of 0 (rows_in history)) tt (no_later_none exponent (table_of 0 (rows_in history))) (table_ascending (rows_in history))
 
 -- ---- two rising lists of the same intervals
 
@@ -276,36 +276,36 @@ member_has P i (j ∷ is) all has = go (is_same i j) refl has (member_has P i is
     go true same e deep = subst P (sym (same_interval i j same)) here
     go false other e deep = deep e
 
-pub meets_true : (low high : ℤ) (i : Interval) → MeetsRange 22 low high i → meets_range 22 low high i ≡ true
-meets_true low high i meets =
+pub meets_true : (exponent : ℕ) (low high : ℤ) (i : Interval) → MeetsRange exponent low high i → meets_range exponent low high i ≡ true
+meets_true exponent low high i meets =
     let one = meets.begins in
     let two = meets.ends in
-    let begins : int_lt (interval_start 22 i) high ≡ true = grind (arith, ints, one) in
-    let ends : int_lt low (interval_end 22 i) ≡ true = grind (arith, ints, two) in
-    ap (λ (b : Bool). b && int_lt low (interval_end 22 i)) begins ∙ ends
+    let begins : int_lt (interval_start exponent i) high ≡ true = grind (arith, ints, one) in
+    let ends : int_lt low (interval_end exponent i) ≡ true = grind (arith, ints, two) in
+    ap (λ (b : Bool). b && int_lt low (interval_end exponent i)) begins ∙ ends
 
-true_meets : (low high : ℤ) (i : Interval) → meets_range 22 low high i ≡ true → MeetsRange 22 low high i
-true_meets low high i test =
-    let p = and_parts (int_lt (interval_start 22 i) high) (int_lt low (interval_end 22 i)) test in
-    let begins : interval_start 22 i <ℤ high = grind (arith, ints, p.0) in
-    let ends : low <ℤ interval_end 22 i = grind (arith, ints, p.1) in
+true_meets : (exponent : ℕ) (low high : ℤ) (i : Interval) → meets_range exponent low high i ≡ true → MeetsRange exponent low high i
+true_meets exponent low high i test =
+    let p = and_parts (int_lt (interval_start exponent i) high) (int_lt low (interval_end exponent i)) test in
+    let begins : interval_start exponent i <ℤ high = grind (arith, ints, p.0) in
+    let ends : low <ℤ interval_end exponent i = grind (arith, ints, p.1) in
     record { begins = begins; ends = ends }
 
 -- those that have rows and meet it: they rise,
-pub asked_rises : (low high : ℤ) (history : List Item) → IntervalsRise (intervals_of_range low high history)
-asked_rises low high history = rise_filtered (meets_range 22 low high) (intervals_in 22 (table_of 0 (rows_in history))) (in_order_rises history)
+pub asked_rises : (exponent : ℕ) (low high : ℤ) (history : List Item) → IntervalsRise (intervals_of_range exponent low high history)
+asked_rises exponent low high history = rise_filtered (meets_range exponent low high) (intervals_in exponent (table_of 0 (rows_in history))) (in_order_rises exponent history)
 
 -- are these,
-pub asked_any : (i : Interval) (low high : ℤ) (history : List Item) → list_any (is_same i) (intervals_of_range low high history) ≡ (meets_range 22 low high i && is_some (last_in 22 i history))
-asked_any i low high history =
-    filtered_any (meets_range 22 low high) i (intervals_in 22 (table_of 0 (rows_in history))) ∙ ap (λ (b : Bool). meets_range 22 low high i && b) (in_order_any i history)
+pub asked_any : (exponent : ℕ) (i : Interval) (low high : ℤ) (history : List Item) → list_any (is_same i) (intervals_of_range exponent low high history) ≡ (meets_range exponent low high i && is_some (last_in exponent i history))
+asked_any exponent i low high history =
+    filtered_any (meets_range exponent low high) i (intervals_in exponent (table_of 0 (rows_in history))) ∙ ap (λ (b : Bool). meets_range exponent low high i && b) (in_order_any exponent i history)
 
 -- cover it,
-pub asked_covers : (low high : ℤ) (history : List Item) → CoverRange 22 (intervals_of_range low high history) low high history
-asked_covers low high history i position stands meets =
-    asked_any i low high history ∙ ap (λ (b : Bool). b && is_some (last_in 22 i history)) (meets_true low high i meets) ∙ there (last_in 22 i history) (last_is_greatest 22 i history)
+pub asked_covers : (exponent : ℕ) (low high : ℤ) (history : List Item) → CoverRange exponent (intervals_of_range exponent low high history) low high history
+asked_covers exponent low high history i position stands meets =
+    asked_any exponent i low high history ∙ ap (λ (b : Bool). b && is_some (last_in exponent i history)) (meets_true exponent low high i meets) ∙ there (last_in exponent i history) (last_is_greatest exponent i history)
   where
-    there : (o : Option ℕ) → IsLastIn 22 i history o → is_some o ≡ true
+    there : (o : Option ℕ) → IsLastIn exponent i history o → is_some o ≡ true
     there None never = absurd (never position stands)
     there (Some l) last = refl
 
@@ -318,27 +318,27 @@ all_members P [] each = tt
 all_members P (i ∷ is) each = (each i (itself i is), all_members P is (λ j has. each j (or_right (is_same j i) (list_any (is_same j) is) has)))
 
 -- and have rows
-pub asked_have : (low high : ℤ) (history : List Item) → AllByRecursion (λ i. IsSome (last_in 22 i history)) (intervals_of_range low high history)
-asked_have low high history =
-    all_members (λ i. IsSome (last_in 22 i history)) (intervals_of_range low high history)
-    (λ i has. (and_parts (meets_range 22 low high i) (is_some (last_in 22 i history)) (sym (asked_any i low high history) ∙ has)).1)
+pub asked_have : (exponent : ℕ) (low high : ℤ) (history : List Item) → AllByRecursion (λ i. IsSome (last_in exponent i history)) (intervals_of_range exponent low high history)
+asked_have exponent low high history =
+    all_members (λ i. IsSome (last_in exponent i history)) (intervals_of_range exponent low high history)
+    (λ i has. (and_parts (meets_range exponent low high i) (is_some (last_in exponent i history)) (sym (asked_any exponent i low high history) ∙ has)).1)
 
 -- so that a rising list of such intervals which covers it is all of them
-pub range_one : (low high : ℤ) (history : List Item) (is : List Interval) → IntervalsRise is → AllByRecursion (IsRangeInterval history low high) is → CoverRange 22 is low high history → is ≡ intervals_of_range low high history
-range_one low high history is rising asked cover =
-    same_rising is (intervals_of_range low high history) rising (asked_rises low high history)
-    (λ i. both_ways (list_any (is_same i) is) (meets_range 22 low high i && is_some (last_in 22 i history)) (there i) (back i) ∙ sym (asked_any i low high history))
+pub range_one : (exponent : ℕ) (low high : ℤ) (history : List Item) (is : List Interval) → IntervalsRise is → AllByRecursion (IsRangeInterval exponent history low high) is → CoverRange exponent is low high history → is ≡ intervals_of_range exponent low high history
+range_one exponent low high history is rising asked cover =
+    same_rising is (intervals_of_range exponent low high history) rising (asked_rises exponent low high history)
+    (λ i. both_ways (list_any (is_same i) is) (meets_range exponent low high i && is_some (last_in exponent i history)) (there i) (back i) ∙ sym (asked_any exponent i low high history))
   where
-    there : (i : Interval) → list_any (is_same i) is ≡ true → (meets_range 22 low high i && is_some (last_in 22 i history)) ≡ true
+    there : (i : Interval) → list_any (is_same i) is ≡ true → (meets_range exponent low high i && is_some (last_in exponent i history)) ≡ true
     there i has =
-        let p = member_has (IsRangeInterval history low high) i is asked has in
-        ap (λ (b : Bool). b && is_some (last_in 22 i history)) (meets_true low high i p.0) ∙ p.1
+        let p = member_has (IsRangeInterval exponent history low high) i is asked has in
+        ap (λ (b : Bool). b && is_some (last_in exponent i history)) (meets_true exponent low high i p.0) ∙ p.1
 
-    stands : (i : Interval) (o : Option ℕ) → IsSome o → IsLastIn 22 i history o → MeetsRange 22 low high i → list_any (is_same i) is ≡ true
+    stands : (i : Interval) (o : Option ℕ) → IsSome o → IsLastIn exponent i history o → MeetsRange exponent low high i → list_any (is_same i) is ≡ true
     stands i None some last meets = absurd (true≢false (sym some))
     stands i (Some l) some last meets = cover i l last.0 meets
 
-    back : (i : Interval) → (meets_range 22 low high i && is_some (last_in 22 i history)) ≡ true → list_any (is_same i) is ≡ true
+    back : (i : Interval) → (meets_range exponent low high i && is_some (last_in exponent i history)) ≡ true → list_any (is_same i) is ≡ true
     back i test =
-        let p = and_parts (meets_range 22 low high i) (is_some (last_in 22 i history)) test in
-        stands i (last_in 22 i history) p.1 (last_is_greatest 22 i history) (true_meets low high i p.0)
+        let p = and_parts (meets_range exponent low high i) (is_some (last_in exponent i history)) test in
+        stands i (last_in exponent i history) p.1 (last_is_greatest exponent i history) (true_meets exponent low high i p.0)

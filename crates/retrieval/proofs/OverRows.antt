@@ -6,6 +6,7 @@ use Rattle.std.proofs.lemmas.List.Elements.{filter-append, filter_map-append}
 use Rattle.std.specs.declared.alloc.AllocError.{AllocError}
 use Rattle.asks.specs.declared.ask.Answer.{Answer}
 use Rattle.asks.specs.declared.ask.Request.{Request}
+use Rattle.asks.specs.Names.{parameter_number}
 use Rattle.arch_types.specs.declared.cell.Cell.{Cell}
 use Rattle.arch_types.specs.declared.row.Row.{Row}
 use Rattle.arch_types.specs.Table.{is_in_time_range, range_of}
@@ -20,7 +21,6 @@ use Rattle.param_segments.specs.Plans.{ArePartsOver, IsPartOver}
 use Rattle.retrieval.specs.AnswerText.{answered, as_asked}
 use Rattle.param_segments.specs.Rows.{SetRow}
 use Rattle.store_fills.specs.Sound.{Fillings}
-use Rattle.archive_store.specs.declared.finding.FoundRequest.{FoundRequest}
 use Rattle.retrieval.specs.FilledAnswer.{IsFilledAnswer, filled_answer}
 use Rattle.retrieval.specs.Laws.{PlannedIsAnswered}
 use Rattle.retrieval.specs.PartCells.{answer_over_parts, answer_over_rows, cells_of_part, cells_of_rows, is_cell_in_range}
@@ -88,11 +88,13 @@ same_cells (Ok answer) these those same is = is ∙ same
 same_cells (Err error) these those same is = tt
 
 -- an answer of this front and these cells is that over a history with its fills
-pub filled_is : (db : Database) (history : List Item) (fillings : Fillings (List SetRow)) (found : FoundRequest) (r : Result Answer AllocError) (front : ℕ) (cells : List Cell) → front ≡ length history →
-    cells ≡ filled_answer db found.number found.request history fillings → IfOk r (λ answer. answer.front ≡ front) → IfOk r (λ answer. answer.cells ≡ cells) →
-    IfOk r (IsFilledAnswer db history fillings found)
-filled_is db history fillings found (Ok answer) front cells at gives front_is cells_are = record { front = front_is ∙ at; cells = cells_are ∙ gives }
-filled_is db history fillings found (Err error) front cells at gives front_is cells_are = tt
+pub filled_is : (db : Database) (exponent : ℕ) (history : List Item) (fillings : Fillings (List SetRow)) (request : Request) (number : ℕ) (r : Result Answer AllocError) (front : ℕ) (cells : List Cell) →
+    parameter_number db request.parameter ≡ Some number → front ≡ length history →
+    cells ≡ filled_answer db number request exponent history fillings → IfOk r (λ answer. answer.front ≡ front) → IfOk r (λ answer. answer.cells ≡ cells) →
+    IfOk r (IsFilledAnswer db exponent history fillings request)
+filled_is db exponent history fillings request number (Ok answer) front cells named at gives front_is cells_are =
+    record { front = front_is ∙ at; number = number; named = named; cells = cells_are ∙ gives }
+filled_is db exponent history fillings request number (Err error) front cells named at gives front_is cells_are = tt
 
 -- the cells of an answer, where two facts are known
 pub where_known : (r : Result Answer AllocError) (P Q : Type 0) (cells : List Cell) → (P → Q → IfOk r (λ answer. answer.cells ≡ cells)) → IfOk r (λ answer. P → Q → answer.cells ≡ cells)

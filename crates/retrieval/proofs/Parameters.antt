@@ -13,14 +13,14 @@ use Rattle.mdb_items.specs.declared.fault.MdbLimit.{MdbLimit}
 use Rattle.mdb_items.specs.declared.sheet.RawMdb.{RawMdb}
 use Rattle.mdb_items.specs.Database.{Broken, Database, limit_passed}
 use Rattle.mdb_model.specs.Sheets.{IsCheckResult, sheets_database}
-use Rattle.asks.specs.Names.{parameter_named}
+use Rattle.asks.specs.Names.{parameter_number}
 use Rattle.retrieval.specs.Parameter.{IsNoParameter, IsNamedParameter, first_refusal, parameter_refusal, refusal_of_sheets}
 
 abbrev by_broken : RawMdb → List ℕ → Option Broken → Option Refusal
-by_broken raw name broken = first_refusal broken (limit_passed (sheets_database raw)) (parameter_named (sheets_database raw) name)
+by_broken raw name broken = first_refusal broken (limit_passed (sheets_database raw)) (parameter_number (sheets_database raw) name)
 
 abbrev by_passed : RawMdb → List ℕ → Option (MdbLimit × ℕ) → Option Refusal
-by_passed raw name passed = first_refusal None passed (parameter_named (sheets_database raw) name)
+by_passed raw name passed = first_refusal None passed (parameter_number (sheets_database raw) name)
 
 abbrev by_number : Option ℕ → Option Refusal
 by_number number = first_refusal None None number
@@ -33,19 +33,19 @@ no_database raw name (Limit which number) h = inl (ap (by_broken raw name) h.0 �
 no_database raw name OutOfMemory h = inr refl
 
 -- the sheets are admitted, and what is asked of the database decides
-asked_of : (raw : RawMdb) (name : List ℕ) (db : Database) (number : Option ℕ) → IsCheckResult raw (Ok db) → number ≡ parameter_named db name → parameter_refusal raw name ≡ by_number number
+asked_of : (raw : RawMdb) (name : List ℕ) (db : Database) (number : Option ℕ) → IsCheckResult raw (Ok db) → number ≡ parameter_number db name → parameter_refusal raw name ≡ by_number number
 unfolding parameter_refusal
 asked_of raw name db number h e =
-    let same : parameter_named (sheets_database raw) name ≡ number = ap (λ (d : Database). parameter_named d name) (sym h.2) ∙ sym e in
+    let same : parameter_number (sheets_database raw) name ≡ number = ap (λ (d : Database). parameter_number d name) (sym h.2) ∙ sym e in
     ap (by_broken raw name) h.0 ∙ ap (by_passed raw name) h.1 ∙ ap by_number same
 
 -- there's none of the name
-pub unknown_parameter : (raw : RawMdb) (name : List ℕ) (db : Database) (number : Option ℕ) → IsCheckResult raw (Ok db) → number ≡ parameter_named db name → number ≡ None →
+pub unknown_parameter : (raw : RawMdb) (name : List ℕ) (db : Database) (number : Option ℕ) → IsCheckResult raw (Ok db) → number ≡ parameter_number db name → number ≡ None →
     IsNoParameter raw name refused.UnknownParameter
 unknown_parameter raw name db number h e none = inl (asked_of raw name db number h e ∙ ap by_number none)
 
 -- there is one
-pub is_parameter : (raw : RawMdb) (name : List ℕ) (db : Database) (number : Option ℕ) (n : ℕ) → IsCheckResult raw (Ok db) → number ≡ parameter_named db name → number ≡ Some n →
+pub is_parameter : (raw : RawMdb) (name : List ℕ) (db : Database) (number : Option ℕ) (n : ℕ) → IsCheckResult raw (Ok db) → number ≡ parameter_number db name → number ≡ Some n →
     IsNamedParameter raw name db n
 is_parameter raw name db number n h e some = record {
   admitted = asked_of raw name db number h e ∙ ap by_number some;

@@ -11,7 +11,7 @@ use Rattle.arch_types.specs.Order.{is_before, order_by, place_by}
 use Rattle.arch_types.specs.Table.{is_in_time_range}
 use Rattle.history_items.specs.Items.{Item, rows_in}
 use Rattle.archive_store.specs.declared.head.Head.{Head}
-use Rattle.asks.specs.Names.{packet_name_numbers, table_named}
+use Rattle.asks.specs.Names.{packet_name_numbers, table_number}
 use Rattle.archive_store.specs.Replays.{IsReplayOpened, replay_asked}
 use Rattle.mdb_items.specs.Database.{Database}
 use Rattle.replay_merge.specs.Cursor.{CursorView, rest_of}
@@ -64,7 +64,7 @@ few_replayed table from to names limit history =
 pub opened_is : (head : Head) (history : List Item) (request : ReplayRequest) (c : CursorView) → IsReplayOpened head history request c →
     rest_of c (rows_in history) ≡ rows_replayed head request (rows_in history)
 opened_is head history request c is =
-    let table : c.table ≡ unwrap_or (table_named head.tables request.table) 0 = sym (ap (λ (place : Option ℕ). unwrap_or place 0) is.table) in
+    let table : c.table ≡ unwrap_or (table_number head.tables request.table) 0 = sym (ap (λ (place : Option ℕ). unwrap_or place 0) is.table) in
     is.replay history ([], append-nil history) ∙ ap (λ (number : ℕ). replay_asked head request number (rows_in history)) table
 
 -- no more rows than the history has

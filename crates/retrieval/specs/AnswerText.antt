@@ -1,7 +1,7 @@
 -- The answers to asks for values, and their text.
 use Rattle.std.specs.Prelude.{ℕ, List, [], ◌∷◌, ◌++◌, length, Bool, false, not, nat_lt, Option, Some, None, codes, decimal}
 use Rattle.asks.specs.declared.ask.Request.{Request}
-use Rattle.asks.specs.Directions.{in_direction}
+use Rattle.arch_types.specs.Directions.{in_direction}
 use Rattle.arch_types.specs.declared.cell.Cell.{Cell}
 use Rattle.arch_types.specs.declared.row.Row.{Row}
 use Rattle.mdb_items.specs.Database.{Database}

@@ -14,15 +14,15 @@ use Rattle.retrieval.specs.FilledAnswer.{request_text}
 use Rattle.retrieval.specs.ReplayText.{replay_text}
 
 -- the text of the ask with a number
-abbrev pub ask_text : Head → List Item → Fillings (List SetRow) → ℕ → Ask → List ℕ
-ask_text head history fillings k (Values request) = request_text head.mdb history fillings k request
-ask_text head history fillings k (Replay request) = replay_text head history k request
+abbrev pub ask_text : Head → ℕ → List Item → Fillings (List SetRow) → ℕ → Ask → List ℕ
+ask_text head exponent history fillings k (Values request) = request_text head.mdb exponent history fillings k request
+ask_text head exponent history fillings k (Replay request) = replay_text head history k request
 
 -- the texts of asks, numbered from k on
-abbrev pub asks_text : Head → List Item → Fillings (List SetRow) → ℕ → List Ask → List ℕ
-asks_text head history fillings k [] = []
-asks_text head history fillings k (ask ∷ asks) =
-    ask_text head history fillings k ask ++ asks_text head history fillings (suc k) asks
+abbrev pub asks_text : Head → ℕ → List Item → Fillings (List SetRow) → ℕ → List Ask → List ℕ
+asks_text head exponent history fillings k [] = []
+asks_text head exponent history fillings k (ask ∷ asks) =
+    ask_text head exponent history fillings k ask ++ asks_text head exponent history fillings (suc k) asks
 
 -- the refusal of the first ask that isn't answered
 abbrev pub asks_refusal : Head → List Ask → Option Refusal

@@ -7,8 +7,8 @@ use Rattle.arch_types.specs.declared.cell.Eng.{Eng}
 use Rattle.arch_types.specs.declared.cell.Eng.TheVariants.{Whole, Fixed, Label, Undef}
 use Rattle.mdb_items.specs.declared.calibration.Calibration.{Calibration}
 use Rattle.mdb_items.specs.declared.calibration.EnumRow.{EnumRow}
-use Rattle.mdb_items.specs.declared.calibration.Table.{Table}
-use Rattle.mdb_items.specs.declared.calibration.Table.TheVariants.{Poly, Points, Enum}
+use Rattle.mdb_items.specs.declared.calibration.Calibrator.{Calibrator}
+use Rattle.mdb_items.specs.declared.calibration.Calibrator.TheVariants.{Poly, Points, Enum}
 
 -- `-` before a negative number
 abbrev pub sign_text : ℤ → List ℕ
@@ -24,15 +24,15 @@ fixed_text millionths =
     sign_text millionths ++ decimal (unsigned_abs millionths / 1000000) ++ codes "." ++ six_digits (unsigned_abs millionths % 1000000)
 
 -- the rows of an enumeration
-abbrev pub rows_of_table : Table → List EnumRow
-rows_of_table (Poly rows) = []
-rows_of_table (Points rows) = []
-rows_of_table (Enum rows) = rows
+abbrev pub rows_of_calibrator : Calibrator → List EnumRow
+rows_of_calibrator (Poly rows) = []
+rows_of_calibrator (Points rows) = []
+rows_of_calibrator (Enum rows) = rows
 
 -- the rows of an enumeration; none of any other calibration
 abbrev pub labels_of : Option Calibration → List EnumRow
 labels_of None = []
-labels_of (Some calibration) = rows_of_table calibration.table
+labels_of (Some calibration) = rows_of_calibrator calibration.calibrator
 
 -- a label's text, UNDEF where there is none
 abbrev pub label_text : Option EnumRow → List ℕ

@@ -7,5 +7,4 @@ pub mod AskText
 pub mod FoundAsks
 pub mod PartCells
 pub mod FilledAnswer
-pub mod AddedFills
 pub mod Laws

@@ -2,7 +2,7 @@
 use Rattle.std.specs.Prelude.{ℕ, List, [], ◌++◌, flat_map, length, Option, Some, None, codes, decimal, slice_get, unwrap_or}
 use Rattle.std.specs.Fmt.{signed_decimal}
 use Rattle.asks.specs.declared.ask.ReplayRequest.{ReplayRequest}
-use Rattle.asks.specs.Names.{table_named}
+use Rattle.asks.specs.Names.{table_number}
 use Rattle.arch_types.specs.declared.key.Key.{Key}
 use Rattle.arch_types.specs.declared.row.Row.{Row}
 use Rattle.history_items.specs.Items.{Item, rows_in}
@@ -53,7 +53,7 @@ replay_lines k front db table rows = front_line k front ++ packet_lines db table
 -- the rows that a request asks of a history, where the head has its table
 abbrev pub rows_replayed : Head → ReplayRequest → List Row → List Row
 rows_replayed head request history =
-    replay_asked head request (unwrap_or (table_named head.tables request.table) 0) history
+    replay_asked head request (unwrap_or (table_number head.tables request.table) 0) history
 
 -- the text of the replay of a request, the ask with a number
 abbrev pub replay_text : Head → List Item → ℕ → ReplayRequest → List ℕ

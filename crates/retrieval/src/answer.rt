@@ -7,7 +7,8 @@ ghost use Rattle.arch_types.specs.declared.row.Row.{Row};
 ghost use Rattle.arch_types.specs.Table.{is_in_time_range};
 ghost use Rattle.history_items.specs.Items.{rows_in};
 ghost use Rattle.param_segments.specs.Plans.{ArePartsOver, HasValuesOf, rows_of_parts};
-ghost use Rattle.store_fills.specs.FilledSets.{fillings_in};
+ghost use Rattle.store_fills.specs.LastFills.{fillings_in};
+ghost use Rattle.archive_store.specs.Finding.{IsRequestFound};
 ghost use Rattle.archive_store.specs.Plans.{late_rows_of_range};
 ghost use Rattle.archive_store.specs.Stands.{IsSoundImage};
 ghost use Rattle.retrieval.specs.AnswerText.{answered};
@@ -24,7 +25,7 @@ use param_segments::Plan;
 use std::alloc::{AllocError, Global};
 use std::sync::ledger::Ledger;
 
-/// The answer over the parts of a plan to a request that was found in the plan's database, of which the sets' values are. A
+/// The answer over the parts of a plan, whose sets have values of its database, to a request by the number that was found. A
 /// set's cells are read from its columns and take no step, and a row outside the range takes none; neither a set nor a
 /// row behind the limit is read.
 pub fn answer<L: Ledger>(
@@ -66,9 +67,9 @@ pub fn answer_request<D: Disk, L: Ledger>(
     found: &FoundRequest,
     steps: &mut Steps<L>,
 ) -> Result<Answer, AllocError>
-    requires in_force { arc_value found.now.mdb ≡ store.old.head.mdb }
-    ensures found { IfOk result (IsFilledAnswer store.old.head.mdb store.old.history
-        (fillings_in store.old.filled) found.now) }
+    requires found { IsRequestFound store.old.head.mdb found.now }
+    ensures filled { IfOk result (IsFilledAnswer store.old.head.mdb store.old.exponent store.old.history
+        (fillings_in store.old.filled) found.now.request) }
 
     // Where the fills of the disk were sound when it was opened, the cells are those that the range's rows give.
     ensures answered { IfOk result (λ answer.
@@ -78,8 +79,8 @@ pub fn answer_request<D: Disk, L: Ledger>(
 
     // No row of a filled interval takes one.
     ensures steps { steps.new ≤ steps.old + length (filter
-        (is_in_time_range found.now.request.from found.now.request.to) (late_rows_of_range store.old.history
-        store.old.fills found.now.request.from found.now.request.to)) }
+        (is_in_time_range found.now.request.from found.now.request.to) (late_rows_of_range store.old.exponent
+        store.old.history store.old.fills found.now.request.from found.now.request.to)) }
 {
     // It tells the proof that the fill list has the bases of the fills that are there.
     let _bases = store.front();

@@ -9,7 +9,7 @@ ghost use Rattle.dump_lines.specs.LineRoom.{HasLineRoom, HasRoomFor, longest_num
 use arch_types::cell::{Cell, Eng};
 use dump_lines::line_buffer::LineBuffer;
 use itoa::Buffer;
-use mdb_model::{Calibration, EnumRow, Table};
+use mdb_model::{Calibration, Calibrator, EnumRow};
 
 /// Adds the line of a cell of a parameter with this calibration.
 pub fn put_cell(line_buffer: &mut LineBuffer, cell: Cell, calibration: Option<&Calibration>)
@@ -93,9 +93,9 @@ fn label_of(calibration: Option<&Calibration>, row: u16) -> &[u8]
     let Some(calibration) = calibration else {
         return b"UNDEF";
     };
-    match &calibration.table {
-        Table::Enum(rows) => label_at(rows.as_slice(), row),
-        Table::Poly(_) | Table::Points(_) => b"UNDEF",
+    match &calibration.calibrator {
+        Calibrator::Enum(rows) => label_at(rows.as_slice(), row),
+        Calibrator::Poly(_) | Calibrator::Points(_) => b"UNDEF",
     }
 }
 

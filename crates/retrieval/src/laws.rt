@@ -1,6 +1,6 @@
 //! Laws of the definitions, carried by functions that do nothing.
 
-ghost use Rattle.retrieval.specs.Laws.{AddedFillsAnswerAlike, FilledIsAnswered, PlannedIsAnswered};
+ghost use Rattle.retrieval.specs.Laws.{AddedFillsAnswerAlike, DatabaseLimitsAgree, FilledIsAnswered, PlannedIsAnswered};
 
 /// What is answered over the parts of a store's plan is the answer over its whole history.
 pub fn planned_is_answered()
@@ -15,4 +15,9 @@ pub fn filled_is_answered()
 /// Fills of late intervals, over the whole history, change nothing of what asks are answered.
 pub fn added_fills_answer_alike()
     ensures { AddedFillsAnswerAlike }
+{}
+
+/// The number of a limit that a database passes is that of the archive's.
+pub fn database_limits_agree()
+    ensures { DatabaseLimitsAgree }
 {}

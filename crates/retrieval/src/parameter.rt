@@ -1,7 +1,7 @@
 //! A parameter of the database that three sheets spell.
 
 ghost use Rattle.std.specs.Prelude.{◌≡◌, IfOk, IfErr};
-ghost use Rattle.retrieval.specs.Parameter.{IsNamedParameter, IsNoParameter, refusal_of_sheets, sheet_named, limit_named};
+ghost use Rattle.retrieval.specs.Parameter.{IsNamedParameter, IsNoParameter, refusal_of_sheets, sheet_named, limit_of_database};
 
 use mdb_model::{Mdb, MdbFault, MdbLimit, MdbSheet, RawMdb};
 use refusals::{Refusal, SheetName, Which};
@@ -45,7 +45,7 @@ pub fn refusal_of_sheets(fault: MdbFault) -> Refusal
             rule,
         },
         MdbFault::Limit { which, number } => Refusal::Limit {
-            which: limit_named(which),
+            which: limit_of_database(which),
             number: number as u64,
         },
         MdbFault::OutOfMemory => Refusal::OutOfMemory,
@@ -64,8 +64,8 @@ fn sheet_named(sheet: MdbSheet) -> SheetName
 }
 
 /// A quantity that a database limits, as refusals name it.
-fn limit_named(limit: MdbLimit) -> Which
-    ensures { result ≡ limit_named limit }
+fn limit_of_database(limit: MdbLimit) -> Which
+    ensures { result ≡ limit_of_database limit }
 {
     match limit {
         MdbLimit::Calibrations => Which::Calibrations,

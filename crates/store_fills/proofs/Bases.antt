@@ -5,7 +5,7 @@ use Rattle.intervals.specs.declared.interval.Interval.{Interval}
 use Rattle.param_segments.specs.Rows.{SetRow}
 use Rattle.history_items.specs.declared.fills.Fill.TheVariants.{Done}
 use Rattle.history_items.specs.Fills.{base_after, is_same}
-use Rattle.store_fills.specs.FilledSets.{FilledIntervals, fill_over, filling_at, fillings_in, place_in}
+use Rattle.store_fills.specs.LastFills.{PlacedFills, fill_over, filling_at, fillings_in, place_in}
 use Rattle.store_fills.specs.Sound.{Filling, Fillings, base_of_filling, no_fillings, with_filling}
 
 -- the base of an interval after a fill came is that of the fill list after its end was noted
@@ -17,5 +17,5 @@ base_with fillings i j base set = go (is_same j i)
     go false = refl
 
 -- without a place there is no fill
-pub none_filled : (filled : FilledIntervals) → filled.entries ≡ [] → fillings_in filled ≡ no_fillings
+pub none_filled : (filled : PlacedFills) → filled.entries ≡ [] → fillings_in filled ≡ no_fillings
 none_filled filled none = ap (λ (entries : List (Interval × ℕ)). λ (i : Interval). filling_at filled.slots (place_in entries i)) none

@@ -1,11 +1,11 @@
 -- What a fill list tells of faults is told by these alone.
 use Rattle.std.proofs.Common.{◌≡◌, ℕ, List, [], ◌∷◌, ◌++◌, true, false, refl, ap}
 use Rattle.std.specs.List.{AllByRecursion}
-use Rattle.history_items.specs.declared.fills.Addition.TheVariants.{Nothing, Rows}
+use Rattle.history_items.specs.declared.fills.Addition.TheVariants as additions
 use Rattle.history_items.specs.declared.fills.Fill.{Fill}
 use Rattle.history_items.specs.declared.fills.Fill.TheVariants.{Begun, Done, Freed, Fault}
 use Rattle.history_items.specs.Items.{Item, items_of}
-use Rattle.history_items.specs.Fills.{Rising, above, pending_fault_of, reopened, rows_of_faults, unacknowledged_rows}
+use Rattle.history_items.specs.Fills.{Rising, above, pending_fault_of, reopened, rows_of_faults, unacknowledged_in}
 use Rattle.store_fills.specs.Faults.{IsDone, faults_in}
 
 pub faults_in-append : (fills more : List Fill) → faults_in (fills ++ more) ≡ faults_in fills ++ faults_in more
@@ -35,8 +35,9 @@ rows_of_faults-in [] = refl
 rows_of_faults-in (Begun i b ∷ fills) = rows_of_faults-in fills
 rows_of_faults-in (Done i b ∷ fills) = rows_of_faults-in fills
 rows_of_faults-in (Freed i ∷ fills) = rows_of_faults-in fills
-rows_of_faults-in (Fault count wrote Nothing ∷ fills) = rows_of_faults-in fills
-rows_of_faults-in (Fault count wrote (Rows rows) ∷ fills) = ap (λ (l : List (List Item)). items_of rows ∷ l) (rows_of_faults-in fills)
+rows_of_faults-in (Fault count wrote additions.Nothing ∷ fills) = rows_of_faults-in fills
+rows_of_faults-in (Fault count wrote (additions.Fill interval base) ∷ fills) = rows_of_faults-in fills
+rows_of_faults-in (Fault count wrote (additions.Rows rows) ∷ fills) = ap (λ (l : List (List Item)). items_of rows ∷ l) (rows_of_faults-in fills)
 
 pub pending_fault_of-in : (fills : List Fill) → pending_fault_of fills ≡ pending_fault_of (faults_in fills)
 pending_fault_of-in [] = refl
@@ -46,14 +47,13 @@ pending_fault_of-in (Freed i ∷ fills) = pending_fault_of-in fills
 pending_fault_of-in (Fault count true unacknowledged ∷ fills) = refl
 pending_fault_of-in (Fault count false unacknowledged ∷ fills) = pending_fault_of-in fills
 
-pub unacknowledged_rows-in : (fills : List Fill) → unacknowledged_rows fills ≡ unacknowledged_rows (faults_in fills)
-unacknowledged_rows-in [] = refl
-unacknowledged_rows-in (Begun i b ∷ fills) = unacknowledged_rows-in fills
-unacknowledged_rows-in (Done i b ∷ fills) = unacknowledged_rows-in fills
-unacknowledged_rows-in (Freed i ∷ fills) = unacknowledged_rows-in fills
-unacknowledged_rows-in (Fault count true Nothing ∷ fills) = refl
-unacknowledged_rows-in (Fault count true (Rows rows) ∷ fills) = refl
-unacknowledged_rows-in (Fault count false unacknowledged ∷ fills) = unacknowledged_rows-in fills
+pub unacknowledged-in : (fills : List Fill) → unacknowledged_in fills ≡ unacknowledged_in (faults_in fills)
+unacknowledged-in [] = refl
+unacknowledged-in (Begun i b ∷ fills) = unacknowledged-in fills
+unacknowledged-in (Done i b ∷ fills) = unacknowledged-in fills
+unacknowledged-in (Freed i ∷ fills) = unacknowledged-in fills
+unacknowledged-in (Fault count true unacknowledged ∷ fills) = refl
+unacknowledged-in (Fault count false unacknowledged ∷ fills) = unacknowledged-in fills
 
 -- the counts of faults rise where those of a fill list do
 pub Rising-in : (fills : List Fill) (low high : ℕ) → Rising low high fills → Rising low high (faults_in fills)

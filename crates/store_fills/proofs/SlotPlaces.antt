@@ -11,8 +11,8 @@ use Rattle.intervals.specs.Interval.{interval_cmp}
 use Rattle.intervals.proofs.Ranks.{interval_cmp_total}
 use Rattle.late_marks.proofs.IntervalOrder.{apart}
 use Rattle.store_fills.specs.Sound.{with_filling}
-use Rattle.store_fills.specs.declared.sets.FilledSlot.{FilledSlot}
-use Rattle.store_fills.specs.FilledSets.{ArePlaced, place_in, filling_of, filling_at}
+use Rattle.store_fills.specs.declared.last_fills.LastFill.{LastFill}
+use Rattle.store_fills.specs.LastFills.{ArePlaced, place_in, filling_of, filling_at}
 
 same_is : (a b : Interval) → is_same a b ≡ true → a ≡ b
 same_is a b e = ap (λ (n : ℤ). let i : Interval = record { 0 = n } in i) ((Decides-int_eq a.0 b.0).0 e)
@@ -28,35 +28,35 @@ some_is x y e = cc
 
 -- ---- lists
 
-get_last : (slots : List FilledSlot) (one : FilledSlot) → slice_get (slots ++ one ∷ []) (length slots) ≡ Some one
+get_last : (slots : List LastFill) (one : LastFill) → slice_get (slots ++ one ∷ []) (length slots) ≡ Some one
 get_last [] one = refl
 get_last (h ∷ slots) one = get_last slots one
 
-get_front : (slots : List FilledSlot) (one : FilledSlot) (at : ℕ) → at < length slots → slice_get (slots ++ one ∷ []) at ≡ slice_get slots at
+get_front : (slots : List LastFill) (one : LastFill) (at : ℕ) → at < length slots → slice_get (slots ++ one ∷ []) at ≡ slice_get slots at
 get_front [] one at within = absurd (omega (arith, within))
 get_front (h ∷ slots) one zero within = refl
 get_front (h ∷ slots) one (suc at) within = get_front slots one at (omega (arith, within))
 
-get_set : (slots : List FilledSlot) (at : ℕ) (one : FilledSlot) → at < length slots → slice_get (set slots at one) at ≡ Some one
+get_set : (slots : List LastFill) (at : ℕ) (one : LastFill) → at < length slots → slice_get (set slots at one) at ≡ Some one
 get_set [] at one within = absurd (omega (arith, within))
 get_set (h ∷ slots) zero one within = refl
 get_set (h ∷ slots) (suc at) one within = get_set slots at one (omega (arith, within))
 
-get_set_other : (slots : List FilledSlot) (at p : ℕ) (one : FilledSlot) → (p ≡ at → ⊥) → slice_get (set slots at one) p ≡ slice_get slots p
+get_set_other : (slots : List LastFill) (at p : ℕ) (one : LastFill) → (p ≡ at → ⊥) → slice_get (set slots at one) p ≡ slice_get slots p
 get_set_other [] at p one apart = refl
 get_set_other (h ∷ slots) zero zero one apart = absurd (apart refl)
 get_set_other (h ∷ slots) zero (suc p) one apart = refl
 get_set_other (h ∷ slots) (suc at) zero one apart = refl
 get_set_other (h ∷ slots) (suc at) (suc p) one apart = get_set_other slots at p one (λ e. apart (ap suc e))
 
-pub length_set : (slots : List FilledSlot) (at : ℕ) (one : FilledSlot) → length (set slots at one) ≡ length slots
+pub length_set : (slots : List LastFill) (at : ℕ) (one : LastFill) → length (set slots at one) ≡ length slots
 length_set [] at one = refl
 length_set (h ∷ slots) zero one = refl
 length_set (h ∷ slots) (suc at) one = omega (arith, length_set slots at one)
 
 -- ---- a fill in a new place
 
-module _ (entries : List (Interval × ℕ)) (slots : List FilledSlot) (i : Interval) (one : FilledSlot) (placed : ArePlaced entries slots) (none : place_in entries i ≡ None) where
+module _ (entries : List (Interval × ℕ)) (slots : List LastFill) (i : Interval) (one : LastFill) (placed : ArePlaced entries slots) (none : place_in entries i ≡ None) where
   abbrev pub new_entries : List (Interval × ℕ)
   new_entries = insert_entry interval_cmp entries i (length slots)
 
@@ -97,7 +97,7 @@ module _ (entries : List (Interval × ℕ)) (slots : List FilledSlot) (i : Inter
 
 -- ---- a fill in a place that is there
 
-module _ (entries : List (Interval × ℕ)) (slots : List FilledSlot) (i : Interval) (p : ℕ) (one : FilledSlot) (placed : ArePlaced entries slots) (found : place_in entries i ≡ Some p) where
+module _ (entries : List (Interval × ℕ)) (slots : List LastFill) (i : Interval) (p : ℕ) (one : LastFill) (placed : ArePlaced entries slots) (found : place_in entries i ≡ Some p) where
   same_front : (o : Option ℕ) → (o ≡ Some p → ⊥) → filling_at (set slots p one) o ≡ filling_at slots o
   same_front None apart = refl
   same_front (Some at) apart = ap (option_map filling_of) (get_set_other slots p at one (λ e. apart (ap Some e)))

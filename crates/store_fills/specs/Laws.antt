@@ -9,7 +9,7 @@ use Rattle.mdb_items.specs.Database.{Database}
 use Rattle.param_segments.specs.Extracted.{IsSetOf}
 use Rattle.param_segments.specs.Rows.{SetRow}
 use Rattle.store_fills.specs.Filled.{HoldsRows, IsRightFill}
-use Rattle.store_fills.specs.FilledSets.{fill_over}
+use Rattle.store_fills.specs.LastFills.{fill_over}
 use Rattle.store_fills.specs.Sound.{Fillings, with_filling, AreSound}
 
 -- fills that are sound are so when rows come

@@ -1,5 +1,5 @@
 pub mod Sound
-pub mod FilledSets
+pub mod LastFills
 pub mod Filled
 pub mod Faults
 pub mod Built

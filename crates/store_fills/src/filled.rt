@@ -86,16 +86,22 @@ impl Filled {
     /// The one error is want of memory, a record of 2^32 octets or more being one. It hands the task back, which its
     /// store can then give up.
     pub fn of(alloc: Global, task: FillTask, mdb: &Mdb) -> Result<Filled, (FillTask, AllocError)>
-        requires rows { IsTaskRows 22 task.interval task.rows }
+        requires rows { IsTaskRows task.exponent task.interval task.rows }
         requires mdb { mdb.now ≡ arc_value task.mdb }
         ensures of_task { IfOk result (λ f. (f.interval ≡ task.interval) × (f.base ≡ task.base)) }
         ensures rows { IfOk result (λ f. f.set ≡ extracted_rows mdb.now task.rows) }
-        ensures fits { IfOk result (λ f. IsSetOf mdb.now 22 task.interval.0 f.set) }
+        ensures fits { IfOk result (λ f. IsSetOf mdb.now task.exponent task.interval.0 f.set) }
         ensures holds { IfOk result (λ f. HoldsRows mdb.now f.set task.rows) }
         ensures back { IfErr result (λ e. e.0 ≡ task) }
     {
-        let exponent = Exponent::of_format_1();
-        let Ok(filled) = build(alloc, task.interval, exponent, task.base, &task.rows, mdb) else {
+        let Ok(filled) = build(
+            alloc,
+            task.interval,
+            task.exponent,
+            task.base,
+            &task.rows,
+            mdb,
+        ) else {
             return Err((task, AllocError));
         };
         Ok(filled)

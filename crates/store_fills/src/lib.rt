@@ -1,21 +1,21 @@
-//! Fills as a store holds them: the sets of intervals that were filled, and when such sets are sound. No disk.
+//! Fills as a store holds them: the last fill of each interval, and when fills are sound. No disk.
 //!
 //! A fill that is there is a base and a set (`Filling` of specs/Sound.antt): the set holds what the interval's rows below
 //! the base give. `AreSound` says so of every interval none of whose rows came later, whatever a set is; two laws say
-//! that more rows, and a fill that is right, leave it so. `FilledSets` keeps the last fill of each interval. A `FillTask`
+//! that more rows, and a fill that is right, leave it so. `LastFills` keeps the last fill of each interval. A `FillTask`
 //! is what a fill is built of, and a `Filled` is one that is built, with the record that stands for it on a disk. Callers:
 //! the store, which reads fills of its disk, gives tasks and installs what was built; and whoever builds in between.
 //!
 //! The idea of the proof: an interval none of whose rows came at or after a base has the rows that it had below the base
-//! (interval_fills). In `FilledSets` each interval has one slot, where a later fill takes the place of the one before, so
+//! (interval_fills). In `LastFills` each interval has one slot, where a later fill takes the place of the one before, so
 //! that sets are as many as intervals.
 #![tactic(auto)]
 
 mod filled;
+mod last_fills;
 pub mod laws;
-mod sets;
 mod task;
 
 pub use filled::Filled;
-pub use sets::{FilledSets, FilledSlot};
+pub use last_fills::{LastFill, LastFills};
 pub use task::FillTask;

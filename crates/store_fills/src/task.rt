@@ -1,7 +1,7 @@
 //! What is filled.
 
 use arch_types::row::Rows;
-use intervals::Interval;
+use intervals::{Exponent, Interval};
 use mdb_model::Mdb;
 use std::alloc::Global;
 use std::sync::Arc;
@@ -10,6 +10,8 @@ use std::sync::Arc;
 #[derive(Drop)]
 pub struct FillTask {
     pub interval: Interval,
+    /// The exponent of the archive's intervals.
+    pub exponent: Exponent,
     /// The number of items of the history that the fill looks at.
     pub base: u64,
     /// The interval's rows of table `tm` among these, in the order of their keys.

@@ -6,7 +6,7 @@ use Rattle.archive_history.proofs.history.are_too_many.Goals as goal
 pub returns-then-known-rows : goal.returns-then-known-rows
 returns-then-known-rows c = (
   λ is. absurd cc,
-  λ many. absurd (omega (arith, many, c.rows_of-known.ensures, few_filter (is_row_of_interval c.args.exponent c.args.interval) c.args.rows.now, c.if-known-rows.true, c.number.ensures)),
+  λ many. absurd (omega (arith, many, c.rows_of-known.ensures, few_filter (is_row_of_interval c.args.exponent c.args.interval) c.args.rows.now, c.if-known-rows.true, c.limit.ensures)),
 )
 
 pub overflow_add-result : goal.overflow_add-result

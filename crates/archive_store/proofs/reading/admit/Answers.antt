@@ -14,16 +14,21 @@ touch-requires-clause-small c = omega (arith, c.len-first.ensures.len, c.len-fir
 
 pub returns-clause-marks : goal.returns-clause-marks
 returns-clause-marks c all =
-    let items : List Item = c.args.made.now.history.items in
+    let made = c.args.made.now in
+    let items : List Item = made.history.items in
     let rows : List Row = c.args.rows in
     let roomy : c.reserve.new.self.items ≡ items = ap (λ (h : HistoryView). h.items) c.in_ok-reserve.ensures.ok in
-    let format = c.exponent.ensures ∙ ap (λ (h : HistoryView). h.exponent) c.in_ok-reserve.ensures.ok ∙ c.requires.tables.1 in
-    let before = subst (λ (e : ℕ). AreMarksOf e items c.reserve_rows.new.self.fills c.reserve_rows.new.self.marks) (sym format) (c.reserve_rows.ensures.marks 22 items c.requires.marks.1) in
+    let kept = ap (λ (h : HistoryView). h.exponent) c.in_ok-reserve.ensures.ok in
+    let format = c.exponent.ensures ∙ kept in
+    let stays = c.add_all.ensures.exponent ∙ kept in
+    let before = subst (λ (e : ℕ). AreMarksOf e items c.reserve_rows.new.self.fills c.reserve_rows.new.self.marks) (sym format) (c.reserve_rows.ensures.marks made.history.exponent items c.requires.marks.1) in
     let marks = subst (λ (e : ℕ). AreMarksOf e (items ++ c.as_slice-3.result.now) c.touch.new.self.fills c.touch.new.self.marks) format (c.touch.ensures.marks items (omega (arith, c.len-first.ensures.len, ap length roomy)) before) in
-    let touched = subst (λ (l : List Row). AreMarksOf 22 (items ++ l) c.touch.new.self.fills c.touch.new.self.marks) c.as_slice-3.ensures marks in
+    let touched = subst (λ (l : List Row). AreMarksOf made.history.exponent (items ++ l) c.touch.new.self.fills c.touch.new.self.marks) c.as_slice-3.ensures marks in
     let added = c.add_all.ensures.items all ∙ ap (λ (l : List Item). l ++ rows) roomy in
     let fills = c.touch.ensures.fills ∙ c.reserve_rows.ensures.fills in (
       subst (AllByRecursion IsDone) (sym fills) c.requires.marks.0,
-      subst (λ (l : List Item). AreMarksOf 22 l c.touch.new.self.fills c.touch.new.self.marks) (sym added) touched,
-      subst (λ (l : List Fill). HoldsFills c.args.made.now.head l c.args.made.now.sets.filled) (sym fills) c.requires.marks.2,
+      subst (λ (e : ℕ). AreMarksOf e c.add_all.new.self.items c.touch.new.self.fills c.touch.new.self.marks) (sym stays)
+          (subst (λ (l : List Item). AreMarksOf made.history.exponent l c.touch.new.self.fills c.touch.new.self.marks) (sym added) touched),
+      subst (λ (e : ℕ). HoldsFills made.head e c.touch.new.self.fills made.sets.filled) (sym stays)
+          (subst (λ (l : List Fill). HoldsFills made.head made.history.exponent l made.sets.filled) (sym fills) c.requires.marks.2),
     )

@@ -1,4 +1,4 @@
-use Rattle.std.proofs.Common.{List, None, Some, sym, ◌∙◌, ap, subst}
+use Rattle.std.proofs.Common.{ℕ, List, None, Some, sym, true≢false, ◌∙◌, ap, subst}
 use Rattle.std.specs.Arc.{arc_value}
 use Rattle.std.specs.List.{AllByRecursion}
 use Rattle.history_items.specs.declared.fills.Fill.TheVariants.{Done}
@@ -9,7 +9,7 @@ use Rattle.fill_tracker.specs.FillTracker.{AreMarksOf}
 use Rattle.param_segments.specs.Extracted.{IsSetOf}
 use Rattle.param_segments.specs.Octets.{rows_in_octets, set_octets}
 use Rattle.param_segments.specs.Rows.{SetRow}
-use Rattle.store_fills.specs.FilledSets.{fill_over, fillings_in}
+use Rattle.store_fills.specs.LastFills.{fill_over, fillings_in}
 use Rattle.store_fills.specs.Sound.{with_filling}
 use Rattle.archive_store.specs.declared.head.Head.{Head}
 use Rattle.archive_store.specs.Entries.{filled_archive}
@@ -22,11 +22,11 @@ pub note_fill-requires : goal.note_fill-requires
 note_fill-requires c = c.may_fill.ensures.rows c.if-not-may_fill.false
 
 pub returns-then-not-may_fill-clause-no : goal.returns-then-not-may_fill-clause-no
-returns-then-not-may_fill-clause-no c refused fillable = c.may_fill.ensures.no c.if-not-may_fill.true fillable.based
+returns-then-not-may_fill-clause-no c refused fillable = true≢false (sym (c.may_fill.ensures.based.1 fillable.based) ∙ c.if-not-may_fill.true)
 
 pub returns-in_default-clause-no : goal.returns-in_default-clause-no
 returns-in_default-clause-no c refused fillable =
-    let none : IsSetRead c.args.made.now.head c.args.interval c.args.octets None = subst (IsSetRead c.args.made.now.head c.args.interval c.args.octets) c.in_default.is c.in_ok-found.ensures in
+    let none : IsSetRead c.args.made.now.head c.args.made.now.history.exponent c.args.interval c.args.octets None = subst (λ (e : ℕ). IsSetRead c.args.made.now.head e c.args.interval c.args.octets None) c.exponent.ensures (subst (IsSetRead c.args.made.now.head c.exponent.result c.args.interval c.args.octets) c.in_default.is c.in_ok-found.ensures) in
     none (rows_in_octets c.args.octets) fillable.set fillable.spelled
 
 pub returns-clause-yes : goal.returns-clause-yes
@@ -36,18 +36,21 @@ returns-clause-yes c ok =
     let i = c.args.interval in
     let base = c.args.base in
     let octets = c.args.octets in
-    let read : IsSetRead made.head i octets (Some c.in-Some.set) = subst (IsSetRead made.head i octets) c.in-Some.is c.in_ok-found.ensures in
+    let read : IsSetRead made.head made.history.exponent i octets (Some c.in-Some.set) = subst (λ (e : ℕ). IsSetRead made.head e i octets (Some c.in-Some.set)) c.exponent.ensures (subst (IsSetRead made.head c.exponent.result i octets) c.in-Some.is c.in_ok-found.ensures) in
     let rest = c.note_fill.ensures.rest in (
-      record {
-        fits = c.requires.entry;
-        based = c.may_fill.ensures.yes c.if-not-may_fill.false;
-        set = subst (IsSetOf made.head.mdb 22 i.0) read.2 read.0;
-        spelled = read.1 ∙ ap set_octets read.2;
-      },
-      ap (λ (h : Head). filled_archive h new.history.items (fillings_in new.sets.filled)) rest.0
-          ∙ ap (λ (h : HistoryView). filled_archive made.head h.items (fillings_in new.sets.filled)) rest.1
-          ∙ ap (filled_archive made.head made.history.items)
-          (c.in_ok-note_fill.ensures.sets ∙ ap (λ (s : List SetRow). with_filling (fillings_in made.sets.filled) i (fill_over base s)) (c.in_ok-shared.ensures.ok ∙ read.2)),
+      (
+        record {
+          fits = c.requires.entry;
+          based = c.may_fill.ensures.based.0 c.if-not-may_fill.false;
+          set = subst (IsSetOf made.head.mdb made.history.exponent i.0) read.2 read.0;
+          spelled = read.1 ∙ ap set_octets read.2;
+        },
+        ap (λ (h : Head). filled_archive h new.history.exponent new.history.items (fillings_in new.sets.filled)) rest.0
+            ∙ ap (λ (h : HistoryView). filled_archive made.head h.exponent h.items (fillings_in new.sets.filled)) rest.1
+            ∙ ap (filled_archive made.head made.history.exponent made.history.items)
+            (c.in_ok-note_fill.ensures.sets ∙ ap (λ (s : List SetRow). with_filling (fillings_in made.sets.filled) i (fill_over base s)) (c.in_ok-shared.ensures.ok ∙ read.2)),
+      ),
+      c.in_ok-note_fill.ensures.fills,
     )
 
 pub returns-clause-marks : goal.returns-clause-marks
@@ -57,12 +60,13 @@ returns-clause-marks c ok =
     let i = c.args.interval in
     let base = c.args.base in
     let octets = c.args.octets in
-    let read : IsSetRead made.head i octets (Some c.in-Some.set) = subst (IsSetRead made.head i octets) c.in-Some.is c.in_ok-found.ensures in
+    let read : IsSetRead made.head made.history.exponent i octets (Some c.in-Some.set) = subst (λ (e : ℕ). IsSetRead made.head e i octets (Some c.in-Some.set)) c.exponent.ensures (subst (IsSetRead made.head c.exponent.result i octets) c.in-Some.is c.in_ok-found.ensures) in
     let rest = c.note_fill.ensures.rest in
     let fills = c.in_ok-note_fill.ensures.fills in
-    let is : IsSetOf made.head.mdb 22 i.0 (arc_value c.in_ok-shared.shared) = subst (IsSetOf made.head.mdb 22 i.0) (sym c.in_ok-shared.ensures.ok) read.0 in (
+    let is : IsSetOf made.head.mdb made.history.exponent i.0 (arc_value c.in_ok-shared.shared) = subst (IsSetOf made.head.mdb made.history.exponent i.0) (sym c.in_ok-shared.ensures.ok) read.0 in (
       subst (AllByRecursion IsDone) (sym fills) (all_done made.tracker.fills (Done i base) c.requires.marks.0 tt),
-      subst (λ (h : HistoryView). AreMarksOf 22 h.items new.tracker.fills new.tracker.marks) (sym rest.1) (c.in_ok-note_fill.ensures.marks 22 made.history.items c.requires.marks.1),
-      subst (λ (h : Head). HoldsFills h new.tracker.fills new.sets.filled) (sym rest.0)
-          (holds_done made.head made.tracker.fills new.tracker.fills made.sets.filled new.sets.filled i base (arc_value c.in_ok-shared.shared) c.requires.marks.2 fills c.in_ok-note_fill.ensures.sets is),
+      subst (λ (h : HistoryView). AreMarksOf h.exponent h.items new.tracker.fills new.tracker.marks) (sym rest.1) (c.in_ok-note_fill.ensures.marks made.history.exponent made.history.items c.requires.marks.1),
+      subst (λ (h : HistoryView). HoldsFills new.head h.exponent new.tracker.fills new.sets.filled) (sym rest.1)
+          (subst (λ (h : Head). HoldsFills h made.history.exponent new.tracker.fills new.sets.filled) (sym rest.0)
+          (holds_done made.head made.history.exponent made.tracker.fills new.tracker.fills made.sets.filled new.sets.filled i base (arc_value c.in_ok-shared.shared) c.requires.marks.2 fills c.in_ok-note_fill.ensures.sets is)),
     )

@@ -6,12 +6,13 @@ use Rattle.disk_journal.specs.Calls.{content_read}
 use Rattle.disk_journal.specs.Format.{HasRecords}
 use Rattle.disk_journal.specs.Reading.{IsAt, IsCutShortAt, IsReadJournal, file_read}
 use Rattle.disk_journal.proofs.Calls.{read_are}
+use Rattle.history_items.specs.declared.fills.Fill.{Fill}
 use Rattle.field_codec.specs.declared.entry.Entry.{Entry}
 use Rattle.field_codec.specs.Spelling.{entry_octets}
-use Rattle.archive_store.specs.Entries.{HasArchivedRows, Replays}
-use Rattle.archive_store.specs.PartialArchive.{archive_made, IsArchiveRead, IsArchiveReadRefusal}
+use Rattle.archive_store.specs.Entries.{HasArchivedRows, Replays, dones_of}
+use Rattle.archive_store.specs.PartialArchive.{archive_made, fills_made, IsArchiveRead, IsArchiveReadRefusal}
 use Rattle.archive_store.proofs.Archived.{applied_archived}
-use Rattle.archive_store.proofs.Archives.{no_entries, opens_some, damaged_short, damaged_wrong, found_is, marks_found, rows_found, tables_found}
+use Rattle.archive_store.proofs.Archives.{dones-append, no_entries, opens_some, damaged_short, damaged_wrong, found_is, marks_found, rows_found, tables_found}
 use Rattle.archive_store.proofs.Refusals.{next_refused, only_refusal}
 use Rattle.archive_store.proofs.PendingFaults.{replays_next, bodies_more}
 use Rattle.archive_history.proofs.Steps.{if_ok}
@@ -55,6 +56,7 @@ returns-in-Ok-None-clause-read g c =
           let bodies : List (List ℕ) = map entry_octets s.0 in
           let are = read_are (content_read device old c.entries.disk) old bodies (subst (λ (l : List ℕ). IsAt old l bodies) (sym same) s.1) in
           found_is content new s.0 c.entries.made f p.0 p.1 (these HasRecords _ content _ bodies same are (x.has transparent)) (these (IsAt new) _ content _ bodies same are (x.stays transparent)) s.2;
+      dones = λ transparent. ap fills_made p.0 ∙ (inv.so_far transparent).3;
       in_file = p.1.file ∙ c.next.ensures.file ∙ inv.file;
       no_pending_fault = p.1.no_pending_fault;
       tables = tables_found c.entries.made f p.0 inv.tables;
@@ -140,6 +142,7 @@ entries-preserved g c =
             s.0 ++ entry ∷ [],
             subst (IsAt new (reads c.args.disk.now 0)) now next,
             subst (Replays None (s.0 ++ entry ∷ [])) (sym y.3) (replays_next None (archive_made c.entries.made) y.2 s.0 entry s.2 y.4),
+            y.5 ∙ ap (λ (l : List Fill). l ++ dones_of (entry ∷ [])) s.3 ∙ sym (dones-append s.0 (entry ∷ [])),
           );
     }
 

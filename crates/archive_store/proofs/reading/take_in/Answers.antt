@@ -1,17 +1,18 @@
-use Rattle.std.proofs.Common.{◌≡◌, ◌++◌, [], List, ℕ, Option, None, Some, true, false, true≢false, refl, sym, ◌∙◌, ap, subst}
+use Rattle.std.proofs.Common.{◌≡◌, ◌++◌, [], ◌∷◌, append-nil, List, ℕ, Option, None, Some, true, false, true≢false, refl, sym, ◌∙◌, ap, subst}
 use Rattle.std.specs.Option.{is_some}
 use Rattle.arch_types.specs.declared.row.Row.{Row}
+use Rattle.history_items.specs.declared.fills.Fill.{Fill}
 use Rattle.history_items.specs.Items.{Item}
 use Rattle.field_codec.specs.declared.entry.Entry.{Entry}
 use Rattle.field_codec.specs.declared.entry.Entry.TheVariants as kinds
 use Rattle.field_codec.specs.Entries.{IsArchiveEntry}
-use Rattle.field_codec.specs.Spelling.{entry_octets}
-use Rattle.store_fills.specs.FilledSets.{FilledIntervals, fillings_in}
+use Rattle.field_codec.specs.Spelling.{entry_octets, format_1_exponent}
+use Rattle.store_fills.specs.LastFills.{PlacedFills, fillings_in}
 use Rattle.store_fills.specs.Sound.{no_fillings}
 use Rattle.archive_store.specs.declared.head.Head.{Head}
 use Rattle.archive_store.specs.declared.reading.PartialArchive.{PartialArchive}
-use Rattle.archive_store.specs.Entries.{FilledArchive, archive, filled_archive, Applies, AreAdmitted}
-use Rattle.archive_store.specs.PartialArchive.{archive_made, filled_made}
+use Rattle.archive_store.specs.Entries.{FilledArchive, archive, dones_of, filled_archive, Applies, AreAdmitted}
+use Rattle.archive_store.specs.PartialArchive.{archive_made, fills_made, filled_made}
 use Rattle.archive_store.specs.Stands.{Breaks}
 use Rattle.archive_store.proofs.Admitting.{breaks_entry}
 use Rattle.archive_history.proofs.Steps.{if_ok}
@@ -19,28 +20,36 @@ use Rattle.archive_store.proofs.reading.take_in.Goals as goal
 
 -- the octets are an entry that makes this of what was there
 abbrev IsTaken : Option PartialArchive → List ℕ → Option PartialArchive → Type 0
-IsTaken was body made = (entry : Entry) × (body ≡ entry_octets entry) × (after : FilledArchive) × (archive_made made ≡ Some after) × Applies (archive_made was) entry after
+IsTaken was body made = (entry : Entry) × (body ≡ entry_octets entry) × (after : FilledArchive) × (archive_made made ≡ Some after) × Applies (archive_made was) entry after × (fills_made made ≡ fills_made was ++ dones_of (entry ∷ []))
 
 -- a first head
-takes_head : (was : Option PartialArchive) (head : Head) (begun : PartialArchive) → is_some was ≡ false → IsArchiveEntry (kinds.Head head.tables head.mdb) → filled_made begun ≡ filled_archive head [] no_fillings
+takes_head : (was : Option PartialArchive) (head : Head) (begun : PartialArchive) → is_some was ≡ false → IsArchiveEntry (kinds.Head head.tables head.mdb) → filled_made begun ≡ filled_archive head format_1_exponent [] no_fillings
     → Applies (archive_made was) (kinds.Head head.tables head.mdb) (filled_made begun)
 takes_head None head begun none fits made = (fits, made)
 takes_head (Some before) head begun none fits made = absurd (true≢false none)
 
+-- before it nothing is told of fills
+none_told : (was : Option PartialArchive) → is_some was ≡ false → fills_made was ≡ []
+none_told None none = refl
+none_told (Some before) none = absurd (true≢false none)
+
 -- rows that are admitted
 takes_rows : (was : Option PartialArchive) (made now : PartialArchive) (rows : List Row) (body : List ℕ) → was ≡ Some made → body ≡ entry_octets (kinds.Rows rows) → (now.head ≡ made.head) × (now.sets.filled ≡ made.sets.filled)
-    → AreAdmitted (archive made.head made.history.items) rows × (now.history.items ≡ made.history.items ++ rows) → IsTaken was body (Some now)
-takes_rows was made now rows body is spelled same ok = (
+    → now.history.exponent ≡ made.history.exponent → now.tracker.fills ≡ made.tracker.fills
+    → AreAdmitted (archive made.head made.history.exponent made.history.items) rows × (now.history.items ≡ made.history.items ++ rows) → IsTaken was body (Some now)
+takes_rows was made now rows body is spelled same alike told ok = (
   kinds.Rows rows,
   spelled,
   filled_made now,
   refl,
   subst (λ (o : Option PartialArchive). Applies (archive_made o) (kinds.Rows rows) (filled_made now)) (sym is) (
     ok.0,
-    ap (λ (h : Head). filled_archive h now.history.items (fillings_in now.sets.filled)) same.0
-        ∙ ap (λ (l : List Item). filled_archive made.head l (fillings_in now.sets.filled)) ok.1
-        ∙ ap (λ (f : FilledIntervals). filled_archive made.head (made.history.items ++ rows) (fillings_in f)) same.1,
+    ap (λ (h : Head). filled_archive h now.history.exponent now.history.items (fillings_in now.sets.filled)) same.0
+        ∙ ap (λ (e : ℕ). filled_archive made.head e now.history.items (fillings_in now.sets.filled)) alike
+        ∙ ap (λ (l : List Item). filled_archive made.head made.history.exponent l (fillings_in now.sets.filled)) ok.1
+        ∙ ap (λ (f : PlacedFills). filled_archive made.head made.history.exponent (made.history.items ++ rows) (fillings_in f)) same.1,
   ),
+  told ∙ sym (ap fills_made is) ∙ sym (append-nil (fills_made was)),
 )
 
 -- a second head
@@ -65,6 +74,7 @@ returns-in_ok-begun-in-Ok-Head-clause-yes c ok =
       filled_made begun,
       refl,
       takes_head c.args.made.now head begun (sym c.if-is_some.ensures) spelled.0 c.in_ok-begun-in-Ok-Head.ensures.made,
+      c.in_ok-begun-in-Ok-Head.ensures.fills ∙ sym (ap (λ (l : List Fill). l ++ []) (none_told c.args.made.now (sym c.if-is_some.ensures))),
     )
 
 pub returns-in-Some-clause-yes : goal.returns-in-Some-clause-yes
@@ -74,8 +84,8 @@ returns-in-Some-clause-yes c =
     let body : List ℕ = c.args.body.now in
     let now : PartialArchive = c.admit.new.made in
     let spelled = rw c.in-Ok-Rows.field-0-is at c.in-Ok-Rows.ensures.spelled in
-    if_ok c.admit.result (λ ok. ok ≡ true → AreAdmitted (archive made.head made.history.items) rows × (now.history.items ≡ made.history.items ++ rows)) (λ ok. ok ≡ true → IsTaken c.args.made.now body (Some now))
-    (λ ok p is. takes_rows c.args.made.now made now rows body c.in-Some.is spelled.1 c.admit.ensures.head (p is))
+    if_ok c.admit.result (λ ok. ok ≡ true → AreAdmitted (archive made.head made.history.exponent made.history.items) rows × (now.history.items ≡ made.history.items ++ rows)) (λ ok. ok ≡ true → IsTaken c.args.made.now body (Some now))
+    (λ ok p is. takes_rows c.args.made.now made now rows body c.in-Some.is spelled.1 c.admit.ensures.head c.admit.ensures.tables.1 c.admit.ensures.fills (p is))
     c.admit.ensures.yes
 
 -- ---- a fill
@@ -88,8 +98,8 @@ returns-in-Ok-Fill-clause-yes c =
     let entry = kinds.Fill c.in-Ok-Fill.interval c.in-Ok-Fill.base c.in-Ok-Fill.set in
     let now = c.take_fill.new.made in
     let spelled = rw c.in-Ok-Fill.field-0-is at c.in-Ok-Fill.ensures.spelled in
-    if_ok c.take_fill.result (λ ok. ok ≡ true → (after : FilledArchive) × (archive_made now ≡ Some after) × Applies (archive_made c.args.made.now) entry after) (λ ok. ok ≡ true → IsTaken c.args.made.now c.args.body.now now)
-    (λ ok p is. let t = p is in (entry, spelled.1, t.0, t.1, t.2)) c.take_fill.ensures.yes
+    if_ok c.take_fill.result (λ ok. ok ≡ true → (after : FilledArchive) × (archive_made now ≡ Some after) × Applies (archive_made c.args.made.now) entry after × (fills_made now ≡ fills_made c.args.made.now ++ dones_of (entry ∷ []))) (λ ok. ok ≡ true → IsTaken c.args.made.now c.args.body.now now)
+    (λ ok p is. let t = p is in (entry, spelled.1, t.0, t.1, t.2, t.3)) c.take_fill.ensures.yes
 
 pub returns-in-Ok-Fill-clause-no : goal.returns-in-Ok-Fill-clause-no
 returns-in-Ok-Fill-clause-no c =

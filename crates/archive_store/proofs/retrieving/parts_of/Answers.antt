@@ -27,7 +27,7 @@ left_parts P all n within = subst (AllByRecursion P) (first_left all n within)
 
 pub part_of-requires : goal.part_of-requires
 part_of-requires g c =
-    (left_parts (λ j. IsSome (last_in 22 j c.args.store.now.history)) c.args.intervals.now c.loop-interval.interval-index c.loop-interval-test.true c.loop-interval.invariant.left).0
+    (left_parts (λ j. IsSome (last_in c.args.store.now.exponent j c.args.store.now.history)) c.args.intervals.now c.loop-interval.interval-index c.loop-interval-test.true c.loop-interval.invariant.left).0
 
 pub loop-interval-preserved : goal.loop-interval-preserved
 loop-interval-preserved g c =
@@ -43,7 +43,7 @@ loop-interval-preserved g c =
     record {
       each = parts_push (IsPlanPart store) parts c.push.new.self.items part items inv.each c.in_ok-part.ensures.part;
       intervals = intervals_push parts c.push.new.self.items part i rest items c.in_ok-part.ensures.interval ∙ ap (λ (l : List Interval). plan_intervals parts ++ l) (sym (first_left all n c.loop-interval-test.true)) ∙ inv.intervals;
-      left = (left_parts (λ j. IsSome (last_in 22 j store.history)) all n c.loop-interval-test.true inv.left).1;
+      left = (left_parts (λ j. IsSome (last_in store.exponent j store.history)) all n c.loop-interval-test.true inv.left).1;
     }
 
 pub returns-clause-each : goal.returns-clause-each

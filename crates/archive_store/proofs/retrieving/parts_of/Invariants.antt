@@ -10,5 +10,5 @@ abbrev pub invariant-loop-interval : goal.invariant-loop-interval
 invariant-loop-interval g l = record {
   each : AllByRecursion (IsPlanPart l.store) l.parts.items;
   intervals : plan_intervals l.parts.items ++ drop l.interval-index l.intervals ≡ l.intervals;
-  left : AllByRecursion (λ i. IsSome (last_in 22 i l.store.history)) (drop l.interval-index l.intervals);
+  left : AllByRecursion (λ i. IsSome (last_in l.store.exponent i l.store.history)) (drop l.interval-index l.intervals);
 }

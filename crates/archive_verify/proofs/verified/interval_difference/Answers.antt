@@ -9,7 +9,7 @@ use Rattle.interval_fills.specs.Intervals.{rows_of_interval}
 use Rattle.mdb_items.specs.Database.{Database}
 use Rattle.param_segments.specs.Cells.{set_cells}
 use Rattle.param_segments.specs.Rows.{SetRow}
-use Rattle.store_fills.specs.FilledSets.{fill_over, fillings_in}
+use Rattle.store_fills.specs.LastFills.{fill_over, fillings_in}
 use Rattle.archive_store.specs.declared.head.Head.{Head}
 use Rattle.archive_store.specs.CurrentSets.{IsCurrentSet}
 use Rattle.archive_store.specs.StoreView.{filled_of}
@@ -45,7 +45,7 @@ returns-clause-some g c =
     let current : IsCurrentSet store i set = subst (λ o. IfSome o (λ s. IsCurrentSet store i (arc_value s))) c.in-Some.is c.in_ok-stored.ensures.some in
     let fill = current_of store i set c.front.ensures.bases current in
     let replayed = c.in_ok-replayed.replayed in
-    let gives = gives_named store.head.mdb named c.in_ok-rows.rows (rows_of_interval 22 i store.history) replayed same_db c.in_ok-rows.ensures.rows c.in_ok-replayed.ensures.cells in
+    let gives = gives_named store.head.mdb named c.in_ok-rows.rows (rows_of_interval store.exponent i store.history) replayed same_db c.in_ok-rows.ensures.rows c.in_ok-replayed.ensures.cells in
     let found = subst (λ (x : Database). IfOk c.set_difference.result (λ o. IfSome o (IsFirstSetDifference x set replayed))) same_db
     (subst (λ (s : List SetRow). IfOk c.set_difference.result (λ o. IfSome o (IsFirstSetDifference named s replayed))) c.deref.ensures c.set_difference.ensures.some) in
     some_weaker (IsFirstSetDifference store.head.mdb set replayed) (IsIntervalMismatch (filled_of store) i)
@@ -61,7 +61,7 @@ returns-clause-none g c =
     let current : IsCurrentSet store i set = subst (λ o. IfSome o (λ s. IsCurrentSet store i (arc_value s))) c.in-Some.is c.in_ok-stored.ensures.some in
     let fill = current_of store i set c.front.ensures.bases current in
     let replayed = c.in_ok-replayed.replayed in
-    let gives = gives_named store.head.mdb named c.in_ok-rows.rows (rows_of_interval 22 i store.history) replayed same_db c.in_ok-rows.ensures.rows c.in_ok-replayed.ensures.cells in
+    let gives = gives_named store.head.mdb named c.in_ok-rows.rows (rows_of_interval store.exponent i store.history) replayed same_db c.in_ok-rows.ensures.rows c.in_ok-replayed.ensures.cells in
     let same = subst (λ (x : Database). IfOk c.set_difference.result (λ o. IfNone o ((q : ℕ) → set_cells x q set ≡ set_cells x q replayed))) same_db
     (subst (λ (s : List SetRow). IfOk c.set_difference.result (λ o. IfNone o ((q : ℕ) → set_cells named q s ≡ set_cells named q replayed))) c.deref.ensures c.set_difference.ensures.none) in
     none_weaker ((q : ℕ) → set_cells store.head.mdb q set ≡ set_cells store.head.mdb q replayed) (HoldsWhereCurrent (filled_of store) i)
@@ -71,4 +71,4 @@ pub returns-in_default-clause-none : goal.returns-in_default-clause-none
 returns-in_default-clause-none g c =
     let store = c.args.store.now in
     let i = c.args.interval in
-    none_current store i c.front.ensures.bases (subst (λ o. IfNone o (IsLate 22 i store.history store.fills ⊎ (fillings_in store.filled i ≡ None))) c.in_default.is c.in_ok-stored.ensures.none)
+    none_current store i c.front.ensures.bases (subst (λ o. IfNone o (IsLate store.exponent i store.history store.fills ⊎ (fillings_in store.filled i ≡ None))) c.in_default.is c.in_ok-stored.ensures.none)

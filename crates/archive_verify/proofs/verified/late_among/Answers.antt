@@ -14,9 +14,9 @@ loop-interval-preserved g c =
     let n = c.loop-interval.interval-index in
     let none : Interval = record { 0 = pos 0 } in
     let x = get_or is n none in
-    let late = λ (i : Interval). is_late_in 22 i store.history store.fills in
+    let late = λ (i : Interval). is_late_in store.exponent i store.history store.fills in
     let at : slice_get is n ≡ Some x = slice_get-get_or is n none c.loop-interval-test.true in
-    let told = late_told c.is_late.result x store.history store.fills c.is_late.ensures in
+    let told = late_told store.exponent c.is_late.result x store.history store.fills c.is_late.ensures in
     let counted = c.loop-interval.invariant.counted in
     let few = c.loop-interval.invariant.few in
     let more = λ (b : Bool). length (filter late (take n is)) + (if b then 1 else 0) in

@@ -89,7 +89,7 @@ returns-in_err-ingested-clause-stopped g c =
     let taken : IsNextBatch c.args.dump.now c.batches.places.at c.next_batch.new.places.at (receiving c.args.store.now.head c.args.graph.now c.args.link c.args.moment) c.in_ok-taken.taken = rw (moment, c.head.ensures.head, so_far.done.head) at c.in_ok-taken.ensures.taken in
     rw (p.1, p.2)
     (so_far_refused c.args.store.now c.args.dump.now (receiving c.args.store.now.head c.args.graph.now c.args.link c.args.moment) c.batches.store c.ingest.new.self c.batches.places.at c.next_batch.new.places.at c.batches.packets c.batches.idle c.batches.routed c.in_ok-taken.taken
-    refusal so_far taken c.in_ok-taken.ensures.last (ingest_history device c.batches.store c.ingest.new.self rows refusal refused) c.ingest.ensures.grows.head c.ingest.ensures.grows.opened
+    refusal so_far taken c.in_ok-taken.ensures.last (ingest_history device c.batches.store c.ingest.new.self rows refusal refused) c.ingest.ensures.grows.head c.ingest.ensures.grows.exponent c.ingest.ensures.grows.opened
     (ingest_filled device c.batches.store c.ingest.new.self rows refusal refused) (refused_fills device c.batches.store c.ingest.new.self rows refusal so_far.no_fault refused)
     (λ none. ingest_records device c.batches.store c.ingest.new.self rows refusal refused) (refused_for device c.batches.store c.ingest.new.self rows refusal so_far.no_fault refused))
 
@@ -113,7 +113,7 @@ batches-preserved g c =
       dump = c.next_batch.ensures.dump ∙ c.batches.invariant.dump;
       so_far = rw (moment, c.as_slice-in-batches.ensures, c.as_slice-in-batches-2.ensures, ok.outcomes_are, counted)
           (so_far_more c.args.store.now c.args.dump.now (receiving c.args.store.now.head c.args.graph.now c.args.link c.args.moment) c.batches.store c.ingest.new.self c.batches.places.at c.next_batch.new.places.at c.batches.packets c.batches.idle c.batches.routed c.in_ok-taken.taken
-          so_far taken ok.history ok.fills c.ingest.ensures.grows.head c.ingest.ensures.grows.opened ok.filled
+          so_far taken ok.history ok.fills c.ingest.ensures.grows.head c.ingest.ensures.grows.exponent c.ingest.ensures.grows.opened ok.filled
           ok.one_record ok.no_call);
       writes = ok.no_failed_write ∙ c.batches.invariant.writes;
     }

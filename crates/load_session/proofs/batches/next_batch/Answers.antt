@@ -1,6 +1,6 @@
 use Rattle.std.proofs.Common.{◌≡◌, ◌∙◌, w64, slice_range}
 use Rattle.std.proofs.lemmas.Int.{to_z-of_z}
-use Rattle.space_packet.specs.Cut.{IsPart}
+use Rattle.space_packet.specs.Cut.{IsPacketRange}
 use Rattle.load_session.specs.Batches.{arrivals_with, IsNextBatch}
 use Rattle.load_session.specs.Receiving.{Receiving, receiving}
 use Rattle.load_session.proofs.Arrived.{CanReceive}
@@ -18,14 +18,14 @@ loop-taken-preserved c =
       few = c.requires.head.0.few;
       over = c.requires.route;
     } in
-    let part : IsPart c.args.dump.now c.in-Some.part.start c.in-Some.part.end = rw c.loop-taken.invariant.dump at c.in-Some.ensures.packet in
+    let range : IsPacketRange c.args.dump.now c.in-Some.range.start c.in-Some.range.end = rw c.loop-taken.invariant.dump at c.in-Some.ensures.packet in
     let had : IsNextBatch c.args.dump.now c.args.places.now.at c.loop-taken.places.at r c.loop-taken.taken = rw moment at c.loop-taken.invariant.taken in
-    let before : IsNextBatch c.args.dump.now c.args.places.now.at c.in-Some.part.start r c.loop-taken.taken = rw c.in-Some.ensures.follows.0 had in
-    let grown : c.add.new.self.batch.arrivals ≡ arrivals_with r c.loop-taken.taken.batch.arrivals (slice_range c.args.dump.now c.in-Some.part.start c.in-Some.part.end) =
+    let before : IsNextBatch c.args.dump.now c.args.places.now.at c.in-Some.range.start r c.loop-taken.taken = rw c.in-Some.ensures.follows.0 had in
+    let grown : c.add.new.self.batch.arrivals ≡ arrivals_with r c.loop-taken.taken.batch.arrivals (slice_range c.args.dump.now c.in-Some.range.start c.in-Some.range.end) =
     rw (c.in_ok-packet.ensures, had.batch.received) at c.in_ok-add.ensures.arrivals in
     record {
       dump = c.next_packet.ensures.dump ∙ c.loop-taken.invariant.dump;
       taken = rw (moment, ← c.in-Some.ensures.follows.1)
-          (taken_more c.args.dump.now c.args.places.now.at c.in-Some.part.start c.in-Some.part.end r c.loop-taken.taken c.add.new.self can
-          c.loop-taken-test.true before part c.in_ok-add.ensures.packets c.add.ensures.received grown);
+          (taken_more c.args.dump.now c.args.places.now.at c.in-Some.range.start c.in-Some.range.end r c.loop-taken.taken c.add.new.self can
+          c.loop-taken-test.true before range c.in_ok-add.ensures.packets c.add.ensures.received grown);
     }

@@ -9,7 +9,7 @@ use Rattle.archive_store.specs.Stands.{IsSoundImage}
 use Rattle.mdb_items.specs.Database.{Database}
 use Rattle.param_segments.specs.declared.plan.Plan.{Plan}
 use Rattle.param_segments.specs.Plans.{ArePartsOver, HasValuesOf}
-use Rattle.store_fills.specs.FilledSets.{fillings_in}
+use Rattle.store_fills.specs.LastFills.{fillings_in}
 use Rattle.retrieval.specs.AnswerText.{answered}
 use Rattle.retrieval.specs.PartCells.{answer_over_parts, answer_over_rows}
 use Rattle.retrieval.proofs.FilledAnswers.{plan_filled}
@@ -21,13 +21,13 @@ pub answer-requires : goal.answer-requires
 answer-requires g c =
     record { values = subst (λ (db : Database). AllByRecursion (HasValuesOf db) c.in_ok-plan.plan.parts) (sym c.in_ok-plan.ensures.planned.mdb) c.in_ok-plan.ensures.values }
 
-pub returns-clause-found : goal.returns-clause-found
-returns-clause-found g c =
+pub returns-clause-filled : goal.returns-clause-filled
+returns-clause-filled g c =
     let store = c.args.store.now in
     let found = c.args.found.now in
     let plan = c.in_ok-plan.plan in
-    filled_is store.head.mdb store.history (fillings_in store.filled) found c.answer.result plan.front (answer_over_parts (arc_value plan.mdb) found.number found.request plan.parts)
-    c.in_ok-plan.ensures.planned.front
+    filled_is store.head.mdb store.exponent store.history (fillings_in store.filled) found.request found.number c.answer.result plan.front (answer_over_parts (arc_value plan.mdb) found.number found.request plan.parts)
+    c.requires.found.number c.in_ok-plan.ensures.planned.front
     (ap (λ (db : Database). answer_over_parts db found.number found.request plan.parts) c.in_ok-plan.ensures.planned.mdb
     ∙ plan_filled store found.number found.request plan c.front-bases.ensures.bases c.in_ok-plan.ensures.planned)
     c.answer.ensures.front c.answer.ensures.cells

@@ -1,7 +1,7 @@
 use Rattle.std.proofs.Common.{List}
 use Rattle.param_segments.specs.Rows.{SetRow}
 use Rattle.store_fills.specs.Filled.{HoldsRows}
-use Rattle.store_fills.specs.FilledSets.{fill_over}
+use Rattle.store_fills.specs.LastFills.{fill_over}
 use Rattle.store_fills.proofs.Soundness.{fill_leaves}
 use Rattle.store_fills.proofs.laws.fill_leaves_sound.Goals as goal
 

@@ -9,13 +9,13 @@ use Rattle.archive_history.proofs.partitioned_table.PartitionedTable.partition_r
 pub rows_of_places-requires : goal.rows_of_places-requires
 rows_of_places-requires c =
     let stored = c.self.inside.table.stored in
-    rw (c.places_of-places.ensures, c.self.invariant.noted) (all_stored stored c.args.front c.args.part.now)
+    rw (c.places_of-places.ensures, c.self.invariant.noted) (all_stored stored c.args.front c.args.partition.now)
 
 pub returns : goal.returns
 returns c =
     let stored = c.self.inside.table.stored in
-    let part = c.args.part.now in
+    let partition = c.args.partition.now in
     let front = c.args.front in
     let rows = c.in_ok-rows.rows.items in
-    let gathered : rows ≡ rows_at_places stored front (places_in part (partitions_of (rows_of stored))) = rw (c.places_of-places.ensures, c.self.invariant.noted) at c.in_ok-rows.ensures in
-    rw (← c.self.view_is) (partition_in_order stored front part rows c.in_key_order.result c.self.invariant.own_keys gathered c.in_key_order.ensures.same c.in_key_order.ensures.sorted)
+    let gathered : rows ≡ rows_at_places stored front (places_in partition (partitions_of (rows_of stored))) = rw (c.places_of-places.ensures, c.self.invariant.noted) at c.in_ok-rows.ensures in
+    rw (← c.self.view_is) (partition_in_order stored front partition rows c.in_key_order.result c.self.invariant.own_keys gathered c.in_key_order.ensures.same c.in_key_order.ensures.sorted)

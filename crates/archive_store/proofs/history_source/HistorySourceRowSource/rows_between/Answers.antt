@@ -3,7 +3,7 @@ use Rattle.std.specs.List.{AllByRecursion}
 use Rattle.std.proofs.lemmas.Int.{to_z-of_z}
 use Rattle.arch_types.specs.declared.row.Row.{Row}
 use Rattle.partitions.specs.Rows.{parts_between}
-use Rattle.replay_merge.specs.Source.{IsRowBetween, AreInKeyOrder}
+use Rattle.replay_merge.specs.RowSource.{IsRowBetween, AreInKeyOrder}
 use Rattle.replay_merge.proofs.Gathered.{rows_between_are, between_in_order, no_rows_between}
 use Rattle.archive_store.proofs.ReplayedRows.{in_tables, source_history}
 use Rattle.archive_store.proofs.history_source.HistorySourceRowSource.rows_between.Goals as goal

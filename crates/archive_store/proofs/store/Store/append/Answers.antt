@@ -1,4 +1,4 @@
-use Rattle.std.proofs.Common.{◌≡◌, ◌⊎◌, ◌++◌, ◌<◌, ◌-◌, ◌^◌, [], ◌∷◌, ℕ, List, length, Bool, true, false, Some, None, refl, sym, ◌∙◌, ap, subst, arith, length-append}
+use Rattle.std.proofs.Common.{◌≡◌, ◌⊎◌, ◌++◌, ◌<◌, ◌-◌, ◌^◌, [], ◌∷◌, ℕ, List, length, Some, None, sym, ◌∙◌, ap, subst, arith, length-append}
 use Rattle.std.specs.Prelude.{IsTrue}
 use Rattle.arch_disk.specs.Disk.{LeavesOnly}
 use Rattle.arch_types.specs.declared.row.Row.{Row}
@@ -14,7 +14,7 @@ use Rattle.disk_journal.proofs.Calls.{appended_on, append_failed_on, append_cras
 use Rattle.field_codec.specs.declared.entry.Entry.TheVariants as entries
 use Rattle.field_codec.specs.Spelling.{entry_octets}
 use Rattle.fill_tracker.specs.FillTracker.{AreMarksOf}
-use Rattle.store_fills.specs.FilledSets.{fillings_in}
+use Rattle.store_fills.specs.LastFills.{fillings_in}
 use Rattle.archive_store.specs.Entries.{archive, filled_archive, AreAdmitted}
 use Rattle.archive_store.specs.Inside.{HoldsFills, StoreInvariant}
 use Rattle.archive_store.specs.Unacknowledged.{with_rows}
@@ -36,32 +36,36 @@ invariant_of-self-in-Ok-append g c =
     let mid = c.prepare-prepared.new.journal in
     let body : List ℕ = entry_octets (entries.Rows fresh) in
     let no_failed_write : pending_fault_of s.tracker.fills ≡ None = subst (λ (x : StoreView g.row.D.Denot). pending_fault_of x.fills ≡ None) (sym c.self.view_is) c.requires.healed in
-    let ok : AreAdmitted (archive s.head s.history.items) fresh = subst (λ (x : StoreView g.row.D.Denot). AreAdmitted (archive x.head x.history) fresh) (sym c.self.view_is) c.requires.admitted in
+    let ok : AreAdmitted (archive s.head s.history.exponent s.history.items) fresh = subst (λ (x : StoreView g.row.D.Denot). AreAdmitted (archive x.head x.exponent x.history) fresh) (sym c.self.view_is) c.requires.admitted in
     let frame : c.in-Ok.frame ≡ body = c.in-Ok.ensures.frame ∙ ap (λ (l : List Row). entry_octets (entries.Rows l)) c.as_slice.ensures in
     let run = λ (transparent : IsTrue device.is_transparent) (bodies : List (List ℕ)) (pending : List ℕ) (keeps : JournalHasOnDisk device mid bodies pending s.disk) (no_pending_fault : unhealed_fault mid ≡ None).
     subst (λ (b : List ℕ). LeavesOnly device s.disk c.append.new.disk (λ c'. IsBeforeOrAfter bodies b (c' (file_of mid)))) frame (append_crash_on device mid bodies pending s.disk transparent keeps c.append.new.disk c.in-Ok.frame (c.append.ensures.crash no_pending_fault)) in
     let elsewhere = c.append.ensures.others.crash in
-    let moments = moments_of device s.disk c.append.new.disk s.opened.value s.journal mid s.head s.history.items fresh s.tracker.fills s.sets.filled s.pending_fault k ok no_failed_write c.prepare-prepared.ensures.journal run elsewhere in
-    let k_mid = kept_same device s.disk s.opened.value s.journal mid s.head s.history.items s.tracker.fills s.sets.filled s.pending_fault k c.prepare-prepared.ensures.journal in
+    let moments = moments_of device s.disk c.append.new.disk s.opened.value s.journal mid s.head s.history.exponent s.history.items fresh s.tracker.fills s.sets.filled s.pending_fault k ok no_failed_write c.prepare-prepared.ensures.journal run elsewhere in
+    let k_mid = kept_same device s.disk s.opened.value s.journal mid s.head s.history.exponent s.history.items s.tracker.fills s.sets.filled s.pending_fault k c.prepare-prepared.ensures.journal in
     let keeps = λ (transparent : IsTrue device.is_transparent) (bodies : List (List ℕ)) (pending : List ℕ) (keeps : JournalHasOnDisk device mid bodies pending s.disk).
     subst (λ (b : List ℕ). JournalHasOnDisk device c.append.new.self (bodies ++ b ∷ []) pending c.append.new.disk) frame (appended_on device mid bodies pending s.disk transparent keeps c.append.new.self c.append.new.disk c.in-Ok.frame _ c.in-Ok-append.ensures.appended) in
-    let done = kept_ok device s.disk c.append.new.disk s.opened.value mid c.append.new.self s.head s.history.items fresh s.tracker.fills s.sets.filled s.pending_fault k_mid ok no_failed_write c.append.ensures.file c.in-Ok-append.ensures.appended.no_pending_fault keeps moments elsewhere c.append.ensures.counts.faults c.in-Ok-append.ensures.appended.no_failed_write in
+    let done = kept_ok device s.disk c.append.new.disk s.opened.value mid c.append.new.self s.head s.history.exponent s.history.items fresh s.tracker.fills s.sets.filled s.pending_fault k_mid ok no_failed_write c.append.ensures.file c.in-Ok-append.ensures.appended.no_pending_fault keeps moments elsewhere c.append.ensures.counts.faults c.in-Ok-append.ensures.appended.no_failed_write in
     let prepared = c.prepare-prepared.ensures.history in
     let new : ingested c.prepare-prepared.new.history.items fresh ≡ c.prepare-prepared.new.history.items ++ fresh =
     subst (λ (l : List Item). ingested l fresh ≡ l ++ fresh) (sym prepared.0) ok.fresh in
     let grown = c.add_all.ensures.items (c.add_all.ensures.all.1 new) in
     let items : c.add_all.new.self.items ≡ s.history.items ++ fresh = grown ∙ ap (λ (l : List Item). l ++ fresh) prepared.0 in
-    let format = c.exponent.ensures ∙ prepared.2 ∙ c.self.invariant.1.1 in
+    let format = c.exponent.ensures ∙ prepared.2 in
+    let stays = c.add_all.ensures.exponent ∙ prepared.2 in
     let tracker = c.prepare-prepared.new.tracker in
-    let before = subst (λ (e : ℕ). AreMarksOf e s.history.items tracker.fills tracker.marks) (sym format) (c.prepare-prepared.ensures.marks 22 s.history.items c.self.invariant.3) in
+    let before = subst (λ (e : ℕ). AreMarksOf e s.history.items tracker.fills tracker.marks) (sym format) (c.prepare-prepared.ensures.marks s.history.exponent s.history.items c.self.invariant.3) in
     let marks = subst (λ (e : ℕ). AreMarksOf e (s.history.items ++ c.as_slice-in-Ok-append.result.now) c.touch.new.self.fills c.touch.new.self.marks) format (c.touch.ensures.marks s.history.items (omega (arith, c.len-first.ensures.len, ap length prepared.0)) before) in
-    let touched = subst (λ (l : List Item). AreMarksOf 22 (s.history.items ++ l) c.touch.new.self.fills c.touch.new.self.marks) c.as_slice-in-Ok-append.ensures marks in (
-      subst (λ (r : List Item). StoreInvariant device c.append.new.disk s.opened.value c.append.new.self s.head r c.touch.new.self.fills s.sets.filled s.pending_fault) (sym items)
-          (subst (λ (f : List Fill). StoreInvariant device c.append.new.disk s.opened.value c.append.new.self s.head (s.history.items ++ fresh) f s.sets.filled s.pending_fault) (sym (c.touch.ensures.fills ∙ c.prepare-prepared.ensures.fills)) done),
-      (c.add_all.ensures.tables ∙ prepared.1 ∙ c.self.invariant.1.0, c.add_all.ensures.exponent ∙ prepared.2 ∙ c.self.invariant.1.1),
+    let touched = subst (λ (l : List Item). AreMarksOf s.history.exponent (s.history.items ++ l) c.touch.new.self.fills c.touch.new.self.marks) c.as_slice-in-Ok-append.ensures marks in (
+      subst (λ (e : ℕ). StoreInvariant device c.append.new.disk s.opened.value c.append.new.self s.head e c.add_all.new.self.items c.touch.new.self.fills s.sets.filled s.pending_fault) (sym stays)
+          (subst (λ (r : List Item). StoreInvariant device c.append.new.disk s.opened.value c.append.new.self s.head s.history.exponent r c.touch.new.self.fills s.sets.filled s.pending_fault) (sym items)
+          (subst (λ (f : List Fill). StoreInvariant device c.append.new.disk s.opened.value c.append.new.self s.head s.history.exponent (s.history.items ++ fresh) f s.sets.filled s.pending_fault) (sym (c.touch.ensures.fills ∙ c.prepare-prepared.ensures.fills)) done)),
+      c.add_all.ensures.tables ∙ prepared.1 ∙ c.self.invariant.1,
       c.self.invariant.2,
-      subst (λ (r : List Item). AreMarksOf 22 r c.touch.new.self.fills c.touch.new.self.marks) (sym items) touched,
-      subst (λ (f : List Fill). HoldsFills s.head f s.sets.filled) (sym (c.touch.ensures.fills ∙ c.prepare-prepared.ensures.fills)) c.self.invariant.4,
+      subst (λ (e : ℕ). AreMarksOf e c.add_all.new.self.items c.touch.new.self.fills c.touch.new.self.marks) (sym stays)
+          (subst (λ (r : List Item). AreMarksOf s.history.exponent r c.touch.new.self.fills c.touch.new.self.marks) (sym items) touched),
+      subst (λ (e : ℕ). HoldsFills s.head e c.touch.new.self.fills s.sets.filled) (sym stays)
+          (subst (λ (f : List Fill). HoldsFills s.head s.history.exponent f s.sets.filled) (sym (c.touch.ensures.fills ∙ c.prepare-prepared.ensures.fills)) c.self.invariant.4),
     )
 
 pub returns-in-Ok-append-clause-crash : goal.returns-in-Ok-append-clause-crash
@@ -73,14 +77,14 @@ returns-in-Ok-append-clause-crash g c =
     let mid = c.prepare-prepared.new.journal in
     let body : List ℕ = entry_octets (entries.Rows fresh) in
     let no_failed_write : pending_fault_of s.tracker.fills ≡ None = subst (λ (x : StoreView g.row.D.Denot). pending_fault_of x.fills ≡ None) (sym c.self.view_is) c.requires.healed in
-    let ok : AreAdmitted (archive s.head s.history.items) fresh = subst (λ (x : StoreView g.row.D.Denot). AreAdmitted (archive x.head x.history) fresh) (sym c.self.view_is) c.requires.admitted in
+    let ok : AreAdmitted (archive s.head s.history.exponent s.history.items) fresh = subst (λ (x : StoreView g.row.D.Denot). AreAdmitted (archive x.head x.exponent x.history) fresh) (sym c.self.view_is) c.requires.admitted in
     let frame : c.in-Ok.frame ≡ body = c.in-Ok.ensures.frame ∙ ap (λ (l : List Row). entry_octets (entries.Rows l)) c.as_slice.ensures in
     let run = λ (transparent : IsTrue device.is_transparent) (bodies : List (List ℕ)) (pending : List ℕ) (keeps : JournalHasOnDisk device mid bodies pending s.disk) (no_pending_fault : unhealed_fault mid ≡ None).
     subst (λ (b : List ℕ). LeavesOnly device s.disk c.append.new.disk (λ c'. IsBeforeOrAfter bodies b (c' (file_of mid)))) frame (append_crash_on device mid bodies pending s.disk transparent keeps c.append.new.disk c.in-Ok.frame (c.append.ensures.crash no_pending_fault)) in
     let elsewhere = c.append.ensures.others.crash in
-    let moments = moments_of device s.disk c.append.new.disk s.opened.value s.journal mid s.head s.history.items fresh s.tracker.fills s.sets.filled s.pending_fault k ok no_failed_write c.prepare-prepared.ensures.journal run elsewhere in
+    let moments = moments_of device s.disk c.append.new.disk s.opened.value s.journal mid s.head s.history.exponent s.history.items fresh s.tracker.fills s.sets.filled s.pending_fault k ok no_failed_write c.prepare-prepared.ensures.journal run elsewhere in
     subst (λ (x : StoreView g.row.D.Denot). IsTrue device.is_transparent → LeavesOnly device x.disk c.append.new.disk (λ c'. StandsFilled c' (filled_of x) ⊎ StandsFilled c' (with_rows (filled_of x) fresh))) c.self.view_is
-    (λ transparent. either_filled device s.disk c.append.new.disk (filled_archive s.head s.history.items (fillings_in s.sets.filled)) (filled_archive s.head (s.history.items ++ fresh) (fillings_in s.sets.filled)) (moments transparent))
+    (λ transparent. either_filled device s.disk c.append.new.disk (filled_archive s.head s.history.exponent s.history.items (fillings_in s.sets.filled)) (filled_archive s.head s.history.exponent (s.history.items ++ fresh) (fillings_in s.sets.filled)) (moments transparent))
 
 pub invariant_of-self-in-Err : goal.invariant_of-self-in-Err
 invariant_of-self-in-Err g c =
@@ -91,28 +95,31 @@ invariant_of-self-in-Err g c =
     let mid = c.prepare-prepared.new.journal in
     let body : List ℕ = entry_octets (entries.Rows fresh) in
     let no_failed_write : pending_fault_of s.tracker.fills ≡ None = subst (λ (x : StoreView g.row.D.Denot). pending_fault_of x.fills ≡ None) (sym c.self.view_is) c.requires.healed in
-    let ok : AreAdmitted (archive s.head s.history.items) fresh = subst (λ (x : StoreView g.row.D.Denot). AreAdmitted (archive x.head x.history) fresh) (sym c.self.view_is) c.requires.admitted in
+    let ok : AreAdmitted (archive s.head s.history.exponent s.history.items) fresh = subst (λ (x : StoreView g.row.D.Denot). AreAdmitted (archive x.head x.exponent x.history) fresh) (sym c.self.view_is) c.requires.admitted in
     let frame : c.in-Ok.frame ≡ body = c.in-Ok.ensures.frame ∙ ap (λ (l : List Row). entry_octets (entries.Rows l)) c.as_slice.ensures in
     let run = λ (transparent : IsTrue device.is_transparent) (bodies : List (List ℕ)) (pending : List ℕ) (keeps : JournalHasOnDisk device mid bodies pending s.disk) (no_pending_fault : unhealed_fault mid ≡ None).
     subst (λ (b : List ℕ). LeavesOnly device s.disk c.append.new.disk (λ c'. IsBeforeOrAfter bodies b (c' (file_of mid)))) frame (append_crash_on device mid bodies pending s.disk transparent keeps c.append.new.disk c.in-Ok.frame (c.append.ensures.crash no_pending_fault)) in
     let elsewhere = c.append.ensures.others.crash in
-    let moments = moments_of device s.disk c.append.new.disk s.opened.value s.journal mid s.head s.history.items fresh s.tracker.fills s.sets.filled s.pending_fault k ok no_failed_write c.prepare-prepared.ensures.journal run elsewhere in
-    let k_mid = kept_same device s.disk s.opened.value s.journal mid s.head s.history.items s.tracker.fills s.sets.filled s.pending_fault k c.prepare-prepared.ensures.journal in
+    let moments = moments_of device s.disk c.append.new.disk s.opened.value s.journal mid s.head s.history.exponent s.history.items fresh s.tracker.fills s.sets.filled s.pending_fault k ok no_failed_write c.prepare-prepared.ensures.journal run elsewhere in
+    let k_mid = kept_same device s.disk s.opened.value s.journal mid s.head s.history.exponent s.history.items s.tracker.fills s.sets.filled s.pending_fault k c.prepare-prepared.ensures.journal in
     let none : unhealed_fault mid ≡ None = ap faults_of c.prepare-prepared.ensures.journal.pending_fault ∙ healthy (unhealed_fault s.journal) (pending_fault_of s.tracker.fills) k.journal_fault no_failed_write in
     let below : count_of mid < 2 ^ 32 - 1 = omega (arith, c.requires.records, ap (λ (x : StoreView g.row.D.Denot). x.records) c.self.view_is, ap length c.prepare-prepared.ensures.journal.extents) in
     let failed = (refusal_failed device mid c.append.new.self s.disk c.append.new.disk c.in-Ok.frame c.in-Err.field-0 none below c.in-Err.ensures.refused).1 in
     let keeps = λ (transparent : IsTrue device.is_transparent) (bodies : List (List ℕ)) (pending : List ℕ) (keeps : JournalHasOnDisk device mid bodies pending s.disk).
     subst (λ (b : List ℕ). JournalHasOnDisk device c.append.new.self bodies b c.append.new.disk) frame (append_failed_on device mid bodies pending s.disk transparent keeps c.append.new.self c.append.new.disk c.in-Ok.frame failed) in
-    let done = kept_err device s.disk c.append.new.disk s.opened.value mid c.append.new.self s.head s.history.items fresh s.tracker.fills s.sets.filled s.pending_fault c.faults-count.result k_mid ok no_failed_write c.append.ensures.file failed.pending_fault c.faults-count.ensures keeps moments elsewhere failed.rose failed.wrote in
+    let done = kept_err device s.disk c.append.new.disk s.opened.value mid c.append.new.self s.head s.history.exponent s.history.items fresh s.tracker.fills s.sets.filled s.pending_fault c.faults-count.result k_mid ok no_failed_write c.append.ensures.file failed.pending_fault c.faults-count.ensures keeps moments elsewhere failed.rose failed.wrote in
     let fills : c.note_fault.new.self.fills ≡ s.tracker.fills ++ fault c.faults-count.result fresh ∷ [] =
     c.note_fault.ensures.fills ∙ ap (λ (l : List Fill). l ++ fault c.faults-count.result fresh ∷ []) c.prepare-prepared.ensures.fills in
-    let marks = c.note_fault.ensures.marks 22 s.history.items (c.prepare-prepared.ensures.marks 22 s.history.items c.self.invariant.3) in (
-      subst (λ (r : List Item). StoreInvariant device c.append.new.disk s.opened.value c.append.new.self s.head r c.note_fault.new.self.fills s.sets.filled (Some c.faults-count.result)) (sym c.prepare-prepared.ensures.history.0)
-          (subst (λ (f : List Fill). StoreInvariant device c.append.new.disk s.opened.value c.append.new.self s.head s.history.items f s.sets.filled (Some c.faults-count.result)) (sym fills) done),
-      (c.prepare-prepared.ensures.history.1 ∙ c.self.invariant.1.0, c.prepare-prepared.ensures.history.2 ∙ c.self.invariant.1.1),
+    let marks = c.note_fault.ensures.marks s.history.exponent s.history.items (c.prepare-prepared.ensures.marks s.history.exponent s.history.items c.self.invariant.3) in (
+      subst (λ (e : ℕ). StoreInvariant device c.append.new.disk s.opened.value c.append.new.self s.head e c.prepare-prepared.new.history.items c.note_fault.new.self.fills s.sets.filled (Some c.faults-count.result)) (sym c.prepare-prepared.ensures.history.2)
+          (subst (λ (r : List Item). StoreInvariant device c.append.new.disk s.opened.value c.append.new.self s.head s.history.exponent r c.note_fault.new.self.fills s.sets.filled (Some c.faults-count.result)) (sym c.prepare-prepared.ensures.history.0)
+          (subst (λ (f : List Fill). StoreInvariant device c.append.new.disk s.opened.value c.append.new.self s.head s.history.exponent s.history.items f s.sets.filled (Some c.faults-count.result)) (sym fills) done)),
+      c.prepare-prepared.ensures.history.1 ∙ c.self.invariant.1,
       c.self.invariant.2,
-      subst (λ (r : List Item). AreMarksOf 22 r c.note_fault.new.self.fills c.note_fault.new.self.marks) (sym c.prepare-prepared.ensures.history.0) marks,
-      holds_same s.head s.tracker.fills c.note_fault.new.self.fills s.sets.filled c.self.invariant.4 (λ i. ap (base_in i) fills ∙ base_after_item i s.tracker.fills (fault c.faults-count.result fresh)),
+      subst (λ (e : ℕ). AreMarksOf e c.prepare-prepared.new.history.items c.note_fault.new.self.fills c.note_fault.new.self.marks) (sym c.prepare-prepared.ensures.history.2)
+          (subst (λ (r : List Item). AreMarksOf s.history.exponent r c.note_fault.new.self.fills c.note_fault.new.self.marks) (sym c.prepare-prepared.ensures.history.0) marks),
+      subst (λ (e : ℕ). HoldsFills s.head e c.note_fault.new.self.fills s.sets.filled) (sym c.prepare-prepared.ensures.history.2)
+          (holds_same s.head s.history.exponent s.tracker.fills c.note_fault.new.self.fills s.sets.filled c.self.invariant.4 (λ i. ap (base_in i) fills ∙ base_after_item i s.tracker.fills (fault c.faults-count.result fresh))),
     )
 
 pub invariant_of-self : goal.invariant_of-self
@@ -121,13 +128,16 @@ invariant_of-self g c =
     let s = c.self.inside in
     let prepared = c.prepare-prepared.ensures in
     let journal = c.prepare-prepared.new.journal in
-    let done = kept_same device s.disk s.opened.value s.journal journal s.head s.history.items s.tracker.fills s.sets.filled s.pending_fault c.self.invariant.0 prepared.journal in (
-      subst (λ (r : List Item). StoreInvariant device s.disk s.opened.value journal s.head r c.prepare-prepared.new.tracker.fills s.sets.filled s.pending_fault) (sym prepared.history.0)
-          (subst (λ (f : List Fill). StoreInvariant device s.disk s.opened.value journal s.head s.history.items f s.sets.filled s.pending_fault) (sym prepared.fills) done),
-      (prepared.history.1 ∙ c.self.invariant.1.0, prepared.history.2 ∙ c.self.invariant.1.1),
+    let done = kept_same device s.disk s.opened.value s.journal journal s.head s.history.exponent s.history.items s.tracker.fills s.sets.filled s.pending_fault c.self.invariant.0 prepared.journal in (
+      subst (λ (e : ℕ). StoreInvariant device s.disk s.opened.value journal s.head e c.prepare-prepared.new.history.items c.prepare-prepared.new.tracker.fills s.sets.filled s.pending_fault) (sym prepared.history.2)
+          (subst (λ (r : List Item). StoreInvariant device s.disk s.opened.value journal s.head s.history.exponent r c.prepare-prepared.new.tracker.fills s.sets.filled s.pending_fault) (sym prepared.history.0)
+          (subst (λ (f : List Fill). StoreInvariant device s.disk s.opened.value journal s.head s.history.exponent s.history.items f s.sets.filled s.pending_fault) (sym prepared.fills) done)),
+      prepared.history.1 ∙ c.self.invariant.1,
       c.self.invariant.2,
-      subst (λ (r : List Item). AreMarksOf 22 r c.prepare-prepared.new.tracker.fills c.prepare-prepared.new.tracker.marks) (sym prepared.history.0) (prepared.marks 22 s.history.items c.self.invariant.3),
-      subst (λ (f : List Fill). HoldsFills s.head f s.sets.filled) (sym prepared.fills) c.self.invariant.4,
+      subst (λ (e : ℕ). AreMarksOf e c.prepare-prepared.new.history.items c.prepare-prepared.new.tracker.fills c.prepare-prepared.new.tracker.marks) (sym prepared.history.2)
+          (subst (λ (r : List Item). AreMarksOf s.history.exponent r c.prepare-prepared.new.tracker.fills c.prepare-prepared.new.tracker.marks) (sym prepared.history.0) (prepared.marks s.history.exponent s.history.items c.self.invariant.3)),
+      subst (λ (e : ℕ). HoldsFills s.head e c.prepare-prepared.new.tracker.fills s.sets.filled) (sym prepared.history.2)
+          (subst (λ (f : List Fill). HoldsFills s.head s.history.exponent f s.sets.filled) (sym prepared.fills) c.self.invariant.4),
     )
 
 pub returns-clause-crash : goal.returns-clause-crash
@@ -139,14 +149,14 @@ returns-clause-crash g c =
     let mid = c.prepare-prepared.new.journal in
     let body : List ℕ = entry_octets (entries.Rows fresh) in
     let no_failed_write : pending_fault_of s.tracker.fills ≡ None = subst (λ (x : StoreView g.row.D.Denot). pending_fault_of x.fills ≡ None) (sym c.self.view_is) c.requires.healed in
-    let ok : AreAdmitted (archive s.head s.history.items) fresh = subst (λ (x : StoreView g.row.D.Denot). AreAdmitted (archive x.head x.history) fresh) (sym c.self.view_is) c.requires.admitted in
+    let ok : AreAdmitted (archive s.head s.history.exponent s.history.items) fresh = subst (λ (x : StoreView g.row.D.Denot). AreAdmitted (archive x.head x.exponent x.history) fresh) (sym c.self.view_is) c.requires.admitted in
     let frame : c.in-Ok.frame ≡ body = c.in-Ok.ensures.frame ∙ ap (λ (l : List Row). entry_octets (entries.Rows l)) c.as_slice.ensures in
     let run = λ (transparent : IsTrue device.is_transparent) (bodies : List (List ℕ)) (pending : List ℕ) (keeps : JournalHasOnDisk device mid bodies pending s.disk) (no_pending_fault : unhealed_fault mid ≡ None).
     subst (λ (b : List ℕ). LeavesOnly device s.disk c.append.new.disk (λ c'. IsBeforeOrAfter bodies b (c' (file_of mid)))) frame (append_crash_on device mid bodies pending s.disk transparent keeps c.append.new.disk c.in-Ok.frame (c.append.ensures.crash no_pending_fault)) in
     let elsewhere = c.append.ensures.others.crash in
-    let moments = moments_of device s.disk c.append.new.disk s.opened.value s.journal mid s.head s.history.items fresh s.tracker.fills s.sets.filled s.pending_fault k ok no_failed_write c.prepare-prepared.ensures.journal run elsewhere in
+    let moments = moments_of device s.disk c.append.new.disk s.opened.value s.journal mid s.head s.history.exponent s.history.items fresh s.tracker.fills s.sets.filled s.pending_fault k ok no_failed_write c.prepare-prepared.ensures.journal run elsewhere in
     subst (λ (x : StoreView g.row.D.Denot). IsTrue device.is_transparent → LeavesOnly device x.disk c.append.new.disk (λ c'. StandsFilled c' (filled_of x) ⊎ StandsFilled c' (with_rows (filled_of x) fresh))) c.self.view_is
-    (λ transparent. either_filled device s.disk c.append.new.disk (filled_archive s.head s.history.items (fillings_in s.sets.filled)) (filled_archive s.head (s.history.items ++ fresh) (fillings_in s.sets.filled)) (moments transparent))
+    (λ transparent. either_filled device s.disk c.append.new.disk (filled_archive s.head s.history.exponent s.history.items (fillings_in s.sets.filled)) (filled_archive s.head s.history.exponent (s.history.items ++ fresh) (fillings_in s.sets.filled)) (moments transparent))
 
 pub returns-in_default-clause-crash : goal.returns-in_default-clause-crash
 returns-in_default-clause-crash g c transparent =
@@ -154,17 +164,17 @@ returns-in_default-clause-crash g c transparent =
     let s = c.self.inside in
     let no_failed_write : pending_fault_of s.tracker.fills ≡ None = subst (λ (x : StoreView g.row.D.Denot). pending_fault_of x.fills ≡ None) (sym c.self.view_is) c.requires.healed in
     subst (λ (x : StoreView g.row.D.Denot). LeavesOnly device x.disk s.disk (λ c'. StandsFilled c' (filled_of x) ⊎ StandsFilled c' (with_rows (filled_of x) c.args.fresh))) c.self.view_is
-    (filled_now device s.disk s.opened.value s.journal s.head s.history.items s.tracker.fills s.sets.filled s.pending_fault c.self.invariant.0 no_failed_write transparent
-    (filled_archive s.head (s.history.items ++ c.args.fresh) (fillings_in s.sets.filled)))
+    (filled_now device s.disk s.opened.value s.journal s.head s.history.exponent s.history.items s.tracker.fills s.sets.filled s.pending_fault c.self.invariant.0 no_failed_write transparent
+    (filled_archive s.head s.history.exponent (s.history.items ++ c.args.fresh) (fillings_in s.sets.filled)))
 
 pub add_all-requires-clause-tables : goal.add_all-requires-clause-tables
 add_all-requires-clause-tables g c =
     let s = c.self.inside in
-    let ok : AreAdmitted (archive s.head s.history.items) c.args.fresh = subst (λ (x : StoreView g.row.D.Denot). AreAdmitted (archive x.head x.history) c.args.fresh) (sym c.self.view_is) c.requires.admitted in
-    placed_tables s.head c.args.fresh c.prepare-prepared.new.history.tables (c.prepare-prepared.ensures.history.1 ∙ c.self.invariant.1.0) ok.placed
+    let ok : AreAdmitted (archive s.head s.history.exponent s.history.items) c.args.fresh = subst (λ (x : StoreView g.row.D.Denot). AreAdmitted (archive x.head x.exponent x.history) c.args.fresh) (sym c.self.view_is) c.requires.admitted in
+    placed_tables s.head c.args.fresh c.prepare-prepared.new.history.tables (c.prepare-prepared.ensures.history.1 ∙ c.self.invariant.1) ok.placed
 
 pub touch-requires-clause-small : goal.touch-requires-clause-small
 touch-requires-clause-small g c =
     let s = c.self.inside in
-    let ok : AreAdmitted (archive s.head s.history.items) c.args.fresh = subst (λ (x : StoreView g.row.D.Denot). AreAdmitted (archive x.head x.history) c.args.fresh) (sym c.self.view_is) c.requires.admitted in
+    let ok : AreAdmitted (archive s.head s.history.exponent s.history.items) c.args.fresh = subst (λ (x : StoreView g.row.D.Denot). AreAdmitted (archive x.head x.exponent x.history) c.args.fresh) (sym c.self.view_is) c.requires.admitted in
     omega (arith, c.len-first.ensures.len, ap length c.prepare-prepared.ensures.history.0, ap length c.as_slice-in-Ok-append.ensures, ok.within.rows, length-append s.history.items c.args.fresh)

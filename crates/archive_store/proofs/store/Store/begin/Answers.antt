@@ -23,8 +23,8 @@ pub prepare_task-prepared-requires-clause-interval : goal.prepare_task-prepared-
 prepare_task-prepared-requires-clause-interval g c =
     let s = c.self.inside in
     let i = c.in-Some.interval in
-    let next : IsNextToFill 22 (state_of s.history.items s.tracker.fills) (Some i) = subst (IsNextToFill 22 (state_of s.history.items s.tracker.fills)) c.in-Some.is (c.next.ensures.next 22 s.history.items c.self.invariant.3) in
-    stands_in_clock s.head s.history.items i next.0.late.position c.self.invariant.0.rows next.0.late.stands
+    let next : IsNextToFill s.history.exponent (state_of s.history.items s.tracker.fills) (Some i) = subst (IsNextToFill s.history.exponent (state_of s.history.items s.tracker.fills)) c.in-Some.is (c.next.ensures.next s.history.exponent s.history.items c.self.invariant.3) in
+    stands_in_clock s.head s.history.exponent s.history.items i next.0.late.position c.self.invariant.0.rows next.0.late.stands
 
 pub invariant_of-self-2 : goal.invariant_of-self-2
 invariant_of-self-2 g c =
@@ -35,13 +35,13 @@ invariant_of-self-2 g c =
     let base = c.in-Ok.task.base in
     let same = c.prepare_task-prepared.ensures.same in
     let fills : c.begin.new.self.fills ≡ s.tracker.fills ++ Begun i base ∷ [] = c.begin.ensures.fills ∙ ap (λ (l : List Fill). l ++ Begun i base ∷ []) same.0 in
-    let mid = subst (λ (m : Marks). AreMarksOf 22 s.history.items c.prepare_task-prepared.new.tracker.fills m) (sym same.1) (subst (λ (l : List Fill). AreMarksOf 22 s.history.items l s.tracker.marks) (sym same.0) k.3) in
-    let done = same_faults_kept device s.disk s.opened.value s.journal s.head s.history.items s.tracker.fills (s.tracker.fills ++ Begun i base ∷ []) s.sets.filled s.pending_fault k.0 (same_faults_item s.tracker.fills (Begun i base) tt) in (
-      subst (λ (l : List Fill). StoreInvariant device s.disk s.opened.value s.journal s.head s.history.items l s.sets.filled s.pending_fault) (sym fills) done,
+    let mid = subst (λ (m : Marks). AreMarksOf s.history.exponent s.history.items c.prepare_task-prepared.new.tracker.fills m) (sym same.1) (subst (λ (l : List Fill). AreMarksOf s.history.exponent s.history.items l s.tracker.marks) (sym same.0) k.3) in
+    let done = same_faults_kept device s.disk s.opened.value s.journal s.head s.history.exponent s.history.items s.tracker.fills (s.tracker.fills ++ Begun i base ∷ []) s.sets.filled s.pending_fault k.0 (same_faults_item s.tracker.fills (Begun i base) tt) in (
+      subst (λ (l : List Fill). StoreInvariant device s.disk s.opened.value s.journal s.head s.history.exponent s.history.items l s.sets.filled s.pending_fault) (sym fills) done,
       k.1,
       k.2,
-      c.begin.ensures.marks 22 s.history.items mid,
-      holds_same s.head s.tracker.fills c.begin.new.self.fills s.sets.filled k.4 (λ j. ap (base_in j) fills ∙ base_after_item j s.tracker.fills (Begun i base)),
+      c.begin.ensures.marks s.history.exponent s.history.items mid,
+      holds_same s.head s.history.exponent s.tracker.fills c.begin.new.self.fills s.sets.filled k.4 (λ j. ap (base_in j) fills ∙ base_after_item j s.tracker.fills (Begun i base)),
     )
 
 pub invariant_of-self : goal.invariant_of-self
@@ -50,11 +50,11 @@ invariant_of-self g c =
     let s = c.self.inside in
     let k = c.self.invariant in
     let same = c.prepare_task-prepared.ensures.same in (
-      subst (λ (l : List Fill). StoreInvariant device s.disk s.opened.value s.journal s.head s.history.items l s.sets.filled s.pending_fault) (sym same.0) k.0,
+      subst (λ (l : List Fill). StoreInvariant device s.disk s.opened.value s.journal s.head s.history.exponent s.history.items l s.sets.filled s.pending_fault) (sym same.0) k.0,
       k.1,
       k.2,
-      subst (λ (m : Marks). AreMarksOf 22 s.history.items c.prepare_task-prepared.new.tracker.fills m) (sym same.1) (subst (λ (l : List Fill). AreMarksOf 22 s.history.items l s.tracker.marks) (sym same.0) k.3),
-      subst (λ (l : List Fill). HoldsFills s.head l s.sets.filled) (sym same.0) k.4,
+      subst (λ (m : Marks). AreMarksOf s.history.exponent s.history.items c.prepare_task-prepared.new.tracker.fills m) (sym same.1) (subst (λ (l : List Fill). AreMarksOf s.history.exponent s.history.items l s.tracker.marks) (sym same.0) k.3),
+      subst (λ (l : List Fill). HoldsFills s.head s.history.exponent l s.sets.filled) (sym same.0) k.4,
     )
 
 pub begin-requires-clause-free : goal.begin-requires-clause-free
@@ -71,23 +71,24 @@ returns-clause-begun g c =
     let e = c.in-Ok.ensures in
     let same = c.prepare_task-prepared.ensures.same in
     let fills : c.begin.new.self.fills ≡ s.tracker.fills ++ Begun i task.base ∷ [] = c.begin.ensures.fills ∙ ap (λ (l : List Fill). l ++ Begun i task.base ∷ []) same.0 in
-    let next : IsNextToFill 22 (state_of s.history.items s.tracker.fills) (Some i) = subst (IsNextToFill 22 (state_of s.history.items s.tracker.fills)) c.in-Some.is (c.next.ensures.next 22 s.history.items c.self.invariant.3) in
-    subst (λ (x : StoreView g.row.D.Denot). BeginsTask x (view_of s.disk s.opened.value s.journal s.head s.history.items c.begin.new.self.fills s.sets.filled) task) c.self.view_is (record {
+    let next : IsNextToFill s.history.exponent (state_of s.history.items s.tracker.fills) (Some i) = subst (IsNextToFill s.history.exponent (state_of s.history.items s.tracker.fills)) c.in-Some.is (c.next.ensures.next s.history.exponent s.history.items c.self.invariant.3) in
+    subst (λ (x : StoreView g.row.D.Denot). BeginsTask x (view_of s.disk s.opened.value s.journal s.head s.history.exponent s.history.items c.begin.new.self.fills s.sets.filled) task) c.self.view_is (record {
       step = record {
-        next = subst (λ (j : Interval). IsNextToFill 22 (state_of s.history.items s.tracker.fills) (Some j)) (sym e.at.0) next;
+        next = subst (λ (j : Interval). IsNextToFill s.history.exponent (state_of s.history.items s.tracker.fills) (Some j)) (sym e.at.0) next;
         base_is = e.at.1;
-        rows_are = e.rows ∙ ap (λ (j : Interval). rows_of_interval 22 j s.history.items) (sym e.at.0);
+        rows_are = e.rows ∙ ap (λ (j : Interval). rows_of_interval s.history.exponent j s.history.items) (sym e.at.0);
         history = refl;
         fills = fills ∙ ap (λ (j : Interval). s.tracker.fills ++ Begun j task.base ∷ []) (sym e.at.0);
       };
       mdb = e.mdb ∙ c.self.invariant.2;
+      exponent = e.exponent;
       same = refl;
     })
 
 pub returns-in_default-clause-begun : goal.returns-in_default-clause-begun
 returns-in_default-clause-begun g c =
     let s = c.self.inside in
-    let none = subst (IsNextToFill 22 (state_of s.history.items s.tracker.fills)) c.in_default.is (c.next.ensures.next 22 s.history.items c.self.invariant.3) in
+    let none = subst (IsNextToFill s.history.exponent (state_of s.history.items s.tracker.fills)) c.in_default.is (c.next.ensures.next s.history.exponent s.history.items c.self.invariant.3) in
     subst (λ (x : StoreView g.row.D.Denot). IsFillBegun x x None) c.self.view_is (none, refl)
 
 pub returns-clause-grows : goal.returns-clause-grows
@@ -95,13 +96,13 @@ returns-clause-grows g c =
     let s = c.self.inside in
     let same = c.prepare_task-prepared.ensures.same in
     let fills : c.begin.new.self.fills ≡ s.tracker.fills ++ Begun c.in-Some.interval c.in-Ok.task.base ∷ [] = c.begin.ensures.fills ∙ ap (λ (l : List Fill). l ++ Begun c.in-Some.interval c.in-Ok.task.base ∷ []) same.0 in
-    let new : StoreView g.row.D.Denot = view_of s.disk s.opened.value s.journal s.head s.history.items c.begin.new.self.fills s.sets.filled in
+    let new : StoreView g.row.D.Denot = view_of s.disk s.opened.value s.journal s.head s.history.exponent s.history.items c.begin.new.self.fills s.sets.filled in
     subst (λ (x : StoreView g.row.D.Denot). OnlyAppends x new) c.self.view_is
-    (goes_fill (view_of s.disk s.opened.value s.journal s.head s.history.items s.tracker.fills s.sets.filled) new (Begun c.in-Some.interval c.in-Ok.task.base) refl fills refl refl)
+    (goes_fill (view_of s.disk s.opened.value s.journal s.head s.history.exponent s.history.items s.tracker.fills s.sets.filled) new (Begun c.in-Some.interval c.in-Ok.task.base) refl fills refl refl refl)
 
 pub returns-in_default-prepared-clause-grows : goal.returns-in_default-prepared-clause-grows
 returns-in_default-prepared-clause-grows g c =
     let s = c.self.inside in
-    let new : StoreView g.row.D.Denot = view_of s.disk s.opened.value s.journal s.head s.history.items c.prepare_task-prepared.new.tracker.fills s.sets.filled in
+    let new : StoreView g.row.D.Denot = view_of s.disk s.opened.value s.journal s.head s.history.exponent s.history.items c.prepare_task-prepared.new.tracker.fills s.sets.filled in
     subst (λ (x : StoreView g.row.D.Denot). OnlyAppends x new) c.self.view_is
-    (goes_same (view_of s.disk s.opened.value s.journal s.head s.history.items s.tracker.fills s.sets.filled) new refl c.prepare_task-prepared.ensures.same.0 refl refl)
+    (goes_same (view_of s.disk s.opened.value s.journal s.head s.history.exponent s.history.items s.tracker.fills s.sets.filled) new refl c.prepare_task-prepared.ensures.same.0 refl refl refl)

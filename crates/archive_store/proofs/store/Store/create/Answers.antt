@@ -1,4 +1,4 @@
-use Rattle.std.proofs.Common.{◌≡◌, ◌⊎◌, ◌∷◌, [], List, ℕ, None, inl, refl, sym, subst}
+use Rattle.std.proofs.Common.{◌≡◌, ◌⊎◌, ◌∷◌, [], List, length, ℕ, None, inl, refl, sym, subst}
 use Rattle.std.specs.Prelude.{IsTrue}
 use Rattle.std.specs.Arc.{arc_value}
 use Rattle.arch_disk.proofs.Moments.{weakens, started}
@@ -6,9 +6,10 @@ use Rattle.history_items.specs.declared.fills.Fill.{Fill}
 use Rattle.history_items.specs.Items.{Item}
 use Rattle.disk_journal.specs.Format.{HasRecords, HoldsNone}
 use Rattle.disk_journal.specs.State.{HasOnDisk as JournalHasOnDisk}
+use Rattle.field_codec.specs.Spelling.{format_1_exponent}
 use Rattle.fill_tracker.specs.FillTracker.{AreMarksOf}
 use Rattle.archive_store.specs.declared.head.Head.{Head}
-use Rattle.archive_store.specs.Inside.{IsHistoryOf, StoreInvariant}
+use Rattle.archive_store.specs.Inside.{StoreInvariant}
 use Rattle.archive_store.specs.Calls.{IsStoreCreateRefusal}
 use Rattle.archive_store.specs.Stands.{IsSoundImage}
 use Rattle.store_fills.proofs.Bases.{none_filled}
@@ -26,14 +27,15 @@ invariant_of-result g c =
     let e = c.in-Ok.ensures in
     let keeps = λ (transparent : IsTrue device.is_transparent). subst (λ (b : List ℕ). JournalHasOnDisk device j (b ∷ []) [] disk) e.0 (c.in-Ok-create.ensures.created.records transparent) in
     let done = kept_made device disk j c.args.head c.new-sets.result.filled (none_filled c.new-sets.result.filled c.new-sets.ensures) c.requires.head c.in-Ok-create.ensures.created.no_pending_fault c.in-Ok-create.ensures.created.in_file keeps in (
-      subst (λ o. StoreInvariant device disk o j f.head f.history.items c.new-tracker.result.fills c.new-sets.result.filled None) (sym c.of-opened.ensures)
-          (subst (λ (l : List Fill). StoreInvariant device disk disk j f.head f.history.items l c.new-sets.result.filled None) (sym c.new-tracker.ensures.fills)
-          (subst (λ (l : List Item). StoreInvariant device disk disk j f.head l [] c.new-sets.result.filled None) (sym e.4)
-          (subst (λ (h : Head). StoreInvariant device disk disk j h [] [] c.new-sets.result.filled None) (sym e.1) done))),
-      subst (λ (h : Head). IsHistoryOf h f.history) (sym e.1) e.3,
+      subst (λ o. StoreInvariant device disk o j f.head f.history.exponent f.history.items c.new-tracker.result.fills c.new-sets.result.filled None) (sym c.of-opened.ensures)
+          (subst (λ (l : List Fill). StoreInvariant device disk disk j f.head f.history.exponent f.history.items l c.new-sets.result.filled None) (sym c.new-tracker.ensures.fills)
+          (subst (λ (n : ℕ). StoreInvariant device disk disk j f.head n f.history.items [] c.new-sets.result.filled None) (sym e.3.1)
+          (subst (λ (l : List Item). StoreInvariant device disk disk j f.head format_1_exponent l [] c.new-sets.result.filled None) (sym e.4)
+          (subst (λ (h : Head). StoreInvariant device disk disk j h format_1_exponent [] [] c.new-sets.result.filled None) (sym e.1) done)))),
+      subst (λ (h : Head). f.history.tables ≡ length h.tables) (sym e.1) e.3.0,
       subst (λ (h : Head). arc_value f.mdb ≡ h.mdb) (sym e.1) e.2,
-      subst (λ (l : List Item). AreMarksOf 22 l c.new-tracker.result.fills c.new-tracker.result.marks) (sym e.4) (c.new-tracker.ensures.marks 22),
-      holds_none f.head c.new-tracker.result.fills c.new-sets.result.filled c.new-tracker.ensures.fills (none_filled c.new-sets.result.filled c.new-sets.ensures),
+      subst (λ (l : List Item). AreMarksOf f.history.exponent l c.new-tracker.result.fills c.new-tracker.result.marks) (sym e.4) (c.new-tracker.ensures.marks f.history.exponent),
+      holds_none f.head f.history.exponent c.new-tracker.result.fills c.new-sets.result.filled c.new-tracker.ensures.fills (none_filled c.new-sets.result.filled c.new-sets.ensures),
     )
 
 pub returns-in-Ok-create-clause-crash : goal.returns-in-Ok-create-clause-crash
@@ -76,6 +78,7 @@ returns-in-Ok-create-clause-created g c =
           (made_sound device disk j c.args.head c.requires.head created.no_pending_fault created.in_file
           (subst (λ (b : List ℕ). JournalHasOnDisk device j (b ∷ []) [] disk) e.0 (created.records transparent)));
       head_is = e.1;
+      exponent = e.3.1;
       records = created.count;
       opened = c.of-opened.ensures;
       no_failed_write = created.no_failed_write;

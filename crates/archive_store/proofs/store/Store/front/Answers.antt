@@ -3,7 +3,7 @@ use Rattle.std.specs.List.{AllByRecursion}
 use Rattle.intervals.specs.declared.interval.Interval.{Interval}
 use Rattle.history_items.specs.Fills.{base_in, pending_fault_of}
 use Rattle.history_items.specs.Items.{rows_in}
-use Rattle.store_fills.specs.FilledSets.{fillings_in}
+use Rattle.store_fills.specs.LastFills.{fillings_in}
 use Rattle.store_fills.specs.Sound.{base_of_filling}
 use Rattle.archive_store.specs.Entries.{IsArchivedRow, IsSoundArchive}
 use Rattle.archive_store.specs.Stands.{IsSoundImage}
@@ -16,7 +16,7 @@ pub returns-clause-images : goal.returns-clause-images
 returns-clause-images g c transparent =
     let device = g.D.Disk.device in
     let s = c.self.inside in
-    subst (λ (x : StoreView g.row.D.Denot). CrashInvariant device x) c.self.view_is (crash_of device s.disk s.opened.value s.journal s.head s.history.items s.tracker.fills s.sets.filled s.pending_fault c.self.invariant.0 transparent)
+    subst (λ (x : StoreView g.row.D.Denot). CrashInvariant device x) c.self.view_is (crash_of device s.disk s.opened.value s.journal s.head s.history.exponent s.history.items s.tracker.fills s.sets.filled s.pending_fault c.self.invariant.0 transparent)
 
 pub returns-clause-rows : goal.returns-clause-rows
 returns-clause-rows g c = subst (λ (x : StoreView g.row.D.Denot). AllByRecursion (IsArchivedRow x.head) (rows_in x.history)) c.self.view_is c.self.invariant.0.rows
@@ -26,7 +26,7 @@ returns-clause-sound g c transparent =
     let device = g.D.Disk.device in
     let s = c.self.inside in
     subst (λ (x : StoreView g.row.D.Denot). IsSoundImage (device.reads x.opened) → IsSoundArchive (filled_of x)) c.self.view_is
-    (sound_of device s.disk s.opened.value s.journal s.head s.history.items s.tracker.fills s.sets.filled s.pending_fault c.self.invariant.0 transparent)
+    (sound_of device s.disk s.opened.value s.journal s.head s.history.exponent s.history.items s.tracker.fills s.sets.filled s.pending_fault c.self.invariant.0 transparent)
 
 pub returns-clause-bases : goal.returns-clause-bases
 returns-clause-bases g c =
@@ -37,4 +37,4 @@ returns-clause-kept g c transparent =
     let device = g.D.Disk.device in
     let s = c.self.inside in
     subst (λ (x : StoreView g.row.D.Denot). pending_fault_of x.fills ≡ None → IsKeptWithFills device x) c.self.view_is
-    (λ healed. kept_now device s.disk s.opened.value s.journal s.head s.history.items s.tracker.fills s.sets.filled s.pending_fault c.self.invariant.0 healed transparent)
+    (λ healed. kept_now device s.disk s.opened.value s.journal s.head s.history.exponent s.history.items s.tracker.fills s.sets.filled s.pending_fault c.self.invariant.0 healed transparent)

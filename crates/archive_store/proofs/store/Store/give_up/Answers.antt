@@ -14,16 +14,16 @@ invariant_of-self g c =
     let s = c.self.inside in
     let k = c.self.invariant in
     let i = c.args.interval in
-    let done = same_faults_kept device s.disk s.opened.value s.journal s.head s.history.items s.tracker.fills (freed i s.tracker.fills) s.sets.filled s.pending_fault k.0 (same_faults_freed s.tracker.fills i) in (
-      subst (λ (l : List Fill). StoreInvariant device s.disk s.opened.value s.journal s.head s.history.items l s.sets.filled s.pending_fault) (sym c.free.ensures.fills) done,
+    let done = same_faults_kept device s.disk s.opened.value s.journal s.head s.history.exponent s.history.items s.tracker.fills (freed i s.tracker.fills) s.sets.filled s.pending_fault k.0 (same_faults_freed s.tracker.fills i) in (
+      subst (λ (l : List Fill). StoreInvariant device s.disk s.opened.value s.journal s.head s.history.exponent s.history.items l s.sets.filled s.pending_fault) (sym c.free.ensures.fills) done,
       k.1,
       k.2,
-      c.free.ensures.marks 22 s.history.items k.3,
-      subst (λ (l : List Fill). HoldsFills s.head l s.sets.filled) (sym c.free.ensures.fills) (holds_same s.head s.tracker.fills (freed i s.tracker.fills) s.sets.filled k.4 (λ j. freed_bases i j s.tracker.fills)),
+      c.free.ensures.marks s.history.exponent s.history.items k.3,
+      subst (λ (l : List Fill). HoldsFills s.head s.history.exponent l s.sets.filled) (sym c.free.ensures.fills) (holds_same s.head s.history.exponent s.tracker.fills (freed i s.tracker.fills) s.sets.filled k.4 (λ j. freed_bases i j s.tracker.fills)),
     )
 
 pub returns : goal.returns
 returns g c =
     let s = c.self.inside in
-    ap (λ (l : List Fill). view_of s.disk s.opened.value s.journal s.head s.history.items l s.sets.filled) c.free.ensures.fills
+    ap (λ (l : List Fill). view_of s.disk s.opened.value s.journal s.head s.history.exponent s.history.items l s.sets.filled) c.free.ensures.fills
     ∙ ap (λ (x : StoreView g.row.D.Denot). with_fills x (freed c.args.interval x.fills)) c.self.view_is

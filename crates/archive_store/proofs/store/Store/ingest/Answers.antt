@@ -1,4 +1,4 @@
-use Rattle.std.proofs.Common.{ℕ, ◌≡◌, ◌≢◌, ◌⊎◌, ◌≤◌, ◌++◌, List, [], length, None, refl, sym, ◌∙◌, ap, subst, arith}
+use Rattle.std.proofs.Common.{◌≡◌, ◌≢◌, ◌⊎◌, ◌≤◌, ◌++◌, List, [], length, None, refl, sym, ◌∙◌, ap, subst, arith}
 use Rattle.arch_disk.specs.Disk.{LeavesOnly}
 use Rattle.arch_types.specs.declared.row.Row.{Row}
 use Rattle.std.specs.List.{AllByRecursion}
@@ -8,7 +8,7 @@ use Rattle.history_items.specs.Items.{Item}
 use Rattle.history_items.specs.Outcomes.{outcomes_of, fresh_of}
 use Rattle.archive_store.specs.Batches.{batch_rows, IsBatch}
 use Rattle.archive_store.specs.Calls.{AreIngested, IsIngestRefusal, archive_with}
-use Rattle.store_fills.specs.FilledSets.{fillings_in}
+use Rattle.store_fills.specs.LastFills.{fillings_in}
 use Rattle.archive_store.specs.Entries.{archive, filled_archive, AreAdmitted}
 use Rattle.archive_history.specs.Limits.{IsWithin}
 use Rattle.archive_store.specs.Limits.{IsLimit}
@@ -23,7 +23,7 @@ use Rattle.archive_store.proofs.store.Store.ingest.Goals as goal
 
 pub classify-requires : goal.classify-requires
 classify-requires g c =
-    sortable c.self.inside.head c.args.batch.now c.self.inside.history.tables c.self.invariant.1.0
+    sortable c.self.inside.head c.args.batch.now c.self.inside.history.tables c.self.invariant.1
     (subst (λ (x : StoreView g.row.D.Denot). IsBatch x.head c.args.batch.now) (sym c.self.view_is) c.requires)
 
 pub append-requires-clause-admitted : goal.append-requires-clause-admitted
@@ -34,51 +34,51 @@ append-requires-clause-admitted g c =
     let classified = c.in-Ok.classified in
     let fits = subst (λ (x : StoreView g.row.D.Denot). IsBatch x.head c.args.batch.now) (sym c.self.view_is) c.requires in
     let some : 1 ≤ length (fresh_of s.history.items rows) = omega (arith, ap length c.in-Ok.ensures.fresh, c.len.ensures, c.if-len-eq0.false) in
-    let within_now : IsWithin 22 (now.history ++ classified.fresh) = subst (λ (l : List Row). IsWithin 22 (now.history ++ l)) c.as_slice.ensures c.in_default-limit_passed.ensures.none.0 in
-    let within : IsWithin 22 (s.history.items ++ fresh_of s.history.items rows) =
-    subst (λ (l : List Row). IsWithin 22 (s.history.items ++ l)) c.in-Ok.ensures.fresh (subst (λ (x : StoreView g.row.D.Denot). IsWithin 22 (x.history ++ classified.fresh)) (sym c.self.view_is) within_now) in
+    let within_now : IsWithin now.exponent (now.history ++ classified.fresh) = subst (λ (l : List Row). IsWithin now.exponent (now.history ++ l)) c.as_slice.ensures c.in_default-limit_passed.ensures.none.0 in
+    let within : IsWithin s.history.exponent (s.history.items ++ fresh_of s.history.items rows) =
+    subst (λ (l : List Row). IsWithin s.history.exponent (s.history.items ++ l)) c.in-Ok.ensures.fresh (subst (λ (x : StoreView g.row.D.Denot). IsWithin x.exponent (x.history ++ classified.fresh)) (sym c.self.view_is) within_now) in
     let octets = subst (AllByRecursion (λ row. IsOctets row.packet)) c.in-Ok.ensures.fresh c.in-Ok.ensures.octets in
-    let done = admitted s.head s.history.items c.args.batch.now c.self.invariant.0.head_is (omega (arith, c.containers-names.ensures, c.containers-names.type_inv)) fits some within octets in
-    subst (λ (x : StoreView g.row.D.Denot). AreAdmitted (archive x.head x.history) classified.fresh) c.self.view_is
-    (subst (AreAdmitted (archive s.head s.history.items)) (sym c.in-Ok.ensures.fresh) done)
+    let done = admitted s.head s.history.exponent s.history.items c.args.batch.now c.self.invariant.0.head_is (omega (arith, c.containers-names.ensures, c.containers-names.type_inv)) fits some within octets in
+    subst (λ (x : StoreView g.row.D.Denot). AreAdmitted (archive x.head x.exponent x.history) classified.fresh) c.self.view_is
+    (subst (AreAdmitted (archive s.head s.history.exponent s.history.items)) (sym c.in-Ok.ensures.fresh) done)
 
 pub returns-in_err-append-clause-crash : goal.returns-in_err-append-clause-crash
 returns-in_err-append-clause-crash g c no_failed_write transparent =
     let rows = batch_rows c.args.batch.now in
     let now = c.args.self.now in
     let fresh = subst (λ (x : StoreView g.row.D.Denot). c.in-Ok.classified.fresh ≡ fresh_of x.history rows) c.self.view_is c.in-Ok.ensures.fresh in
-    subst (λ (l : List Item). LeavesOnly g.D.Disk.device now.disk c.append.new.self.disk (λ c'. StandsFilled c' (filled_of now) ⊎ StandsFilled c' (filled_archive now.head l (fillings_in now.filled)))) (added now.history rows c.in-Ok.classified.fresh fresh) (c.append.ensures.crash transparent)
+    subst (λ (l : List Item). LeavesOnly g.D.Disk.device now.disk c.append.new.self.disk (λ c'. StandsFilled c' (filled_of now) ⊎ StandsFilled c' (filled_archive now.head now.exponent l (fillings_in now.filled)))) (added now.history rows c.in-Ok.classified.fresh fresh) (c.append.ensures.crash transparent)
 
 pub returns-clause-crash : goal.returns-clause-crash
 returns-clause-crash g c no_failed_write transparent =
     let rows = batch_rows c.args.batch.now in
     let now = c.args.self.now in
     let fresh = subst (λ (x : StoreView g.row.D.Denot). c.in-Ok.classified.fresh ≡ fresh_of x.history rows) c.self.view_is c.in-Ok.ensures.fresh in
-    subst (λ (l : List Item). LeavesOnly g.D.Disk.device now.disk c.append.new.self.disk (λ c'. StandsFilled c' (filled_of now) ⊎ StandsFilled c' (filled_archive now.head l (fillings_in now.filled)))) (added now.history rows c.in-Ok.classified.fresh fresh) (c.append.ensures.crash transparent)
+    subst (λ (l : List Item). LeavesOnly g.D.Disk.device now.disk c.append.new.self.disk (λ c'. StandsFilled c' (filled_of now) ⊎ StandsFilled c' (filled_archive now.head now.exponent l (fillings_in now.filled)))) (added now.history rows c.in-Ok.classified.fresh fresh) (c.append.ensures.crash transparent)
 
 pub returns-in_default-clause-crash : goal.returns-in_default-clause-crash
 returns-in_default-clause-crash g c no_failed_write transparent =
     let device = g.D.Disk.device in
     let s = c.self.inside in
     subst (λ (x : StoreView g.row.D.Denot). pending_fault_of x.fills ≡ None → LeavesOnly device x.disk x.disk (λ c'. StandsFilled c' (filled_of x) ⊎ StandsFilled c' (archive_with x (batch_rows c.args.batch.now)))) c.self.view_is
-    (λ none. filled_now device s.disk s.opened.value s.journal s.head s.history.items s.tracker.fills s.sets.filled s.pending_fault c.self.invariant.0 none transparent
-    (archive_with (view_of s.disk s.opened.value s.journal s.head s.history.items s.tracker.fills s.sets.filled) (batch_rows c.args.batch.now))) no_failed_write
+    (λ none. filled_now device s.disk s.opened.value s.journal s.head s.history.exponent s.history.items s.tracker.fills s.sets.filled s.pending_fault c.self.invariant.0 none transparent
+    (archive_with (view_of s.disk s.opened.value s.journal s.head s.history.exponent s.history.items s.tracker.fills s.sets.filled) (batch_rows c.args.batch.now))) no_failed_write
 
 pub returns-then-len-eq0-clause-crash : goal.returns-then-len-eq0-clause-crash
 returns-then-len-eq0-clause-crash g c no_failed_write transparent =
     let device = g.D.Disk.device in
     let s = c.self.inside in
     subst (λ (x : StoreView g.row.D.Denot). pending_fault_of x.fills ≡ None → LeavesOnly device x.disk x.disk (λ c'. StandsFilled c' (filled_of x) ⊎ StandsFilled c' (archive_with x (batch_rows c.args.batch.now)))) c.self.view_is
-    (λ none. filled_now device s.disk s.opened.value s.journal s.head s.history.items s.tracker.fills s.sets.filled s.pending_fault c.self.invariant.0 none transparent
-    (archive_with (view_of s.disk s.opened.value s.journal s.head s.history.items s.tracker.fills s.sets.filled) (batch_rows c.args.batch.now))) no_failed_write
+    (λ none. filled_now device s.disk s.opened.value s.journal s.head s.history.exponent s.history.items s.tracker.fills s.sets.filled s.pending_fault c.self.invariant.0 none transparent
+    (archive_with (view_of s.disk s.opened.value s.journal s.head s.history.exponent s.history.items s.tracker.fills s.sets.filled) (batch_rows c.args.batch.now))) no_failed_write
 
 pub returns-in-Some-limit_passed-clause-crash : goal.returns-in-Some-limit_passed-clause-crash
 returns-in-Some-limit_passed-clause-crash g c no_failed_write transparent =
     let device = g.D.Disk.device in
     let s = c.self.inside in
     subst (λ (x : StoreView g.row.D.Denot). pending_fault_of x.fills ≡ None → LeavesOnly device x.disk x.disk (λ c'. StandsFilled c' (filled_of x) ⊎ StandsFilled c' (archive_with x (batch_rows c.args.batch.now)))) c.self.view_is
-    (λ none. filled_now device s.disk s.opened.value s.journal s.head s.history.items s.tracker.fills s.sets.filled s.pending_fault c.self.invariant.0 none transparent
-    (archive_with (view_of s.disk s.opened.value s.journal s.head s.history.items s.tracker.fills s.sets.filled) (batch_rows c.args.batch.now))) no_failed_write
+    (λ none. filled_now device s.disk s.opened.value s.journal s.head s.history.exponent s.history.items s.tracker.fills s.sets.filled s.pending_fault c.self.invariant.0 none transparent
+    (archive_with (view_of s.disk s.opened.value s.journal s.head s.history.exponent s.history.items s.tracker.fills s.sets.filled) (batch_rows c.args.batch.now))) no_failed_write
 
 pub returns-then-len-eq0-clause-ingested : goal.returns-then-len-eq0-clause-ingested
 returns-then-len-eq0-clause-ingested g c =
@@ -90,7 +90,7 @@ returns-then-len-eq0-clause-ingested g c =
     subst (λ (x : StoreView g.row.D.Denot). AreIngested device x x rows classified.outcomes) c.self.view_is
     (record {
       healed = sym c.self.invariant.0.pending_fault_is ∙ c.in-None.is;
-      below = below_none _ items rows classified.fresh c.in-Ok.ensures.fresh zero (subst (λ (e : ℕ). IsWithin e items) c.self.invariant.1.1 c.len-known.ensures.within);
+      below = below_none _ _ items rows classified.fresh c.in-Ok.ensures.fresh zero c.len-known.ensures.within;
       outcomes_are = c.in-Ok.ensures.outcomes;
       history = nothing_added items rows classified.fresh c.in-Ok.ensures.fresh zero;
       fills = refl;
@@ -112,7 +112,7 @@ returns-in-Some-limit_passed-clause-refused g c =
         healed = healed;
         some_new = some_new;
         number_is = c.limit.ensures;
-        first = subst (IsLimit 22 which now.records) (added now.history rows c.as_slice.result.now (c.as_slice.ensures ∙ fresh)) c.in-Some-limit_passed.ensures.first;
+        first = subst (IsLimit now.exponent which now.records) (added now.history rows c.as_slice.result.now (c.as_slice.ensures ∙ fresh)) c.in-Some-limit_passed.ensures.first;
       },
       refl,
     )
@@ -126,7 +126,7 @@ returns-in_err-append-clause-refused g c =
     let fresh : c.in-Ok.classified.fresh ≡ fresh_of now.history rows = subst (λ (x : StoreView g.row.D.Denot). c.in-Ok.classified.fresh ≡ fresh_of x.history rows) c.self.view_is c.in-Ok.ensures.fresh in
     let healed = subst (λ (x : StoreView g.row.D.Denot). pending_fault_of x.fills ≡ None) c.self.view_is (sym c.self.invariant.0.pending_fault_is ∙ c.in-None.is) in
     let some_new : fresh_of now.history rows ≢ [] = λ none. absurd (omega (arith, ap length fresh, ap length none, c.len.ensures, c.if-len-eq0.false)) in
-    let below = below_some now.records now.history rows c.as_slice.result.now (c.as_slice.ensures ∙ fresh) none.0 none.1 in
+    let below = below_some now.exponent now.records now.history rows c.as_slice.result.now (c.as_slice.ensures ∙ fresh) none.0 none.1 in
     passed_on c.from_residual.result c.in_err-append.field-0.0 (IsIngestRefusal device now c.append.new.self rows) c.from_residual.ensures.1
     (rows_refused device now c.append.new.self rows c.in-Ok.classified.fresh c.in_err-append.field-0.0 fresh healed some_new below c.in_err-append.ensures.refused)
 
@@ -142,7 +142,7 @@ returns-clause-ingested g c =
     let appended = c.in_ok-append.ensures.appended in
     record {
       healed = healed;
-      below = below_some now.records now.history rows c.as_slice.result.now (c.as_slice.ensures ∙ fresh) none.0 none.1;
+      below = below_some now.exponent now.records now.history rows c.as_slice.result.now (c.as_slice.ensures ∙ fresh) none.0 none.1;
       outcomes_are = outcomes;
       history = appended.history ∙ added now.history rows c.in-Ok.classified.fresh fresh;
       fills = appended.fills;

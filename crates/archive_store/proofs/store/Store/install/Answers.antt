@@ -1,4 +1,4 @@
-use Rattle.std.proofs.Common.{◌≡◌, ◌⊎◌, ◌≤◌, Some, None, refl, sym, ◌∙◌, ap, subst}
+use Rattle.std.proofs.Common.{◌≡◌, ◌⊎◌, ◌≤◌, ◌<◌, ℕ, Some, None, refl, sym, ◌∙◌, ap, subst, arith, true≢false}
 use Rattle.arch_disk.specs.Disk.{LeavesOnly}
 use Rattle.intervals.specs.declared.interval.Interval.{Interval}
 use Rattle.history_items.specs.Fills.{pending_fault_of}
@@ -13,11 +13,15 @@ use Rattle.archive_store.proofs.Installs.{at_done, counts_on, counts_same, goes_
 use Rattle.archive_store.proofs.KeptFills.{filled_now}
 use Rattle.archive_store.proofs.store.Store.install.Goals as goal
 
+-- below a limit that isn't reached
+below_limit : (limit records : ℕ) → (limit ≤ records → ⊥) → records < limit
+below_limit limit records few = omega (arith, few)
+
 pub append_fill-requires-clause-none : goal.append_fill-requires-clause-none
 append_fill-requires-clause-none g c =
     let now = c.args.self.now in
     let done = c.args.done in
-    let none = at_done done c.interval-interval.result c.base-base.result c.interval-interval.ensures c.base-base.ensures (λ j n. NoRowSince 22 j n now.history) c.in_default.ensures.none in
+    let none = at_done done c.interval-interval.result c.base-base.result c.interval-interval.ensures c.base-base.ensures (λ j n. NoRowSince now.exponent j n now.history) c.in_default.ensures.none in
     none
 
 -- ---- a failed write is pending
@@ -39,8 +43,8 @@ returns-in-Some-clause-crash g c no_failed_write transparent =
     let done = c.args.done in
     let up : IsAbandoned now c.give_up.new.self done.interval = subst (λ (j : Interval). IsAbandoned now c.give_up.new.self j) c.interval-interval.ensures c.give_up.ensures in
     let before = subst (λ (x : StoreView g.row.D.Denot). pending_fault_of x.fills ≡ None → LeavesOnly device x.disk x.disk (λ c'. StandsFilled c' (filled_of x) ⊎ StandsFilled c' (filled_with x done))) c.self.view_is
-    (λ none. filled_now device s.disk s.opened.value s.journal s.head s.history.items s.tracker.fills s.sets.filled s.pending_fault c.self.invariant.0 none transparent
-    (filled_with (view_of s.disk s.opened.value s.journal s.head s.history.items s.tracker.fills s.sets.filled) done)) in
+    (λ none. filled_now device s.disk s.opened.value s.journal s.head s.history.exponent s.history.items s.tracker.fills s.sets.filled s.pending_fault c.self.invariant.0 none transparent
+    (filled_with (view_of s.disk s.opened.value s.journal s.head s.history.exponent s.history.items s.tracker.fills s.sets.filled) done)) in
     subst (λ d. LeavesOnly device now.disk d (λ c'. StandsFilled c' (filled_of now) ⊎ StandsFilled c' (filled_with now done))) (same_disk now c.give_up.new.self done.interval up) (before no_failed_write)
 
 pub returns-in-Some-clause-grows : goal.returns-in-Some-clause-grows
@@ -72,7 +76,7 @@ returns-in-Some-later_row-clause-installed g c =
     let healed : pending_fault_of now.fills ≡ None = subst (λ (x : StoreView g.row.D.Denot). pending_fault_of x.fills ≡ None) c.self.view_is (sym c.self.invariant.0.pending_fault_is ∙ c.in-None.is) in
     let up : IsAbandoned now c.give_up-in-Some-later_row.new.self done.interval = subst (λ (j : Interval). IsAbandoned now c.give_up-in-Some-later_row.new.self j) c.interval-interval.ensures c.give_up-in-Some-later_row.ensures in
     let position = c.in-Some-later_row.position in
-    let later = at_done done c.interval-interval.result c.base-base.result c.interval-interval.ensures c.base-base.ensures (λ j n. (n ≤ position) × (last_in 22 j now.history ≡ Some position)) c.in-Some-later_row.ensures.later in
+    let later = at_done done c.interval-interval.result c.base-base.result c.interval-interval.ensures c.base-base.ensures (λ j n. (n ≤ position) × (last_in now.exponent j now.history ≡ Some position)) c.in-Some-later_row.ensures.later in
     (healed, (later.0, later.1, ap machine_state up), up)
 
 pub returns-in-Some-later_row-clause-crash : goal.returns-in-Some-later_row-clause-crash
@@ -83,8 +87,8 @@ returns-in-Some-later_row-clause-crash g c no_failed_write transparent =
     let done = c.args.done in
     let up : IsAbandoned now c.give_up-in-Some-later_row.new.self done.interval = subst (λ (j : Interval). IsAbandoned now c.give_up-in-Some-later_row.new.self j) c.interval-interval.ensures c.give_up-in-Some-later_row.ensures in
     let before = subst (λ (x : StoreView g.row.D.Denot). pending_fault_of x.fills ≡ None → LeavesOnly device x.disk x.disk (λ c'. StandsFilled c' (filled_of x) ⊎ StandsFilled c' (filled_with x done))) c.self.view_is
-    (λ none. filled_now device s.disk s.opened.value s.journal s.head s.history.items s.tracker.fills s.sets.filled s.pending_fault c.self.invariant.0 none transparent
-    (filled_with (view_of s.disk s.opened.value s.journal s.head s.history.items s.tracker.fills s.sets.filled) done)) in
+    (λ none. filled_now device s.disk s.opened.value s.journal s.head s.history.exponent s.history.items s.tracker.fills s.sets.filled s.pending_fault c.self.invariant.0 none transparent
+    (filled_with (view_of s.disk s.opened.value s.journal s.head s.history.exponent s.history.items s.tracker.fills s.sets.filled) done)) in
     subst (λ d. LeavesOnly device now.disk d (λ c'. StandsFilled c' (filled_of now) ⊎ StandsFilled c' (filled_with now done))) (same_disk now c.give_up-in-Some-later_row.new.self done.interval up) (before no_failed_write)
 
 pub returns-in-Some-later_row-clause-grows : goal.returns-in-Some-later_row-clause-grows
@@ -114,9 +118,9 @@ returns-then-is_full-clause-refused g c =
     let now = c.args.self.now in
     let done = c.args.done in
     let healed : pending_fault_of now.fills ≡ None = subst (λ (x : StoreView g.row.D.Denot). pending_fault_of x.fills ≡ None) c.self.view_is (sym c.self.invariant.0.pending_fault_is ∙ c.in-None.is) in
-    let none = at_done done c.interval-interval.result c.base-base.result c.interval-interval.ensures c.base-base.ensures (λ j n. NoRowSince 22 j n now.history) c.in_default.ensures.none in
+    let none = at_done done c.interval-interval.result c.base-base.result c.interval-interval.ensures c.base-base.ensures (λ j n. NoRowSince now.exponent j n now.history) c.in_default.ensures.none in
     let up : IsAbandoned now c.give_up-then-is_full.new.self done.interval = subst (λ (j : Interval). IsAbandoned now c.give_up-then-is_full.new.self j) c.interval-interval.ensures c.give_up-then-is_full.ensures in
-    (healed, none, refl, c.limit.ensures, c.is_full.ensures.full c.if-is_full.true, up)
+    (healed, none, refl, c.limit.ensures, c.is_full.ensures.0 c.if-is_full.true, up)
 
 pub returns-then-is_full-clause-crash : goal.returns-then-is_full-clause-crash
 returns-then-is_full-clause-crash g c no_failed_write transparent =
@@ -126,8 +130,8 @@ returns-then-is_full-clause-crash g c no_failed_write transparent =
     let done = c.args.done in
     let up : IsAbandoned now c.give_up-then-is_full.new.self done.interval = subst (λ (j : Interval). IsAbandoned now c.give_up-then-is_full.new.self j) c.interval-interval.ensures c.give_up-then-is_full.ensures in
     let before = subst (λ (x : StoreView g.row.D.Denot). pending_fault_of x.fills ≡ None → LeavesOnly device x.disk x.disk (λ c'. StandsFilled c' (filled_of x) ⊎ StandsFilled c' (filled_with x done))) c.self.view_is
-    (λ none. filled_now device s.disk s.opened.value s.journal s.head s.history.items s.tracker.fills s.sets.filled s.pending_fault c.self.invariant.0 none transparent
-    (filled_with (view_of s.disk s.opened.value s.journal s.head s.history.items s.tracker.fills s.sets.filled) done)) in
+    (λ none. filled_now device s.disk s.opened.value s.journal s.head s.history.exponent s.history.items s.tracker.fills s.sets.filled s.pending_fault c.self.invariant.0 none transparent
+    (filled_with (view_of s.disk s.opened.value s.journal s.head s.history.exponent s.history.items s.tracker.fills s.sets.filled) done)) in
     subst (λ d. LeavesOnly device now.disk d (λ c'. StandsFilled c' (filled_of now) ⊎ StandsFilled c' (filled_with now done))) (same_disk now c.give_up-then-is_full.new.self done.interval up) (before no_failed_write)
 
 pub returns-then-is_full-clause-grows : goal.returns-then-is_full-clause-grows
@@ -157,7 +161,7 @@ returns-in-Ok-clause-installed g c =
     let now = c.args.self.now in
     let done = c.args.done in
     let healed : pending_fault_of now.fills ≡ None = subst (λ (x : StoreView g.row.D.Denot). pending_fault_of x.fills ≡ None) c.self.view_is (sym c.self.invariant.0.pending_fault_is ∙ c.in-None.is) in
-    let able : IsInstallable now = record { healed = healed; below = c.is_full.ensures.room c.if-is_full.false } in
+    let able : IsInstallable now = record { healed = healed; below = below_limit _ _ (λ full. true≢false (sym (c.is_full.ensures.1 full) ∙ c.if-is_full.false)) } in
     (able, c.in-Ok.ensures.appended)
 
 -- ---- it could not be written
@@ -169,8 +173,8 @@ returns-in-Err-clause-refused g c =
     let now = c.args.self.now in
     let done = c.args.done in
     let healed : pending_fault_of now.fills ≡ None = subst (λ (x : StoreView g.row.D.Denot). pending_fault_of x.fills ≡ None) c.self.view_is (sym c.self.invariant.0.pending_fault_is ∙ c.in-None.is) in
-    let able : IsInstallable now = record { healed = healed; below = c.is_full.ensures.room c.if-is_full.false } in
-    let none = at_done done c.interval-interval.result c.base-base.result c.interval-interval.ensures c.base-base.ensures (λ j n. NoRowSince 22 j n now.history) c.in_default.ensures.none in
+    let able : IsInstallable now = record { healed = healed; below = below_limit _ _ (λ full. true≢false (sym (c.is_full.ensures.1 full) ∙ c.if-is_full.false)) } in
+    let none = at_done done c.interval-interval.result c.base-base.result c.interval-interval.ensures c.base-base.ensures (λ j n. NoRowSince now.exponent j n now.history) c.in_default.ensures.none in
     let up : IsAbandoned c.append_fill.new.self c.give_up-in-Err.new.self done.interval = subst (λ (j : Interval). IsAbandoned c.append_fill.new.self c.give_up-in-Err.new.self j) c.interval-interval.ensures c.give_up-in-Err.ensures in
     install_refused device now c.append_fill.new.self c.give_up-in-Err.new.self done c.in-Err.refusal able none c.in-Err.ensures.refused up
 

@@ -7,4 +7,4 @@ use Rattle.archive_store.proofs.store.Store.is_late.Goals as goal
 pub returns : goal.returns
 returns g c =
     let s = c.self.inside in
-    subst (λ (x : StoreView g.row.D.Denot). (c.is_late.result ≡ true) ↔ IsLate 22 c.args.interval x.history x.fills) c.self.view_is (c.is_late.ensures 22 s.history.items c.self.invariant.3)
+    subst (λ (x : StoreView g.row.D.Denot). (c.is_late.result ≡ true) ↔ IsLate x.exponent c.args.interval x.history x.fills) c.self.view_is (c.is_late.ensures s.history.exponent s.history.items c.self.invariant.3)

@@ -14,19 +14,19 @@ at_none (Some x) P p = tt
 pub returns-in_err-last-clause-none : goal.returns-in_err-last-clause-none
 returns-in_err-last-clause-none g c =
     let s = c.self.inside in
-    at_none c.from_residual.result (NoRowSince 22 c.args.interval c.args.base c.args.self.now.history)
-    (subst (λ (x : StoreView g.row.D.Denot). NoRowSince 22 c.args.interval c.args.base x.history) c.self.view_is
-    (never_since c.args.interval c.args.base s.history.items c.last.result (c.last.ensures.last 22 s.history.items c.self.invariant.3) c.in_err-last.was))
+    at_none c.from_residual.result (NoRowSince c.args.self.now.exponent c.args.interval c.args.base c.args.self.now.history)
+    (subst (λ (x : StoreView g.row.D.Denot). NoRowSince x.exponent c.args.interval c.args.base x.history) c.self.view_is
+    (never_since s.history.exponent c.args.interval c.args.base s.history.items c.last.result (c.last.ensures.last s.history.exponent s.history.items c.self.invariant.3) c.in_err-last.was))
 
 pub returns-then-last-base-clause-none : goal.returns-then-last-base-clause-none
 returns-then-last-base-clause-none g c =
     let s = c.self.inside in
-    subst (λ (x : StoreView g.row.D.Denot). NoRowSince 22 c.args.interval c.args.base x.history) c.self.view_is
-    (none_since_last c.args.interval c.args.base s.history.items c.last.result (c.last.ensures.last 22 s.history.items c.self.invariant.3) c.in_ok-last.last c.in_ok-last.was c.if-last-base.true)
+    subst (λ (x : StoreView g.row.D.Denot). NoRowSince x.exponent c.args.interval c.args.base x.history) c.self.view_is
+    (none_since_last s.history.exponent c.args.interval c.args.base s.history.items c.last.result (c.last.ensures.last s.history.exponent s.history.items c.self.invariant.3) c.in_ok-last.last c.in_ok-last.was c.if-last-base.true)
 
 pub returns-clause-later : goal.returns-clause-later
 returns-clause-later g c =
     let s = c.self.inside in
     let last = c.in_ok-last.last in
-    subst (λ (x : StoreView g.row.D.Denot). (c.args.base ≤ last) × (last_in 22 c.args.interval x.history ≡ Some last)) c.self.view_is
-    (c.if-last-base.false, sym (c.last.ensures.last 22 s.history.items c.self.invariant.3) ∙ c.in_ok-last.was)
+    subst (λ (x : StoreView g.row.D.Denot). (c.args.base ≤ last) × (last_in x.exponent c.args.interval x.history ≡ Some last)) c.self.view_is
+    (c.if-last-base.false, sym (c.last.ensures.last s.history.exponent s.history.items c.self.invariant.3) ∙ c.in_ok-last.was)

@@ -45,9 +45,9 @@ invariant_of-result g c =
     let mid = c.begin.new.disk in
     let f = c.in-Ok-read_archive.found in
     let r = c.in-Ok-read_archive.ensures.read in
-    let done = kept_open device disk mid f.journal f.made.head f.made.history.items f.made.tracker.fills f.made.sets.filled r.tables.1 r.rows r.archive_is r.marks.0 r.no_pending_fault r.in_file c.in-Ok.ensures.begun.durable c.read_archive.ensures.looked in (
-      subst (λ o. StoreInvariant device disk o f.journal f.made.head f.made.history.items f.made.tracker.fills f.made.sets.filled None) (sym c.of-opened.ensures) done,
-      r.tables.0,
+    let done = kept_open device disk mid f.journal f.made.head f.made.history.exponent f.made.history.items f.made.tracker.fills f.made.sets.filled r.tables.1 r.rows r.archive_is r.marks.0 r.no_pending_fault r.in_file c.in-Ok.ensures.begun.durable c.read_archive.ensures.looked in (
+      subst (λ o. StoreInvariant device disk o f.journal f.made.head f.made.history.exponent f.made.history.items f.made.tracker.fills f.made.sets.filled None) (sym c.of-opened.ensures) done,
+      r.tables.0.0,
       c.in-Ok-shared.ensures,
       r.marks.1,
       r.marks.2,
@@ -64,7 +64,9 @@ returns-clause-opened g c =
     record {
       stands = λ transparent. record { filled = filled_made made; plain_is = refl; stands = stands transparent };
       records = λ transparent. let f = found transparent in (map entry_octets f.entries, subst (λ (x : Image). HasRecords (x 0) (map entry_octets f.entries)) same f.has, ap length f.extents ∙ length-extents 0 (map entry_octets f.entries));
+      exponent = c.in-Ok-read_archive.ensures.read.tables.0.1;
       fills = c.in-Ok-read_archive.ensures.read.marks.0;
+      dones = λ transparent. let f = found transparent in (f.entries, subst (λ (x : Image). HasRecords (x 0) (map entry_octets f.entries)) same f.has, c.in-Ok-read_archive.ensures.read.dones transparent);
       filled = stands;
       opening = ap device.reads c.of-opened.ensures ∙ same;
       since = λ transparent. subst (λ o. LeavesOnly device o c.read_archive.new.disk (λ (x : Image). StandsFilled x (filled_made made))) (sym c.of-opened.ensures)

@@ -5,18 +5,18 @@ use Rattle.intervals.specs.declared.interval.Interval.{Interval}
 use Rattle.history_items.specs.Late.{last_in}
 use Rattle.interval_walks.specs.Turns.{CoverRange, IntervalsRise}
 use Rattle.archive_store.specs.Plans.{IsRangeInterval, plan_intervals}
-use Rattle.archive_store.proofs.Planning.{asked_have_rows, plan_archived}
+use Rattle.archive_store.proofs.Planning.{asked_have_rows, plan_archived, planned_over}
 use Rattle.archive_store.proofs.store.Store.planned.Goals as goal
 
 pub parts_of-requires : goal.parts_of-requires
 parts_of-requires g c =
-    let history = c.args.self.now.history in
+    let store = c.args.self.now in
     let request = c.args.request.now in
-    subst (AllByRecursion (λ i. IsSome (last_in 22 i history))) (sym c.as_slice.ensures.value)
-    (asked_have_rows history request.from request.to c.in_ok-intervals.intervals.items c.in_ok-intervals.ensures.meets)
+    subst (AllByRecursion (λ i. IsSome (last_in store.exponent i store.history))) (sym c.as_slice.ensures.value)
+    (asked_have_rows store.exponent store.history request.from request.to c.in_ok-intervals.intervals.items c.in_ok-intervals.ensures.meets)
 
-pub returns : goal.returns
-returns g c =
+pub returns-clause-planned : goal.returns-clause-planned
+returns-clause-planned g c =
     let store = c.args.self.now in
     let request = c.args.request.now in
     let parts = c.in_ok-parts.parts in
@@ -25,9 +25,16 @@ returns g c =
     record {
       front = c.front.ensures.front;
       mdb = c.requires;
+      exponent = c.exponent.ensures;
       each = c.in_ok-parts.ensures.each;
       rising = subst IntervalsRise (sym same) asked.rising;
-      meets = subst (AllByRecursion (IsRangeInterval store.history request.from request.to)) (sym same) asked.meets;
-      cover = λ less. subst (λ (l : List Interval). CoverRange 22 l request.from request.to store.history) (sym same) (asked.cover less);
+      meets = subst (AllByRecursion (IsRangeInterval store.exponent store.history request.from request.to)) (sym same) asked.meets;
+      cover = λ less. subst (λ (l : List Interval). CoverRange store.exponent l request.from request.to store.history) (sym same) (asked.cover less);
       archived = plan_archived store c.front.ensures.rows parts c.in_ok-parts.ensures.each;
     }
+
+pub returns-clause-over : goal.returns-clause-over
+returns-clause-over g c transparent image =
+    let store = c.args.self.now in
+    let request = c.args.request.now in
+    planned_over store request.from request.to _ c.front.ensures.bases (c.front.ensures.sound transparent image) (returns-clause-planned g c)

@@ -1,4 +1,4 @@
-use Rattle.std.proofs.Common.{rules, ◌≡◌, ◌∙◌, ◌<ℤ◌, ℕ, List, true, sym, subst, arith, w64, FitsSigned}
+use Rattle.std.proofs.Common.{rules, ◌≡◌, ◌<ℤ◌, ℕ, List, true, sym, subst, arith, w64, FitsSigned}
 use Rattle.std.specs.Prelude.{IfOk}
 use Rattle.std.specs.Global.{Vec}
 use Rattle.std.specs.List.{AllByRecursion}
@@ -29,13 +29,13 @@ returns-clause-meets g c =
     let to = request.to in
     let low : FitsSigned w64 from = search rules in
     let high : FitsSigned w64 to = search rules in
-    let format = c.exponent.ensures ∙ c.self.invariant.1.1 in
+    let format = c.exponent.ensures in
     let told = rw (to_z-of_z w64 from low, to_z-of_z w64 to high) at c.intervals_meeting.ensures.meets in
     let meets = subst (λ (e : ℕ). IfOk c.intervals_meeting.result (λ v. AllByRecursion (MeetsRange e from to) v.items)) format told in
-    subst (λ (x : StoreView g.row.D.Denot). IfOk c.intervals_meeting.result (λ intervals. AllByRecursion (IsRangeInterval x.history from to) intervals.items)) c.self.view_is
-    (if_ok_both c.intervals_meeting.result (λ (v : Vec Interval). AllByRecursion (MeetsRange 22 from to) v.items) (λ (v : Vec Interval). AllByRecursion (λ i. has_rows s.tracker.marks i ≡ true) v.items)
-    (λ (v : Vec Interval). AllByRecursion (IsRangeInterval s.history.items from to) v.items)
-    (λ v meet marked. all_asked s.tracker.marks s.tracker.fills s.history.items from to v.items c.self.invariant.3 meet marked) meets c.intervals_meeting.ensures.rows)
+    subst (λ (x : StoreView g.row.D.Denot). IfOk c.intervals_meeting.result (λ intervals. AllByRecursion (IsRangeInterval x.exponent x.history from to) intervals.items)) c.self.view_is
+    (if_ok_both c.intervals_meeting.result (λ (v : Vec Interval). AllByRecursion (MeetsRange s.history.exponent from to) v.items) (λ (v : Vec Interval). AllByRecursion (λ i. has_rows s.tracker.marks i ≡ true) v.items)
+    (λ (v : Vec Interval). AllByRecursion (IsRangeInterval s.history.exponent s.history.items from to) v.items)
+    (λ v meet marked. all_asked s.history.exponent s.tracker.marks s.tracker.fills s.history.items from to v.items c.self.invariant.3 meet marked) meets c.intervals_meeting.ensures.rows)
 
 pub returns-clause-cover : goal.returns-clause-cover
 returns-clause-cover g c =
@@ -45,12 +45,12 @@ returns-clause-cover g c =
     let to = request.to in
     let low : FitsSigned w64 from = search rules in
     let high : FitsSigned w64 to = search rules in
-    let format = c.exponent.ensures ∙ c.self.invariant.1.1 in
+    let format = c.exponent.ensures in
     let told = rw (to_z-of_z w64 from low, to_z-of_z w64 to high) at c.intervals_meeting.ensures.cover in
     let cover = subst (λ (e : ℕ). IfOk c.intervals_meeting.result (λ v. (history : List Item) → AreMarksOf e history s.tracker.fills s.tracker.marks → CoverRange e v.items from to history)) format told in
-    subst (λ (x : StoreView g.row.D.Denot). IfOk c.intervals_meeting.result (λ intervals. from <ℤ to → CoverRange 22 intervals.items from to x.history)) c.self.view_is
-    (if_ok c.intervals_meeting.result (λ (v : Vec Interval). (history : List Item) → AreMarksOf 22 history s.tracker.fills s.tracker.marks → CoverRange 22 v.items from to history)
-    (λ (v : Vec Interval). from <ℤ to → CoverRange 22 v.items from to s.history.items) (λ v covers less. covers s.history.items c.self.invariant.3) cover)
+    subst (λ (x : StoreView g.row.D.Denot). IfOk c.intervals_meeting.result (λ intervals. from <ℤ to → CoverRange x.exponent intervals.items from to x.history)) c.self.view_is
+    (if_ok c.intervals_meeting.result (λ (v : Vec Interval). (history : List Item) → AreMarksOf s.history.exponent history s.tracker.fills s.tracker.marks → CoverRange s.history.exponent v.items from to history)
+    (λ (v : Vec Interval). from <ℤ to → CoverRange s.history.exponent v.items from to s.history.items) (λ v covers less. covers s.history.items c.self.invariant.3) cover)
 
 -- ---- a range without a moment
 
@@ -60,7 +60,7 @@ returns-then-request-clause-rising g c = subst IntervalsRise (sym c.new.ensures.
 pub returns-then-request-clause-meets : goal.returns-then-request-clause-meets
 returns-then-request-clause-meets g c =
     let request = c.args.request.now in
-    subst (AllByRecursion (IsRangeInterval c.args.self.now.history request.from request.to)) (sym c.new.ensures.items) tt
+    subst (AllByRecursion (IsRangeInterval c.args.self.now.exponent c.args.self.now.history request.from request.to)) (sym c.new.ensures.items) tt
 
 pub returns-then-request-clause-cover : goal.returns-then-request-clause-cover
 returns-then-request-clause-cover g c less = absurd (omega (arith, ints, less, c.if-request.true))

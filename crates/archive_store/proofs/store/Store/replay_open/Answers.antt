@@ -1,7 +1,7 @@
-use Rattle.std.proofs.Common.{◌≡◌, ◌<◌, ◌∙◌, ℕ, List, length, sym, ap, subst, arith}
+use Rattle.std.proofs.Common.{◌≡◌, ◌<◌, ◌∙◌, List, length, sym, ap, subst, arith}
 use Rattle.std.specs.Prelude.{Result, Ok, Err, IfOk, Some}
 use mathlib.Core.List.{IsPrefix}
-use Rattle.asks.specs.Names.{table_named}
+use Rattle.asks.specs.Names.{table_number}
 use Rattle.history_items.specs.Items.{Item, rows_in}
 use Rattle.replay_merge.specs.Cursor.{CursorView, rest_of}
 use Rattle.archive_store.specs.Replays.{IsReplayOpened, replay_asked}
@@ -16,14 +16,14 @@ all_three (Err e) P Q R S gives p q r = tt
 pub cursor_at_front-requires : goal.cursor_at_front-requires
 cursor_at_front-requires g c =
     let within = subst (λ (x : StoreView g.row.D.Denot). c.args.found.now.table < length x.head.tables) (sym c.self.view_is) c.requires.found.within in
-    omega (arith, within, c.self.invariant.1.0)
+    omega (arith, within, c.self.invariant.1)
 
 pub returns-clause-opened : goal.returns-clause-opened
 returns-clause-opened g c =
     let s = c.self.inside in
     let found = c.args.found.now in
     let request = found.request in
-    let table = subst (λ (x : StoreView g.row.D.Denot). table_named x.head.tables request.table ≡ Some found.table) (sym c.self.view_is) c.requires.found.table in
+    let table = subst (λ (x : StoreView g.row.D.Denot). table_number x.head.tables request.table ≡ Some found.table) (sym c.self.view_is) c.requires.found.table in
     subst (λ (x : StoreView g.row.D.Denot). IfOk c.cursor_at_front.result (IsReplayOpened x.head x.history request)) c.self.view_is
     (all_three c.cursor_at_front.result (λ (cursor : CursorView). cursor.table ≡ found.table) (λ (cursor : CursorView). cursor.front ≡ length s.history.items)
     (λ (cursor : CursorView). (later : List Item) → IsPrefix s.history.items later → rest_of cursor (rows_in later) ≡ replay_asked s.head request found.table (rows_in s.history.items))

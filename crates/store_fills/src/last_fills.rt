@@ -1,9 +1,9 @@
-//! The sets of the intervals that were filled.
+//! The last fills of intervals.
 
 ghost use Rattle.std.specs.Prelude.{◌≡◌, ◌≤◌, [], Some, None, OnOk, IfSome, IfNone};
 ghost use Rattle.std.specs.Arc.{arc_value};
 ghost use Rattle.store_fills.specs.Sound.{with_filling};
-ghost use Rattle.store_fills.specs.FilledSets.{fill_over, fillings_in, filling_of};
+ghost use Rattle.store_fills.specs.LastFills.{fill_over, fillings_in, filling_of};
 
 use block_map::index::Index;
 use intervals::Interval;
@@ -14,35 +14,35 @@ use std::sync::Arc;
 
 /// The last fill of an interval: its base and its set.
 #[derive(Drop)]
-pub struct FilledSlot {
+pub struct LastFill {
     pub base: u64,
     pub set: Arc<SegSet, Global>,
 }
 
 /// The last fill of each interval that has one.
 #[derive(Drop)]
-pub struct FilledSets {
+pub struct LastFills {
     /// Where the fill of an interval stands.
     places: Index<Interval, usize>,
-    slots: Vec<FilledSlot>,
+    slots: Vec<LastFill>,
 }
 
-impl Model for FilledSets {
-    ghost use Rattle.store_fills.specs.FilledSets.{FilledSetsView, ArePlaced, filled_sets_of};
+impl Model for LastFills {
+    ghost use Rattle.store_fills.specs.LastFills.{LastFillsView, ArePlaced, last_fills_of};
 
-    ghost Value = { FilledSetsView };
+    ghost Value = { LastFillsView };
 
-    ghost view = { λ s. filled_sets_of s.places s.slots };
+    ghost view = { λ s. last_fills_of s.places s.slots };
 
     ghost invariant = { λ s. ArePlaced s.places.entries s.slots.items };
 }
 
-impl FilledSets {
+impl LastFills {
     /// No fill. Takes no memory.
     pub fn new(alloc: Global) -> Self
         ensures { result.filled.entries ≡ [] }
     {
-        FilledSets {
+        LastFills {
             places: Index::new(alloc),
             slots: Vec::new(alloc),
         }
@@ -63,7 +63,7 @@ impl FilledSets {
         ensures { fillings_in self.new.filled ≡ with_filling (fillings_in self.old.filled) interval
             (fill_over base (arc_value set)) }
     {
-        let slot = FilledSlot { base, set };
+        let slot = LastFill { base, set };
         match self.places.get(interval) {
             Some(at) => self.slots[at] = slot,
             None => {
@@ -75,7 +75,7 @@ impl FilledSets {
     }
 
     /// The fill of an interval.
-    pub fn get(&self, interval: Interval) -> Option<&FilledSlot>
+    pub fn get(&self, interval: Interval) -> Option<&LastFill>
         ensures some { IfSome result (λ slot. fillings_in self.now.filled interval ≡ Some (filling_of slot.now)) }
         ensures none { IfNone result (fillings_in self.now.filled interval ≡ None) }
     {
