@@ -10,11 +10,11 @@ use Rattle.command_words.specs.Job as spec
 use Rattle.command_words.specs.Job.{IsNoJob, job_of}
 use Rattle.command_words.specs.JobView.{job_view}
 use Rattle.outer_traits.specs.States.{InputsState}
-use Rattle.outer_ledgers.proofs.Ledgers.{inputs_unused}
-use Rattle.archive_cli.specs.Command.{Effects, RanOver, nothing_done}
-use Rattle.archive_cli.specs.Report.{unopened}
+use Rattle.command_plans.proofs.Ledgers.{inputs_unused}
+use Rattle.command_runs.specs.Command.{Effects, RanOver, nothing_done}
+use Rattle.command_runs.specs.Report.{unopened}
 use Rattle.archive_cli.specs.Run.{after_words, job_plan, run_plan}
-use Rattle.archive_cli.proofs.Commands.{no_text}
+use Rattle.command_runs.proofs.Commands.{no_text}
 
 module _ {D : Type 0} (device : Device D) (e : Effects D) (files : Option Files) (next : Option ℤ) (a b : InputsState) where
   -- a command that was asked for went through its plan

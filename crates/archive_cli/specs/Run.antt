@@ -5,15 +5,15 @@ use Rattle.refusals.specs.declared.refusal.Refusal.TheVariants.{Usage}
 use Rattle.outer_traits.specs.Outside.{Files}
 use Rattle.command_plans.specs.Plan.{OfMemory, CommandPlan, Stop, May, Question}
 use Rattle.command_words.specs.Job.{Job, Scan, Values, Create, Load, Query, Sql, Recover, Verify, job_of}
-use Rattle.archive_cli.specs.Command.{Progress, nothing_done}
-use Rattle.archive_cli.specs.create_command.Create.{create_plan}
-use Rattle.archive_cli.specs.load_command.Load.{load_plan}
-use Rattle.archive_cli.specs.query_command.Query.{query_plan}
-use Rattle.archive_cli.specs.recover_command.Recover.{recover_plan}
-use Rattle.archive_cli.specs.scan_command.Scan.{scan_plan}
-use Rattle.archive_cli.specs.sql_command.Sql.{sql_plan}
-use Rattle.archive_cli.specs.values_command.Values.{values_plan}
-use Rattle.archive_cli.specs.verify_command.Verify.{verify_plan}
+use Rattle.command_runs.specs.Command.{Progress, nothing_done}
+use Rattle.archive_commands.specs.Create.{create_plan}
+use Rattle.load_command.specs.Load.{load_plan}
+use Rattle.query_commands.specs.Query.{query_plan}
+use Rattle.archive_commands.specs.Recover.{recover_plan}
+use Rattle.dump_commands.specs.Scan.{scan_plan}
+use Rattle.query_commands.specs.Sql.{sql_plan}
+use Rattle.dump_commands.specs.Values.{values_plan}
+use Rattle.archive_commands.specs.Verify.{verify_plan}
 
 -- does a job over a disk, over inputs whose files may be known, and at a moment that may be known
 abbrev pub job_plan : {D : Type 0} → Device D → D → Option Files → Option ℤ → Job → CommandPlan Progress ⊥
@@ -33,4 +33,5 @@ after_words device disk files next None = Stop (nothing_done 0) (Some Usage)
 
 -- reads the words of a command line, and does the job that they are
 abbrev pub run_plan : {D : Type 0} → Device D → D → Option Files → Option ℤ → List (List ℕ) → CommandPlan Progress ⊥
-run_plan device disk files next words = May OfMemory (nothing_done 0) (Question (λ job. job ≡ job_of words) (after_words device disk files next))
+run_plan device disk files next words =
+    May OfMemory (nothing_done 0) (Question (λ job. job ≡ job_of words) (after_words device disk files next))

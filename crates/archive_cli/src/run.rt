@@ -1,28 +1,28 @@
 //! The top call.
 
 ghost use Rattle.std.specs.Prelude.{◌≡◌, IsSome, IsTrue, map, string_bytes, Some, ◌<◌};
-ghost use Rattle.outer_ledgers.specs.Ledger.{UsedClock};
+ghost use Rattle.command_plans.specs.Ledger.{UsedClock};
 ghost use Rattle.command_plans.specs.Plan.{IsDue};
 ghost use Rattle.command_words.specs.JobView.{job_view};
 ghost use Rattle.command_words.specs.Job.{job_of, HasLink};
-ghost use Rattle.archive_cli.specs.Command.{RanOver, effects_of};
+ghost use Rattle.command_runs.specs.Command.{RanOver, effects_of};
 ghost use Rattle.archive_cli.specs.Run.{job_plan, run_plan};
-ghost use Rattle.archive_cli.specs.Report.{status_at};
+ghost use Rattle.command_runs.specs.Report.{status_at};
 
-use crate::create::create;
-use crate::load::load;
-use crate::query::query;
-use crate::recover::recover;
-use crate::report::Ended;
-use crate::scan::scan;
-use crate::sql::query_sql;
-use crate::values::values;
-use crate::verify::verify;
 use arch_disk::Disk;
+use archive_commands::create::create;
+use archive_commands::recover::recover;
+use archive_commands::verify::verify;
+use command_runs::report::Ended;
 use command_words::job::{Job, job_of};
+use dump_commands::scan::scan;
+use dump_commands::values::values;
+use load_command::load::load;
 use outer_traits::clock::Clock;
 use outer_traits::inputs::Inputs;
 use outer_traits::sink::Sink;
+use query_commands::query::query;
+use query_commands::sql::query_sql;
 use refusals::Refusal;
 use std::alloc::Global;
 

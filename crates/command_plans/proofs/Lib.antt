@@ -1,1 +1,5 @@
 pub mod Plans
+pub mod Ledgers
+pub mod Inputs
+pub mod Readings
+pub mod Whole

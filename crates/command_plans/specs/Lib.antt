@@ -1,1 +1,4 @@
+pub mod Inputs
+pub mod Ledger
 pub mod Plan
+pub mod Reading

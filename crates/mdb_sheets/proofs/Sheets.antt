@@ -7,24 +7,14 @@ use Rattle.refusals.specs.declared.refusal.Which.TheVariants.{SheetOctets}
 use Rattle.refusals.specs.Limits.{limit_of}
 use Rattle.mdb_items.specs.declared.sheet.RawMdb.{RawMdb}
 use Rattle.outer_traits.specs.Outside.{Files}
-use Rattle.outer_traits.specs.declared.whole.ReadFault.{ReadFault}
-use Rattle.outer_traits.specs.declared.whole.ReadFault.TheVariants.{Missing, Failed, TooLong, OutOfMemory}
 use Rattle.command_plans.specs.Plan.{Returned, IsDetermined}
 use Rattle.command_plans.proofs.Plans.{determined, gave}
 use Rattle.outer_traits.specs.States.{InputsState}
-use Rattle.input_plans.specs.Inputs.{IsFaultRefusal, AnsweredByPlan, WasRead}
-use Rattle.input_plans.proofs.Inputs.{reads_determined}
-use Rattle.input_plans.proofs.Readings.{first_not_read, then_not_read, then_read}
+use Rattle.command_plans.specs.Inputs.{AnsweredByPlan, WasRead}
+use Rattle.command_plans.proofs.Inputs.{reads_determined}
+use Rattle.command_plans.proofs.Readings.{first_not_read, then_not_read, then_read}
 use Rattle.mdb_sheets.specs.Plans.{giving_plan, second_sheet_plan, sheet_plan, third_sheet_plan, sheets_plan}
-use Rattle.mdb_sheets.specs.Refusal.{IsRefusalOf}
 use Rattle.mdb_sheets.specs.Sheets.{Fields, HasSheet, IsSheet, IsSheetRefused, sheet_of}
-
--- the refusal of a sheet is that of an input
-pub sheet_refusal_is : (fault : ReadFault) (name : List ℕ) (refusal : Refusal) → IsRefusalOf fault name refusal → IsFaultRefusal name SheetOctets fault refusal
-sheet_refusal_is Missing name refusal is = is
-sheet_refusal_is Failed name refusal is = is
-sheet_refusal_is TooLong name refusal is = is
-sheet_refusal_is OutOfMemory name refusal is = is
 
 module _ (files : Option Files) (parameters calibrations containers : List ℕ) where
   -- the first wasn't read,

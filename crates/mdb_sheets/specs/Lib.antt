@@ -1,4 +1,3 @@
 pub mod Sheets
-pub mod Refusal
 pub mod Asks
 pub mod Plans

@@ -6,7 +6,7 @@ use Rattle.refusals.specs.declared.refusal.Which.TheVariants.{SheetOctets}
 use Rattle.mdb_items.specs.declared.sheet.RawMdb.{RawMdb}
 use Rattle.outer_traits.specs.Outside.{Files}
 use Rattle.command_plans.specs.Plan.{CommandPlan, Return, and_then}
-use Rattle.input_plans.specs.Inputs.{input_plan}
+use Rattle.command_plans.specs.Inputs.{input_plan}
 use Rattle.mdb_sheets.specs.Asks.{asks_of}
 use Rattle.mdb_sheets.specs.Sheets.{Fields, sheet_of}
 

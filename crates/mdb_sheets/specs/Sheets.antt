@@ -9,7 +9,7 @@ use Rattle.csv.specs.Reading.{default_config, records, strip_bom}
 use Rattle.mdb_items.specs.declared.sheet.RawMdb.{RawMdb}
 use Rattle.outer_traits.specs.Outside.{Files, HasRisen, IsOneMoreAtMost, Stays, one_more}
 use Rattle.outer_traits.specs.Whole.{IsThere}
-use Rattle.outer_ledgers.specs.Ledger.{given_more}
+use Rattle.command_plans.specs.Ledger.{given_more}
 
 -- a record of a sheet: the octets of each field
 abbrev pub Fields : Type 0

@@ -2,16 +2,16 @@
 
 ghost use Rattle.std.specs.Prelude.{◌≡◌, ◌<◌, ◌^◌, drop};
 ghost use Rattle.mdb_model.specs.Sheets.{are_texts};
-ghost use Rattle.input_plans.specs.Inputs.{AnsweredByPlan};
+ghost use Rattle.command_plans.specs.Inputs.{AnsweredByPlan};
 ghost use Rattle.mdb_sheets.specs.Asks.{IsAsksResult, IsAskRowsResult, IsSheetAnswer, is_ask_header};
 ghost use Rattle.mdb_sheets.specs.Plans.{ask_sheet_plan};
 ghost use Rattle.mdb_sheets.specs.Sheets.{sheet_of};
 
 use crate::ask_row::{AskFault, read_ask};
 use crate::records::records;
-use crate::refusal::refusal;
 use asks::Asks;
 use command_plans::is_interruption;
+use command_plans::read::refusal_of;
 use mdb_model::{Sheet, SheetRecord};
 use outer_traits::inputs::Inputs;
 use outer_traits::whole::read_input;
@@ -104,7 +104,7 @@ pub fn read_asks<I: Inputs>(
 {
     match read_input(alloc, inputs, name, Which::SheetOctets.limit() as usize) {
         Ok(octets) => sheet_asks(asks_in(alloc, octets.as_slice())),
-        Err(fault) => Err(refusal(alloc, fault, name)),
+        Err(fault) => Err(refusal_of(alloc, fault, name, Which::SheetOctets)),
     }
 }
 

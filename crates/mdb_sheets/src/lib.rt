@@ -23,7 +23,6 @@ mod ask_sheet;
 mod mdb;
 mod name_list;
 mod records;
-mod refusal;
 mod sheet;
 
 pub use ask_sheet::read_asks;

@@ -3,8 +3,8 @@
 ghost use Rattle.std.specs.Prelude.{◌≡◌, ◌+◌, ◌<◌, ◌≤◌, ◌^◌, IfOk, IfErr, OnOk};
 ghost use Rattle.std.specs.Result.{result_err};
 ghost use Rattle.outer_traits.specs.Outside.{Stays};
-ghost use Rattle.outer_ledgers.specs.Ledger.{given_more};
-ghost use Rattle.input_plans.specs.Inputs.{AnsweredByPlan};
+ghost use Rattle.command_plans.specs.Ledger.{given_more};
+ghost use Rattle.command_plans.specs.Inputs.{AnsweredByPlan};
 ghost use Rattle.mdb_sheets.specs.Plans.{sheets_plan};
 ghost use Rattle.mdb_sheets.specs.Sheets.{AreSheets, IsRefusal, ReadsCounted};
 

@@ -3,12 +3,12 @@
 ghost use Rattle.std.specs.Prelude.{◌≡◌, ◌+◌, ◌<◌, ◌≤◌, ◌^◌, IfOk, IfErr, OnOk};
 ghost use Rattle.std.specs.Result.{result_err};
 ghost use Rattle.outer_traits.specs.Outside.{Stays, one_more};
-ghost use Rattle.input_plans.specs.Inputs.{AnsweredByPlan};
+ghost use Rattle.command_plans.specs.Inputs.{AnsweredByPlan};
 ghost use Rattle.mdb_sheets.specs.Plans.{sheet_plan};
 ghost use Rattle.mdb_sheets.specs.Sheets.{IsSheet, IsSheetRefused, ReadsCounted};
 
 use crate::records::records;
-use crate::refusal::refusal;
+use command_plans::read::refusal_of;
 use mdb_model::Sheet;
 use outer_traits::inputs::Inputs;
 use outer_traits::whole::read_input;
@@ -43,6 +43,6 @@ pub(crate) fn read_sheet<I: Inputs>(
             Ok(sheet) => Ok(sheet),
             Err(_) => Err(Refusal::OutOfMemory),
         },
-        Err(fault) => Err(refusal(alloc, fault, name)),
+        Err(fault) => Err(refusal_of(alloc, fault, name, Which::SheetOctets)),
     }
 }

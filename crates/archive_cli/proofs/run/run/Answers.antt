@@ -1,10 +1,10 @@
 use Rattle.std.proofs.Common.{map, refl, string_bytes, subst, sym}
 use Rattle.command_words.specs.JobView.{job_view}
 use Rattle.command_plans.specs.Plan.{IsDue}
-use Rattle.archive_cli.specs.declared.report.Report.{Report}
-use Rattle.archive_cli.specs.Command.{effects_of}
+use Rattle.command_runs.specs.declared.report.Report.{Report}
+use Rattle.command_runs.specs.Command.{effects_of}
 use Rattle.archive_cli.specs.Run.{run_plan}
-use Rattle.outer_ledgers.proofs.Ledgers.{clock_unused}
+use Rattle.command_plans.proofs.Ledgers.{clock_unused}
 use Rattle.archive_cli.proofs.RunPlan.{jobless_due, jobless_ran, run_due, run_ran}
 use Rattle.archive_cli.proofs.run.run.Goals as goal
 

@@ -1,10 +1,10 @@
-use Rattle.archive_cli.specs.Command.{effects_of}
-use Rattle.outer_ledgers.proofs.Ledgers.{clock_unused}
-use Rattle.archive_cli.specs.recover_command.Recover.{recover_plan}
-use Rattle.archive_cli.specs.verify_command.Verify.{verify_plan}
-use Rattle.archive_cli.proofs.Recovered.{recover_reads}
-use Rattle.archive_cli.proofs.Comparing.{verify_reads}
-use Rattle.archive_cli.proofs.OverInputs.{over_any_inputs}
+use Rattle.command_runs.specs.Command.{effects_of}
+use Rattle.command_plans.proofs.Ledgers.{clock_unused}
+use Rattle.archive_commands.specs.Recover.{recover_plan}
+use Rattle.archive_commands.specs.Verify.{verify_plan}
+use Rattle.archive_commands.proofs.Recovered.{recover_reads}
+use Rattle.archive_commands.proofs.Comparing.{verify_reads}
+use Rattle.command_runs.proofs.OverInputs.{over_any_inputs}
 use Rattle.archive_cli.proofs.RunPlan.{job_due, job_ran}
 use Rattle.archive_cli.proofs.run.run_job.Goals as goal
 

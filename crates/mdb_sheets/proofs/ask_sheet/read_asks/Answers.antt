@@ -5,13 +5,12 @@ use Rattle.refusals.specs.declared.refusal.Refusal.{Refusal}
 use Rattle.refusals.specs.declared.refusal.Which.TheVariants.{SheetOctets}
 use Rattle.refusals.specs.Limits.{limit_of}
 use Rattle.outer_traits.specs.Whole.{IsInputFault}
-use Rattle.input_plans.specs.Inputs.{AnsweredByPlan}
-use Rattle.input_plans.proofs.Whole.{not_read, was_read, without_memory}
+use Rattle.command_plans.specs.Inputs.{AnsweredByPlan}
+use Rattle.command_plans.proofs.Whole.{not_read, was_read, without_memory}
 use Rattle.mdb_sheets.specs.Asks.{IsAsksResult, asks_of}
 use Rattle.mdb_sheets.specs.Plans.{ask_sheet_plan}
 use Rattle.mdb_sheets.specs.Sheets.{sheet_of}
 use Rattle.mdb_sheets.proofs.AskSheets.{answer_is}
-use Rattle.mdb_sheets.proofs.Sheets.{sheet_refusal_is}
 use Rattle.mdb_sheets.proofs.ask_sheet.read_asks.Goals as goal
 
 pub returns-in-Ok : goal.returns-in-Ok
@@ -46,6 +45,6 @@ returns-in-Err g c =
     let name = c.args.name.now in
     let fault = subst (λ (n : ℕ). IsInputFault files name n (g.I.Inputs.state c.args.inputs.now).faults (g.I.Inputs.state now).faults c.in-Err.fault) c.limit.ensures e.fault in
     record {
-      read = not_read files SheetOctets (λ octets. asks_of octets) name old new e.same e.closed e.reliable (List ℕ) c.in-Err.fault c.refusal.result fault
-          (sheet_refusal_is c.in-Err.fault name c.refusal.result c.refusal.ensures) e.gave e.counted e.later;
+      read = not_read files SheetOctets (λ octets. asks_of octets) name old new e.same e.closed e.reliable (List ℕ) c.in-Err.fault c.refusal_of.result fault
+          c.refusal_of.ensures e.gave e.counted e.later;
     }

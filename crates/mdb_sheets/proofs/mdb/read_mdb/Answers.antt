@@ -3,8 +3,8 @@ use Rattle.std.specs.Prelude.{Err}
 use Rattle.std.proofs.lemmas.Result.{err_from_is_err_and}
 use Rattle.mdb_items.specs.declared.sheet.RawMdb.{RawMdb}
 use Rattle.outer_traits.specs.Outside.{Files}
-use Rattle.outer_ledgers.specs.Ledger.{given_more}
-use Rattle.input_plans.specs.Inputs.{AnsweredByPlan, WasRead}
+use Rattle.command_plans.specs.Ledger.{given_more}
+use Rattle.command_plans.specs.Inputs.{AnsweredByPlan, WasRead}
 use Rattle.mdb_sheets.specs.Plans.{sheet_plan}
 use Rattle.mdb_sheets.specs.Sheets.{Fields, IsSheet}
 use Rattle.mdb_sheets.proofs.Sheets.{all_read, first_unread, has_sheet, refused_after, second_unread, third_unread}

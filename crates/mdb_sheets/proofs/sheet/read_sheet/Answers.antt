@@ -2,11 +2,10 @@ use Rattle.std.proofs.Common.{◌∙◌, ◌≤◌, ℕ, List, length, ap, arith
 use Rattle.refusals.specs.declared.refusal.Which.TheVariants.{SheetOctets}
 use Rattle.refusals.specs.Limits.{limit_of}
 use Rattle.outer_traits.specs.Whole.{IsInputFault}
-use Rattle.input_plans.specs.Inputs.{WasRead}
-use Rattle.input_plans.proofs.Whole.{not_read, was_read, without_memory}
+use Rattle.command_plans.specs.Inputs.{WasRead}
+use Rattle.command_plans.proofs.Whole.{not_read, was_read, without_memory}
 use Rattle.mdb_sheets.specs.Plans.{sheet_plan}
 use Rattle.mdb_sheets.specs.Sheets.{Fields, sheet_of}
-use Rattle.mdb_sheets.proofs.Sheets.{sheet_refusal_is}
 use Rattle.mdb_sheets.proofs.sheet.read_sheet.Goals as goal
 
 pub returns-in-Ok-records-clause-read : goal.returns-in-Ok-records-clause-read
@@ -41,5 +40,5 @@ returns-clause-read g c =
     let e = c.in-Err.ensures in
     let name = c.args.name.now in
     let fault = subst (λ (n : ℕ). IsInputFault files name n (g.I.Inputs.state c.args.inputs.now).faults (g.I.Inputs.state now).faults c.in-Err.fault) c.limit.ensures e.fault in
-    not_read files SheetOctets (λ octets. sheet_of octets) name old new e.same e.closed e.reliable (List ℕ) c.in-Err.fault c.refusal.result fault
-    (sheet_refusal_is c.in-Err.fault name c.refusal.result c.refusal.ensures) e.gave e.counted e.later
+    not_read files SheetOctets (λ octets. sheet_of octets) name old new e.same e.closed e.reliable (List ℕ) c.in-Err.fault c.refusal_of.result fault
+    c.refusal_of.ensures e.gave e.counted e.later

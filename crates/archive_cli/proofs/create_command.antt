@@ -1,4 +1,0 @@
-pub mod CreatePlan
-pub mod NewTables
-pub mod Created
-pub mod ArchiveOrNone

@@ -1,5 +1,0 @@
-use Rattle.archive_cli.proofs.load_command.RouteTables.{tm_below}
-use Rattle.archive_cli.proofs.load.every_packet.Goals as goal
-
-pub returns-in-Ok-clause-over : goal.returns-in-Ok-clause-over
-returns-in-Ok-clause-over g c = rw c.in-Ok.ensures (tm_below c.args.store.now.head c.head.ensures.sound.0.first)

@@ -1,6 +1,0 @@
-use Rattle.std.proofs.Common.{rules}
-use Rattle.archive_cli.proofs.load_command.RouteTables.{script_below}
-use Rattle.archive_cli.proofs.load.scripted_route.Goals as goal
-
-pub returns-in-Ok-clause-over : goal.returns-in-Ok-clause-over
-returns-in-Ok-clause-over g c = script_below c.args.store.now.head c.args.text.now c.in-Ok.graph (search rules)

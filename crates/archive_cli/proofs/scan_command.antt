@@ -1,3 +1,0 @@
-pub mod Scanned
-pub mod PacketNames
-pub mod ScanPlan

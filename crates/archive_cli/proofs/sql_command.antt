@@ -1,4 +1,0 @@
-pub mod SqlPlan
-pub mod Replies
-pub mod HeldParts
-pub mod RisingParts

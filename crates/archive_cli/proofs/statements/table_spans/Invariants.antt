@@ -1,9 +1,0 @@
-use Rattle.std.proofs.Common.{◌≡◌}
-use Rattle.std.specs.Prelude.{flat_map}
-use Rattle.std.specs.List.{range_with_len}
-use Rattle.archive_history.specs.History.{rows_in_table}
-use Rattle.archive_cli.specs.sql_command.Statements.{name_spans}
-use Rattle.archive_cli.proofs.statements.table_spans.Given as goal
-
-abbrev pub invariant-loop-pname : goal.invariant-loop-pname
-invariant-loop-pname g l = l.lines.items ≡ flat_map (name_spans (rows_in_table l.table l.store.history)) (range_with_len 0 l.pname)

@@ -1,4 +1,0 @@
-pub mod CellCounts
-pub mod Valued
-pub mod LimitTests
-pub mod ValuesPlan

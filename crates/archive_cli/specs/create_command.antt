@@ -1,2 +1,0 @@
-pub mod Create
-pub mod Creation

@@ -1,4 +1,0 @@
-pub mod LoadLine
-pub mod Loading
-pub mod Extension
-pub mod Load

@@ -1,3 +1,0 @@
-pub mod Sql
-pub mod Statements
-pub mod Replying

@@ -1,2 +1,0 @@
-pub mod Verify
-pub mod Replying

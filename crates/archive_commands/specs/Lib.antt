@@ -1,0 +1,4 @@
+pub mod Create
+pub mod Recover
+pub mod Verify
+pub mod VerifyReplying

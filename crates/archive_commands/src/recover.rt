@@ -1,0 +1,75 @@
+//! The command `recover`: late intervals, filled.
+
+ghost use Rattle.std.specs.Prelude.{◌≡◌, ◌++◌, [], IsTrue, codes, decimal};
+ghost use Rattle.command_plans.specs.Plan.{IsDue};
+ghost use Rattle.command_runs.specs.Command.{Ran, effects_of};
+ghost use Rattle.command_runs.specs.Report.{disk_of_work, report_of_work, status_at};
+ghost use Rattle.archive_commands.specs.Recover.{recover_plan};
+
+use arch_disk::Disk;
+use archive_store::Store;
+use command_runs::finishing::finish;
+use command_runs::report::{Ended, Report};
+use dump_lines::line_buffer::LineBuffer;
+use late_filling::fill_late::fill_late;
+use outer_traits::sink::Sink;
+use refusals::Refusal;
+use std::alloc::Global;
+
+/// Opens the archive of a disk, fills each late interval, and prints how many rows there are and how many intervals it
+/// filled. Room for the line is taken before.
+///
+/// Refuses, in this order: by `DiskFault`, `NoArchive` or `Damaged`; fill by fill by `Limit` Records or by `DiskFault`; by
+/// `WriteFault`. `OutOfMemory` may come anywhere before the line. What was filled before a refusal stays filled, and where no
+/// interval is late the disk is left as it was.
+pub fn recover<D: Disk, K: Sink>(alloc: Global, disk: D, sink: &mut K) -> Ended<D>
+    // It took a way through its plan: where that ends stands what was printed, what became of the disk, what is reported,
+    // and which calls failed.
+    ensures ran { Ran D.device (recover_plan D.device disk) (effects_of disk result.disk (K.state sink.old)
+        (K.state sink.new) result.report) }
+
+    // Where the disk is transparent the answer that is due comes, or that of an interruption at its place.
+    ensures due { IsTrue D.device.is_transparent → IsDue (recover_plan D.device disk) result.report.refusal }
+
+    // The number of the refusal, and 0 exactly where there's none.
+    ensures status { result.status ≡ status_at result.report.refusal }
+{
+    Ended::of_work(work(alloc, disk, sink))
+}
+
+/// Does the command.
+fn work<D: Disk, K: Sink>(alloc: Global, disk: D, sink: &mut K) -> Result<(D, Report), (D, Refusal)>
+    ensures { Ran D.device (recover_plan D.device disk) (effects_of disk (disk_of_work result)
+        (K.state sink.old) (K.state sink.new) (report_of_work result)) }
+{
+    let Ok(mut line_buffer) = LineBuffer::new(alloc) else {
+        return Err((disk, Refusal::OutOfMemory));
+    };
+    let mut store = Store::open(alloc, disk)?;
+    let rows = store.front();
+    match fill_late(alloc, &mut store) {
+        Ok(filled) => {
+            put_recovered(&mut line_buffer, rows, filled);
+            let refusal = finish(line_buffer, sink);
+            // It tells the proof which fills a crash leaves now.
+            store.front();
+            Ok((store.into_disk(), Report::read_only(refusal, rows)))
+        }
+        Err(refusal) => {
+            // It tells the proof which fills a crash leaves now.
+            store.front();
+            Ok((store.into_disk(), Report::read_only(Some(refusal), rows)))
+        }
+    }
+}
+
+/// Adds the line of a recovered archive.
+fn put_recovered(line_buffer: &mut LineBuffer, rows: u64, filled: u64)
+    requires { line_buffer.old ≡ [] }
+    ensures { line_buffer.new ≡ codes "recovered rows " ++ decimal rows ++ codes " filled " ++ decimal filled
+        ++ codes "\n" }
+{
+    line_buffer.put_number(b"recovered rows ", rows);
+    line_buffer.put_number(b" filled ", filled);
+    line_buffer.put(b"\n");
+}

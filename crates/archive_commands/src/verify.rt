@@ -1,0 +1,86 @@
+//! The command `verify`: whether what is stored of an archive's intervals is what their rows give.
+
+ghost use Rattle.std.specs.Prelude.{◌≡◌, [], IsTrue};
+ghost use Rattle.archive_store.specs.StoreView.{filled_of};
+ghost use Rattle.command_plans.specs.Plan.{IsDue};
+ghost use Rattle.command_runs.specs.Command.{Ran, effects_of};
+ghost use Rattle.command_runs.specs.Report.{disk_of_work, report_of_work, status_at};
+ghost use Rattle.archive_commands.specs.VerifyReplying.{IsVerifyReply};
+ghost use Rattle.archive_commands.specs.Verify.{sound_line, verify_plan};
+
+use arch_disk::Disk;
+use archive_store::Store;
+use archive_verify::Sound;
+use command_runs::finishing::finish;
+use command_runs::report::{Ended, Report};
+use dump_lines::line_buffer::LineBuffer;
+use outer_traits::sink::Sink;
+use refusals::Refusal;
+use std::alloc::Global;
+
+/// Opens the archive of a disk, compares what is stored of its intervals with what their rows give, and prints how much
+/// there is. Room for the line is taken before.
+///
+/// Refuses, in this order: by `DiskFault`, `NoArchive` or `Damaged`; by `Mismatch`; by `WriteFault`. `OutOfMemory` may
+/// come anywhere before the line.
+pub fn verify<D: Disk, K: Sink>(alloc: Global, disk: D, sink: &mut K) -> Ended<D>
+    // It took a way through its plan: where that ends stands what was printed, what became of the disk, what is reported,
+    // and which calls failed.
+    ensures ran { Ran D.device (verify_plan D.device disk) (effects_of disk result.disk (K.state sink.old)
+        (K.state sink.new) result.report) }
+
+    // Where the disk is transparent the answer that is due comes, or that of an interruption at its place.
+    ensures due { IsTrue D.device.is_transparent → IsDue (verify_plan D.device disk) result.report.refusal }
+
+    // The number of the refusal, and 0 exactly where there's none.
+    ensures status { result.status ≡ status_at result.report.refusal }
+{
+    Ended::of_work(work(alloc, disk, sink))
+}
+
+/// Does the command.
+fn work<D: Disk, K: Sink>(alloc: Global, disk: D, sink: &mut K) -> Result<(D, Report), (D, Refusal)>
+    ensures { Ran D.device (verify_plan D.device disk) (effects_of disk (disk_of_work result)
+        (K.state sink.old) (K.state sink.new) (report_of_work result)) }
+{
+    let Ok(line_buffer) = LineBuffer::new(alloc) else {
+        return Err((disk, Refusal::OutOfMemory));
+    };
+    let store = Store::open(alloc, disk)?;
+    let rows = store.front();
+    let refusal = compare(alloc, &store, line_buffer, sink);
+    Ok((store.into_disk(), Report::read_only(refusal, rows)))
+}
+
+/// Compares, and prints the line of an archive that was found sound, or says why it wasn't.
+fn compare<D: Disk, K: Sink>(
+    alloc: Global,
+    store: &Store<D>,
+    line_buffer: LineBuffer,
+    sink: &mut K,
+) -> Option<Refusal>
+    requires { line_buffer ≡ [] }
+    ensures { IsVerifyReply (filled_of store.now) result (K.state sink.old) (K.state sink.new) }
+{
+    // It tells the proof that the fill list has the bases of the fills that are there.
+    let _bases = store.front();
+    match archive_verify::verify(alloc, store) {
+        Ok(sound) => {
+            let mut line_buffer = line_buffer;
+            put_sound(&mut line_buffer, sound);
+            finish(line_buffer, sink)
+        }
+        Err(refusal) => Some(refusal),
+    }
+}
+
+/// Adds the line of a sound archive.
+fn put_sound(line_buffer: &mut LineBuffer, sound: Sound)
+    requires { line_buffer.old ≡ [] }
+    ensures { line_buffer.new ≡ sound_line sound.rows sound.intervals sound.late }
+{
+    line_buffer.put_number(b"sound rows ", sound.rows);
+    line_buffer.put_number(b" intervals ", sound.intervals);
+    line_buffer.put_number(b" late ", sound.late);
+    line_buffer.put(b"\n");
+}

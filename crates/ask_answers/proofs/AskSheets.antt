@@ -1,0 +1,199 @@
+-- Sheets of asks: read before all else, checked, and answered.
+use Rattle.std.proofs.Common.{◌≡◌, ◌∙◌, ◌+◌, ◌<◌, ◌⊎◌, inl, inr, ℕ, suc, List, [], ◌∷◌, ◌++◌, length, Option, Some, None, refl, sym, ap, subst, arith, append_assoc}
+use Rattle.std.specs.Prelude.{Result, Ok, Err, unwrap_or}
+use Rattle.std.specs.Arc.{arc_value}
+use Rattle.arch_disk.specs.Disk.{Device}
+use Rattle.asks.specs.declared.ask.Ask.{Ask}
+use Rattle.asks.specs.declared.ask.Ask.TheVariants.{Values}
+use Rattle.asks.specs.declared.ask.Answer.{Answer}
+use Rattle.arch_types.specs.declared.cell.Cell.{Cell}
+use Rattle.refusals.specs.declared.refusal.Refusal.{Refusal}
+use Rattle.refusals.specs.declared.refusal.Refusal.TheVariants.{OutOfMemory, WriteFault}
+use Rattle.refusals.specs.declared.refusal.Which.TheVariants.{SheetOctets}
+use Rattle.archive_store.specs.declared.head.Head.{Head}
+use Rattle.archive_store.specs.Entries.{FilledArchive}
+use Rattle.archive_store.specs.declared.finding.FoundRequest.{FoundRequest}
+use Rattle.archive_store.specs.Finding.{IsRequestFound}
+use Rattle.command_plans.specs.Plan.{OfMemory, OfInputs, CommandPlan, Way, Returned, Stopped, Interrupted, Allows, IsDetermined, and_then, map_done, way_map_done}
+use Rattle.command_plans.proofs.Plans.{allows_map_done, cut, determined, determined_map_done, ended, gave}
+use Rattle.outer_traits.specs.declared.print_fault.PrintFault.{PrintFault}
+use Rattle.outer_traits.specs.declared.print_fault.PrintFault.TheVariants as unprinted
+use Rattle.dump_lines.specs.Output.{IsBuffered, PrintCounted}
+use Rattle.command_runs.specs.Finishing.{IsFinished, WritesCounted}
+use Rattle.dump_lines.proofs.LineBuffers.{buffered_all, wrote_then}
+use Rattle.command_plans.specs.Inputs.{AnsweredByPlan, WasRead}
+use Rattle.command_plans.proofs.Inputs.{reads_determined}
+use Rattle.mdb_items.specs.Database.{Database}
+use Rattle.mdb_sheets.specs.Asks.{asks_of}
+use Rattle.mdb_sheets.specs.Plans.{ask_sheet_plan}
+use Rattle.outer_traits.specs.Outside.{Files, WritesSome}
+use Rattle.outer_traits.specs.States.{InputsState}
+use Rattle.command_plans.specs.Ledger.{UsedInputs}
+use Rattle.command_plans.proofs.Ledgers.{used_inputs_then}
+use Rattle.retrieval.specs.AnswerText.{answer_lines}
+use Rattle.retrieval.specs.AskText.{asks_refusal}
+use Rattle.refusals.specs.Refusal.{refusal_of_print}
+use Rattle.retrieval.specs.FilledAnswer.{IsFilledAnswer, filled_answer}
+use Rattle.ask_answers.specs.Asks.{AreAnswerable, ArePrinted, AreRefused, after_asks_check, archive_ask_text, archive_asks_text, asked_plan, asks_check_plan, with_sources}
+use Rattle.command_runs.specs.Command.{Progress, Effects, EndedAt, HasEffects, Ran, RanOver, failed_at, nothing_done, sources_at}
+use Rattle.command_runs.specs.Report.{unopened}
+use Rattle.command_runs.proofs.OverInputs.{ran_unread}
+
+-- ---- an input is read before all else
+
+-- it was read, and what followed ran
+module _ {D : Type 0} (device : Device D) (e : Effects D) {X : Type 0} (plan : ℕ → CommandPlan ℕ X) (next : X → CommandPlan Progress ⊥) (a m b : InputsState) where
+  pub ran_behind : (x : X) → WasRead plan x 1 a m → RanOver device (next x) e m b → RanOver device (and_then (map_done nothing_done (plan 0)) (λ (x : X). map_done (with_sources 1) (next x))) e a b
+  ran_behind x read went = behind went.ran.way went.ran.allows went.ran.did went.inputs
+    where
+      allowed : (way : Way Progress ⊥) → Allows (next x) way → Allows (and_then (map_done nothing_done (plan 0)) (λ (x : X). map_done (with_sources 1) (next x))) (way_map_done (with_sources 1) way)
+      allowed way allows =
+          gave (map_done nothing_done (plan 0)) (λ (x : X). map_done (with_sources 1) (next x)) x (way_map_done (with_sources 1) way)
+          (allows_map_done nothing_done (plan 0) (Returned x) (read.allows 0)) (allows_map_done (with_sources 1) (next x) way allows)
+
+      behind : (way : Way Progress ⊥) → Allows (next x) way → HasEffects device e way → UsedInputs m b (sources_at way) (failed_at way OfInputs) →
+          RanOver device (and_then (map_done nothing_done (plan 0)) (λ (x : X). map_done (with_sources 1) (next x))) e a b
+      behind (Returned x) allows did used = absurd x
+      behind (Stopped s refusal) allows did used = record {
+        ran = record {
+          way = Stopped (with_sources 1 s) refusal;
+          allows = allowed (Stopped s refusal) allows;
+          did = record { report = did.report; printed = did.printed; output = did.output; disk = did.disk };
+        };
+        inputs = used_inputs_then a m b 1 s.sources (s.failed OfInputs) read.used used;
+      }
+      behind (Interrupted s fault) allows did used = record {
+        ran = record {
+          way = Interrupted (with_sources 1 s) fault;
+          allows = allowed (Interrupted s fault) allows;
+          did = record { report = did.report; printed = did.printed; output = did.output; disk = did.disk };
+        };
+        inputs = used_inputs_then a m b 1 s.sources (failed_at (Interrupted s fault) OfInputs) read.used used;
+      }
+
+-- ---- the sheet is read
+
+module _ {D : Type 0} (device : Device D) (e : Effects D) (files : Option Files) (next : Result (List Ask) Refusal → CommandPlan Progress ⊥) (a : InputsState) where
+  -- there is none
+  pub ran_unasked : (b : InputsState) (asked : Option (List ℕ)) → asked ≡ None → RanOver device (next (Ok [])) e a b → RanOver device (asked_plan files asked next) e a b
+  ran_unasked b asked is went = rw is went
+
+  module _ (m b : InputsState) (asked : Option (List ℕ)) (name : List ℕ) (is : asked ≡ Some name) where
+    -- it was read, and what followed ran
+    pub ran_asked : (sheet : Result (List Ask) Refusal) → WasRead (ask_sheet_plan files name) sheet 1 a m → RanOver device (next sheet) e m b → RanOver device (asked_plan files asked next) e a b
+    ran_asked sheet read went = rw is (ran_behind device e (ask_sheet_plan files name) next a m b sheet read went)
+
+  -- it wasn't read
+  pub ran_unread_sheet : (b : InputsState) (asked : Option (List ℕ)) (name : List ℕ) → asked ≡ Some name → (refusal : Refusal) →
+      AnsweredByPlan {X = Result (List Ask) Refusal} 1 (ask_sheet_plan files name) (Err refusal) a b → e.report ≡ unopened (Some refusal) → e.disk' ≡ e.disk → e.output' ≡ e.output →
+      RanOver device (asked_plan files asked next) e a b
+  ran_unread_sheet b asked name is refusal read report same silent =
+      rw is (ran_unread device e (ask_sheet_plan files name) (λ asks. map_done (with_sources 1) (next asks)) a b 1 refusal read report same silent)
+
+-- which answer is due
+pub asked_determined : (all : Files) (name : Option (List ℕ)) (next : Result (List Ask) Refusal → CommandPlan Progress ⊥) → ((sheet : Result (List Ask) Refusal) → IsDetermined (next sheet)) →
+    IsDetermined (asked_plan (Some all) name next)
+asked_determined all None next each = each (Ok [])
+asked_determined all (Some name) next each =
+    determined (map_done nothing_done (ask_sheet_plan (Some all) name 0)) (λ asks. map_done (with_sources 1) (next asks))
+    (determined_map_done nothing_done (ask_sheet_plan (Some all) name 0) (reads_determined SheetOctets (λ octets. asks_of octets) all name 0))
+    (λ asks. determined_map_done (with_sources 1) (next asks) (each asks))
+
+-- ---- the asks are checked
+
+module _ (s : Progress) (head : Head) where
+  pub check_determined : (sheet : Result (List Ask) Refusal) → IsDetermined (asks_check_plan s head sheet)
+  check_determined (Err refusal) = tt
+  check_determined (Ok asks) = (λ a b h k. h ∙ sym k, λ found h. each found)
+    where
+      each : (found : Option Refusal) → IsDetermined (after_asks_check s asks found)
+      each None = tt
+      each (Some refusal) = tt
+
+  -- none is refused,
+  pub checked : (sheet : Result (List Ask) Refusal) (asks : List Ask) → AreAnswerable head sheet asks → Allows (asks_check_plan s head sheet) (Returned asks)
+  checked sheet asks is = subst (λ (r : Result (List Ask) Refusal). Allows (asks_check_plan s head r) (Returned asks)) (sym is.0) (inr (None, sym is.1, refl))
+
+  -- or the sheet is
+  pub check_refused : (sheet : Result (List Ask) Refusal) (refusal : Refusal) → AreRefused head sheet refusal →
+      Allows (asks_check_plan s head sheet) (Stopped s (Some refusal)) ⊎ ((refusal ≡ OutOfMemory) × Allows (asks_check_plan s head sheet) (Interrupted s OfMemory))
+  check_refused (Err refused) refusal is = inl (rw is refl)
+  check_refused (Ok asks) refusal (inl is) = inl (inr (Some refusal, sym is, refl))
+  check_refused (Ok asks) refusal (inr is) = inr (is, inl refl)
+
+  -- and nothing else was done
+  pub ran_refused : {D : Type 0} (device : Device D) (e : Effects D) (next : List Ask → CommandPlan Progress ⊥) (sheet : Result (List Ask) Refusal) (refusal : Refusal) →
+      AreRefused head sheet refusal → EndedAt device e s (Some refusal) s.failed → Ran device (and_then (asks_check_plan s head sheet) next) e
+  ran_refused device e next sheet refusal is did = elim (check_refused sheet refusal is) [
+    | inl stopped ↦ record { way = Stopped s (Some refusal); allows = ended (asks_check_plan s head sheet) next s (Some refusal) stopped; did = did }
+    | inr memory ↦ record {
+      way = Interrupted s OfMemory;
+      allows = cut (asks_check_plan s head sheet) next s OfMemory memory.1;
+      did = record {
+        report = did.report ∙ ap (λ (r : Refusal). record s.report { refusal = Some r }) memory.0;
+        printed = did.printed;
+        output = did.output;
+        disk = did.disk;
+      };
+    }
+  ]
+
+-- ---- asks one after the other
+
+-- the text of the first ask, beside what is buffered
+pub next_text : (filled : FilledArchive) (k : ℕ) (first now : Option (List ℕ)) (all held : List ℕ) (asks : List Ask) (ask : Ask) (rest : List Ask) → asks ≡ ask ∷ rest →
+    IsBuffered first now all (held ++ archive_asks_text filled k asks) → IsBuffered first now all ((held ++ archive_ask_text filled k ask) ++ archive_asks_text filled (k + 1) rest)
+next_text filled k first now all held asks ask rest e h =
+    let more : suc k ≡ k + 1 = omega arith in
+    let text : held ++ archive_asks_text filled k asks ≡ (held ++ archive_ask_text filled k ask) ++ archive_asks_text filled (k + 1) rest =
+    ap (λ (l : List Ask). held ++ archive_asks_text filled k l) e
+    ∙ sym (append_assoc held (archive_ask_text filled k ask) (archive_asks_text filled (suc k) rest))
+    ∙ ap (λ (n : ℕ). (held ++ archive_ask_text filled k ask) ++ archive_asks_text filled n rest) more in
+    subst (λ (t : List ℕ). IsBuffered first now all t) text h
+
+-- ---- what is printed
+
+same_number : (a b : ℕ) → ◌≡◌ {A = Option ℕ} (Some a) (Some b) → a ≡ b
+same_number a b e = cc
+
+-- the lines of the answer to a request that was found are the text of its ask
+pub found_text : (filled : FilledArchive) (k : ℕ) (found : FoundRequest) (answer : Answer) → IsRequestFound filled.plain.head.mdb found
+    → IsFilledAnswer filled.plain.head.mdb filled.plain.exponent filled.plain.history filled.fillings found.request answer →
+    answer_lines k answer.front (arc_value found.mdb) found.number answer.cells ≡ archive_ask_text filled k (Values found.request)
+found_text filled k found answer at is =
+    let db = filled.plain.head.mdb in
+    let history = filled.plain.history in
+    let fillings = filled.fillings in
+    let number = same_number is.number found.number (sym is.named ∙ at.number) in
+    ap (λ (n : ℕ). answer_lines k n (arc_value found.mdb) found.number answer.cells) is.front
+    ∙ ap (λ (d : Database). answer_lines k (length history) d found.number answer.cells) at.mdb
+    ∙ ap (λ (cells : List Cell). answer_lines k (length history) db found.number cells) (is.cells ∙ ap (λ (n : ℕ). filled_answer db n found.request filled.plain.exponent history fillings) number)
+    ∙ sym (ap (λ (o : Option ℕ). answer_lines k (length history) db (unwrap_or o 0) (filled_answer db (unwrap_or o 0) found.request filled.plain.exponent history fillings)) at.number)
+
+-- all went on, or not to its end
+pub finished_text : (asks : List Ask) (refusal : Option Refusal) (before mid now : Option (List ℕ)) (text left : List ℕ) → IsBuffered before mid text left → IsFinished refusal mid now left →
+    ArePrinted asks refusal before now text
+finished_text asks None before mid now text left buffered all = buffered_all before mid now text left buffered all
+finished_text asks (Some WriteFault) before mid now text left buffered some =
+    subst (WritesSome before now) (sym buffered.1) (wrote_then before mid now buffered.0 left buffered.2 some)
+finished_text asks (Some other) before mid now text left buffered none = absurd none
+
+-- and so with a line behind it
+pub finished_line : (asks : List Ask) (refusal known : Option Refusal) (before mid now : Option (List ℕ)) (text left line last : List ℕ) → known ≡ refusal → last ≡ left ++ line →
+    IsBuffered before mid text left → IsFinished refusal mid now last → ArePrinted asks known before now (text ++ line)
+finished_line asks refusal known before mid now text left line last is put buffered finished =
+    let all : text ++ line ≡ buffered.0 ++ last = ap (λ (l : List ℕ). l ++ line) buffered.1 ∙ append_assoc buffered.0 left line ∙ ap (λ (l : List ℕ). buffered.0 ++ l) (sym put) in
+    rw is (finished_text asks refusal before mid now (text ++ line) last (buffered.0, all, buffered.2) finished)
+
+pub finished_count : (refusal known : Option Refusal) (first mid now : ℕ) → known ≡ refusal → mid ≡ first → WritesCounted refusal mid now → WritesCounted known first now
+finished_count refusal known first mid now is same counted = rw is (subst (λ (n : ℕ). WritesCounted refusal n now) same counted)
+
+-- the answers didn't
+pub unfinished_text : (asks : List Ask) (fault : PrintFault) (before now : Option (List ℕ)) (text : List ℕ) → 0 < length asks → WritesSome before now text →
+    ArePrinted asks (Some (refusal_of_print fault)) before now text
+unfinished_text asks unprinted.Write before now text some wrote = wrote
+unfinished_text asks unprinted.OutOfMemory before now text some wrote = (some, wrote)
+
+pub unfinished_count : (fault : PrintFault) (before now : ℕ) → PrintCounted (Some fault) before now → WritesCounted (Some (refusal_of_print fault)) before now
+unfinished_count unprinted.Write before now counted = counted
+unfinished_count unprinted.OutOfMemory before now counted = counted

@@ -1,0 +1,69 @@
+-- A sheet of asks: how a command reads it before all else, checks it over an archive's head, and prints the answers.
+use Rattle.std.specs.Prelude.{◌≡◌, ◌⊎◌, ◌<◌, ℕ, ◌+◌, List, [], length, Option, Some, None, Result, Ok, Err}
+use Rattle.asks.specs.declared.ask.Ask.{Ask}
+use Rattle.refusals.specs.declared.refusal.Refusal.{Refusal}
+use Rattle.refusals.specs.declared.refusal.Refusal.TheVariants.{OutOfMemory, WriteFault}
+use Rattle.archive_store.specs.declared.head.Head.{Head}
+use Rattle.archive_store.specs.Entries.{FilledArchive}
+use Rattle.command_plans.specs.Plan.{OfMemory, CommandPlan, Return, Stop, May, Question, and_then, map_done}
+use Rattle.dump_lines.specs.Output.{Appends}
+use Rattle.mdb_sheets.specs.Plans.{ask_sheet_plan}
+use Rattle.outer_traits.specs.Outside.{Files, WritesSome}
+use Rattle.retrieval.specs.AskText.{ask_text, asks_refusal, asks_text}
+use Rattle.command_runs.specs.Command.{Progress, nothing_done}
+
+-- ---- the sheet is read
+
+-- so many sources were given before
+abbrev pub with_sources : ℕ → Progress → Progress
+with_sources before s = record s { sources = before + s.sources }
+
+-- reads a sheet of asks, where one is given, and goes on with it; where none is there are no asks
+abbrev pub asked_plan : Option Files → Option (List ℕ) → (Result (List Ask) Refusal → CommandPlan Progress ⊥)
+    → CommandPlan Progress ⊥
+asked_plan files None next = next (Ok [])
+asked_plan files (Some name) next =
+    and_then (map_done nothing_done (ask_sheet_plan files name 0)) (λ asks. map_done (with_sources 1) (next asks))
+
+-- ---- the asks are checked
+
+-- what it leads to that an ask is refused, or none is
+abbrev pub after_asks_check : Progress → List Ask → Option Refusal → CommandPlan Progress (List Ask)
+after_asks_check s asks None = Return asks
+after_asks_check s asks (Some refusal) = Stop s (Some refusal)
+
+-- gives the asks of a sheet that a head can answer: the refusal of the sheet, if it has one; else that of the first
+-- ask that is refused, for which memory may be wanting
+abbrev pub asks_check_plan : Progress → Head → Result (List Ask) Refusal → CommandPlan Progress (List Ask)
+asks_check_plan s head (Ok asks) =
+    May OfMemory s (Question (λ found. found ≡ asks_refusal head asks) (after_asks_check s asks))
+asks_check_plan s head (Err refusal) = Stop s (Some refusal)
+
+-- the asks of a sheet are these, and a head can answer them
+abbrev pub AreAnswerable : Head → Result (List Ask) Refusal → List Ask → Type 0
+AreAnswerable head sheet asks = (sheet ≡ Ok asks) × (asks_refusal head asks ≡ None)
+
+-- a sheet of asks is refused over a head: by its own refusal, or that of its first ask that is refused; or there was
+-- no memory to say so
+abbrev pub AreRefused : Head → Result (List Ask) Refusal → Refusal → Type 0
+AreRefused head (Ok asks) refusal = (asks_refusal head asks ≡ Some refusal) ⊎ (refusal ≡ OutOfMemory)
+AreRefused head (Err refused) refusal = refusal ≡ refused
+
+-- ---- the answers are printed
+
+-- the answer of an archive to the ask with a number
+abbrev pub archive_ask_text : FilledArchive → ℕ → Ask → List ℕ
+archive_ask_text filled k ask =
+    ask_text filled.plain.head filled.plain.exponent filled.plain.history filled.fillings k ask
+
+-- the answers of an archive to asks, numbered from k on
+abbrev pub archive_asks_text : FilledArchive → ℕ → List Ask → List ℕ
+archive_asks_text filled k asks =
+    asks_text filled.plain.head filled.plain.exponent filled.plain.history filled.fillings k asks
+
+-- how a text is printed in which asks are answered: all of it, or a prefix; memory may be wanting where there are asks
+abbrev pub ArePrinted : List Ask → Option Refusal → Option (List ℕ) → Option (List ℕ) → List ℕ → Type 0
+ArePrinted asks None before now text = Appends before now text
+ArePrinted asks (Some WriteFault) before now text = WritesSome before now text
+ArePrinted asks (Some OutOfMemory) before now text = (0 < length asks) × WritesSome before now text
+ArePrinted asks (Some other) before now text = ⊥

@@ -1,0 +1,141 @@
+//! A sheet of asks: found in an archive's store, and answered over its history and its fills.
+
+ghost use Rattle.std.specs.Prelude.{◌≡◌, ◌≤◌, ◌<◌, ◌++◌, [], OnOk, OnErr, IfOk, IfErr, length};
+ghost use Rattle.std.specs.Result.{result_err};
+ghost use Rattle.outer_traits.specs.Outside.{WritesSome};
+ghost use Rattle.store_fills.specs.LastFills.{fillings_in};
+ghost use Rattle.asks.specs.declared.ask.Ask.TheVariants.{Values};
+ghost use Rattle.archive_store.specs.Finding.{IsRequestFound};
+ghost use Rattle.archive_store.specs.StoreView.{filled_of};
+ghost use Rattle.retrieval.specs.FilledAnswer.{IsFilledAnswer};
+ghost use Rattle.retrieval.specs.FoundAsks.{AreFound, IsAskFound, ask_found, asks_found};
+ghost use Rattle.dump_lines.specs.Output.{IsBuffered, PrintCounted};
+ghost use Rattle.ask_answers.specs.Asks.{AreAnswerable, AreRefused, archive_ask_text, archive_asks_text};
+ghost use Rattle.dump_lines.specs.LineRoom.{HasLineRoom};
+
+use arch_disk::Disk;
+use arch_types::steps::Steps;
+use archive_store::{FoundRequest, Store};
+use asks::{Answer, Asks};
+use dump_lines::line_buffer::LineBuffer;
+use outer_traits::print_fault::PrintFault;
+use outer_traits::sink::Sink;
+use refusals::Refusal;
+use retrieval::answer::answer_request;
+use retrieval::answer_text::print_found;
+use retrieval::found_asks::{FoundAsk, FoundAsks, find_asks};
+use retrieval::replay::print_replay;
+use std::alloc::{AllocError, Global};
+use std::marker::Brand;
+use std::sync::ledger::{Blank, Ledger};
+
+/// The asks of a sheet, where neither it nor one of them is refused. Each is found once, before the first is answered.
+pub fn check_asks<D: Disk>(
+    alloc: Global,
+    store: &Store<D>,
+    sheet: Result<Asks, Refusal>,
+) -> Result<FoundAsks, Refusal>
+    ensures found { IfOk result (AreFound store.now.head) }
+    ensures answerable { IfOk result (λ asks. AreAnswerable store.now.head sheet (asks_found asks)) }
+    ensures refused { IfErr result (AreRefused store.now.head sheet) }
+{
+    match sheet {
+        Ok(asks) => find_asks(alloc, store, asks),
+        Err(refusal) => Err(refusal),
+    }
+}
+
+/// Prints the answers to asks, numbered from 1, of which the last may still be buffered. Where there's none it always succeeds.
+pub fn print_asks<D: Disk, K: Sink>(
+    alloc: Global,
+    asks: &[FoundAsk],
+    store: &mut Store<D>,
+    line_buffer: &mut LineBuffer,
+    sink: &mut K,
+) -> Result<(), PrintFault>
+    requires found { AreFound store.old.head asks.now }
+    requires empty { line_buffer.old ≡ [] }
+    ensures buffered { OnOk result (IsBuffered (K.state sink.old).written (K.state sink.new).written
+        (archive_asks_text (filled_of store.old) 1 (asks_found asks.now)) line_buffer.new) }
+    ensures room { OnOk result (HasLineRoom line_buffer.new) }
+    ensures some { OnErr result (WritesSome (K.state sink.old).written (K.state sink.new).written
+        (archive_asks_text (filled_of store.old) 1 (asks_found asks.now))) }
+    ensures asked { OnErr result (0 < length (asks_found asks.now)) }
+    ensures later { (K.state sink.old).faults ≤ (K.state sink.new).faults }
+    ensures counted { PrintCounted (result_err result) (K.state sink.old).faults (K.state sink.new).faults }
+    ensures same { store.new ≡ store.old }
+{
+    for (i, ask) in asks.iter().enumerate() {
+        print_ask(alloc, i as u64 + 1, ask, store, line_buffer, sink)?;
+    }
+    Ok(())
+}
+
+/// Prints the answer to the ask with number `k`, counted from 1. The answer's end may still be buffered.
+fn print_ask<D: Disk, K: Sink>(
+    alloc: Global,
+    k: u64,
+    ask: &FoundAsk,
+    store: &mut Store<D>,
+    line_buffer: &mut LineBuffer,
+    sink: &mut K,
+) -> Result<(), PrintFault>
+    requires found { IsAskFound store.old.head ask.now }
+    requires room { HasLineRoom line_buffer.old }
+    ensures buffered { OnOk result (IsBuffered (K.state sink.old).written (K.state sink.new).written
+        (line_buffer.old ++ archive_ask_text (filled_of store.old) k (ask_found ask.now)) line_buffer.new) }
+    ensures room { OnOk result (HasLineRoom line_buffer.new) }
+    ensures some { OnErr result (WritesSome (K.state sink.old).written (K.state sink.new).written
+        (line_buffer.old ++ archive_ask_text (filled_of store.old) k (ask_found ask.now))) }
+    ensures later { (K.state sink.old).faults ≤ (K.state sink.new).faults }
+    ensures counted { PrintCounted (result_err result) (K.state sink.old).faults (K.state sink.new).faults }
+    ensures same { store.new ≡ store.old }
+{
+    match ask {
+        FoundAsk::Values(found) => print_values(alloc, k, found, store, line_buffer, sink),
+        FoundAsk::Replay(found) => print_replay(alloc, k, found, store, line_buffer, sink),
+    }
+}
+
+/// Prints the answer to a request that was found, the ask with number `k`. The answer's end may still be buffered.
+fn print_values<D: Disk, K: Sink>(
+    alloc: Global,
+    k: u64,
+    found: &FoundRequest,
+    store: &mut Store<D>,
+    line_buffer: &mut LineBuffer,
+    sink: &mut K,
+) -> Result<(), PrintFault>
+    requires found { IsRequestFound store.old.head.mdb found.now }
+    requires room { HasLineRoom line_buffer.old }
+    ensures buffered { OnOk result (IsBuffered (K.state sink.old).written (K.state sink.new).written
+        (line_buffer.old ++ archive_ask_text (filled_of store.old) k (Values found.now.request))
+        line_buffer.new) }
+    ensures room { OnOk result (HasLineRoom line_buffer.new) }
+    ensures some { OnErr result (WritesSome (K.state sink.old).written (K.state sink.new).written
+        (line_buffer.old ++ archive_ask_text (filled_of store.old) k (Values found.now.request))) }
+    ensures later { (K.state sink.old).faults ≤ (K.state sink.new).faults }
+    ensures counted { PrintCounted (result_err result) (K.state sink.old).faults (K.state sink.new).faults }
+    ensures same { store.new ≡ store.old }
+{
+    let answer = answer_of::<D, Brand>(alloc, Blank::new(1), store, found)?;
+    print_found(k, found, &answer, line_buffer, sink)?;
+    Ok(())
+}
+
+/// The answer to a request, whose steps nobody counts.
+fn answer_of<D: Disk, L: Ledger>(
+    alloc: Global,
+    blank: Blank,
+    store: &mut Store<D>,
+    found: &FoundRequest,
+) -> Result<Answer, AllocError>
+    requires found { IsRequestFound store.old.head.mdb found.now }
+    requires blank { (blank.name ≡ L.name) × (blank.parts ≡ L.parts) × (0 < blank.parts) }
+    ensures filled { IfOk result (IsFilledAnswer store.old.head.mdb store.old.exponent store.old.history
+        (fillings_in store.old.filled) found.now.request) }
+    ensures same { store.new ≡ store.old }
+{
+    let (book, share) = blank.open::<L>();
+    answer_request(alloc, store, found, &mut Steps::new(book, share))
+}

@@ -1,0 +1,165 @@
+-- How the parts of plans go.
+use Rattle.std.proofs.Common.{◌≡◌, inl, inr, ℕ, ◌≤◌, true, false, List, [], Option, Some, None, refl, sym, ap, append-nil, arith}
+use Rattle.std.specs.Prelude.{IsTrue}
+use Rattle.arch_disk.specs.Disk.{Device, LeavesOnly}
+use Rattle.refusals.specs.declared.refusal.Refusal.{Refusal}
+use Rattle.refusals.specs.declared.refusal.Refusal.TheVariants.{NoArchive, Damaged, DiskFault, OutOfMemory, WriteFault}
+use Rattle.archive_store.specs.Calls.{IsStoreOpenRefusal}
+use Rattle.archive_store.specs.Entries.{FilledArchive}
+use Rattle.archive_store.specs.Stands.{StandsFilled}
+use Rattle.disk_journal.specs.Calls.{CountsNeverFall, IsJournalOpenFailed}
+use Rattle.command_plans.specs.Plan.{Interruption, OfMemory, OfInputs, OfDisk, OfOutput, CommandPlan, May, Way, Returned, Stopped, Interrupted, Allows, IsDetermined, IsDue, refusal_at, and_then}
+use Rattle.command_plans.proofs.Plans.{required, gave}
+use Rattle.dump_lines.specs.Output.{Appends}
+use Rattle.command_runs.specs.Finishing.{IsFinished, WritesCounted}
+use Rattle.outer_traits.specs.States.{InputsState, OutputState}
+use Rattle.command_plans.specs.Ledger.{UsedDisk}
+use Rattle.command_plans.proofs.Ledgers.{risen_counted}
+use Rattle.command_runs.specs.declared.report.Report.{Report}
+use Rattle.command_runs.specs.Command.{Progress, HasEffects, archive_sought, seeking_failed, Effects, Ran, RanOver, HasDiskOutcome, NoneFound, DamageFound, ArchiveFound, effects_of, failed_at, nothing_done, opening_plan, printing_plan, sources_at}
+use Rattle.command_runs.specs.Report.{unopened}
+
+-- no text was printed
+pub no_text : (known : Option (List ℕ)) → Appends known known []
+no_text None = refl
+no_text (Some before) = rw (append-nil before) refl
+
+module _ {D : Type 0} (device : Device D) (e : Effects D) where
+  -- a call gave something, and what follows ran
+  pub ran_then : {X : Type 0} (p : CommandPlan Progress X) (f : X → CommandPlan Progress ⊥) (x : X) → Allows p (Returned x) → Ran device (f x) e → Ran device (and_then p f) e
+  ran_then p f x allows ran = record { way = ran.way; allows = gave p f x ran.way allows ran.allows; did = ran.did }
+
+  -- a fault did not come
+  pub ran_later : (fault : Interruption) (s : Progress) (p : CommandPlan Progress ⊥) → Ran device p e → Ran device (May fault s p) e
+  ran_later fault s p ran = record { way = ran.way; allows = inr ran.allows; did = ran.did }
+
+  -- a text was printed
+  pub ran_printed : (s : Progress) (text : List ℕ) (refusal : Option Refusal) → s.failed OfOutput ≡ false → s.failed OfDisk ≡ false →
+      IsFinished refusal e.output.written e.output'.written text → e.output.faults ≤ e.output'.faults → WritesCounted refusal e.output.faults e.output'.faults →
+      e.report ≡ record s.report { refusal = refusal } → HasDiskOutcome device e.disk e.disk' false s.disk → Ran device (printing_plan s text) e
+  ran_printed s text None no_output no_disk text_is later counted report disk = record {
+    way = Stopped (record s { text = text; is_whole = true }) None;
+    allows = inr refl;
+    did = record { report = report; printed = text_is; output = record { counted = rw no_output counted }; disk = rw no_disk disk };
+  }
+  ran_printed s text (Some WriteFault) no_output no_disk text_is later counted report disk = record {
+    way = Interrupted (record s { text = text; is_whole = false }) OfOutput;
+    allows = inl refl;
+    did = record {
+      report = report;
+      printed = text_is;
+      output = record { counted = risen_counted e.output.faults e.output'.faults later counted };
+      disk = rw no_disk disk;
+    };
+  }
+  ran_printed s text (Some other) no_output no_disk text_is later counted report disk = absurd text_is
+
+  -- the refusal at the end of the way is that of the report
+  pub ended_is : (way : Way Progress ⊥) → HasEffects device e way → refusal_at way ≡ e.report.refusal
+  ended_is (Returned x) did = absurd did
+  ended_is (Stopped s refusal) did = sym (ap (λ (r : Report). r.refusal) did.report)
+  ended_is (Interrupted s fault) did = sym (ap (λ (r : Report). r.refusal) did.report)
+
+  -- and is the one that is due
+  pub is_due : (plan : CommandPlan Progress ⊥) → IsDetermined plan → Ran device plan e → IsDue plan e.report.refusal
+  is_due plan d ran = (ran.way, required plan ran.way d ran.allows, ended_is ran.way ran.did)
+
+  -- over inputs too
+  pub is_due_over : (plan : CommandPlan Progress ⊥) (old new : InputsState) → IsDetermined plan → RanOver device plan e old new → IsDue plan e.report.refusal
+  is_due_over plan old new d went = is_due plan d went.ran
+
+-- ---- an opening
+
+module _ {D : Type 0} (device : Device D) where
+  -- an archive was looked for, and no call failed,
+  pub only_sought : (old new : D) → CountsNeverFall device old new → device.failed_writes new ≡ device.failed_writes old → UsedDisk device old new false 0 0
+  only_sought old new counts same = record { faults = counts.faults; writes = (0, omega arith, omega arith, same) }
+
+  -- or one did
+  seeking_failed_once : (old new : D) → IsJournalOpenFailed device old new → UsedDisk device old new true 0 1
+  seeking_failed_once old new failed = elim failed.wrote_most [
+    | inl same ↦ record { faults = failed.rose; writes = (0, omega arith, omega arith, same) }
+    | inr one ↦ record { faults = failed.rose; writes = (1, omega arith, omega arith, one) }
+  ]
+
+module _ {D : Type 0} (device : Device D) (e : Effects D) (f : FilledArchive → CommandPlan Progress ⊥) (sources : ℕ) where
+  -- an opening was refused
+  pub ran_unopened : (refusal : Refusal) → IsStoreOpenRefusal device e.disk e.disk' refusal → device.reads e.disk' ≡ device.reads e.disk →
+      LeavesOnly device e.disk e.disk' (device.images e.disk) → CountsNeverFall device e.disk e.disk' → e.report ≡ unopened (Some refusal) → e.output' ≡ e.output →
+      Ran device (and_then (opening_plan sources device e.disk) f) e
+  ran_unopened NoArchive refused reads images counts report silent = record {
+    way = Stopped (archive_sought sources) (Some NoArchive);
+    allows = inr (inr (NoneFound, refused.none, refl));
+    did = record {
+      report = report;
+      printed = rw silent (no_text e.output.written);
+      output = record { counted = rw silent refl };
+      disk = (only_sought device e.disk e.disk' counts refused.no_failed_write, λ known. record { reads = reads; images = images });
+    };
+  }
+  ran_unopened (Damaged file at) refused reads images counts report silent = record {
+    way = Stopped (archive_sought sources) (Some (Damaged file at));
+    allows = inr (inr (DamageFound file at, refused.damaged, refl));
+    did = record {
+      report = report;
+      printed = rw silent (no_text e.output.written);
+      output = record { counted = rw silent refl };
+      disk = (only_sought device e.disk e.disk' counts refused.no_failed_write, λ known. record { reads = reads; images = images });
+    };
+  }
+  ran_unopened DiskFault refused reads images counts report silent = record {
+    way = Interrupted (seeking_failed sources) OfDisk;
+    allows = inr (inl refl);
+    did = record {
+      report = report;
+      printed = rw silent (no_text e.output.written);
+      output = record { counted = rw silent refl };
+      disk = (seeking_failed_once device e.disk e.disk' refused, λ known. record { reads = reads; images = images });
+    };
+  }
+  ran_unopened OutOfMemory refused reads images counts report silent = record {
+    way = Interrupted (archive_sought sources) OfMemory;
+    allows = inl refl;
+    did = record {
+      report = report;
+      printed = rw silent (no_text e.output.written);
+      output = record { counted = rw silent refl };
+      disk = (only_sought device e.disk e.disk' counts refused, λ known. record { reads = reads; images = images });
+    };
+  }
+  ran_unopened other refused reads images counts report silent = absurd refused
+
+  -- it came behind so many sources, and no call of the inputs failed
+  pub unopened_after : (refusal : Refusal) (refused : IsStoreOpenRefusal device e.disk e.disk' refusal) (reads : device.reads e.disk' ≡ device.reads e.disk)
+      (images : LeavesOnly device e.disk e.disk' (device.images e.disk)) (counts : CountsNeverFall device e.disk e.disk') (report : e.report ≡ unopened (Some refusal)) (silent : e.output' ≡ e.output) →
+      (sources_at (ran_unopened refusal refused reads images counts report silent).way ≡ sources) × (failed_at (ran_unopened refusal refused reads images counts report silent).way OfInputs ≡ false)
+  unfolding ran_unopened
+  unopened_after NoArchive refused reads images counts report silent = (refl, refl)
+  unopened_after (Damaged file at) refused reads images counts report silent = (refl, refl)
+  unopened_after DiskFault refused reads images counts report silent = (refl, refl)
+  unopened_after OutOfMemory refused reads images counts report silent = (refl, refl)
+  unopened_after other refused reads images counts report silent = absurd refused
+
+  -- an archive was opened, and what followed ran
+  pub ran_opened : (filled : FilledArchive) → (IsTrue device.is_transparent → StandsFilled (device.reads e.disk) filled) → Ran device (f filled) e → Ran device (and_then (opening_plan sources device e.disk) f) e
+  ran_opened filled stands ran = ran_then device e (opening_plan sources device e.disk) f filled (inr (inr (ArchiveFound filled, stands, refl))) ran
+
+-- ---- the first steps of a command that opens an archive and takes memory before
+
+module _ {D : Type 0} (device : Device D) (disk : D) (output : OutputState) (sources : ℕ) where
+  -- there was none
+  pub ran_without_memory : (plan : CommandPlan Progress ⊥) → Ran device (May OfMemory (nothing_done sources) plan) (effects_of disk disk output output (unopened (Some OutOfMemory)))
+  ran_without_memory plan = record {
+    way = Interrupted (nothing_done sources) OfMemory;
+    allows = inl refl;
+    did = record { report = refl; printed = no_text output.written; output = record { counted = refl }; disk = refl };
+  }
+
+  -- the opening was refused
+  pub ran_refused_opening : (f : FilledArchive → CommandPlan Progress ⊥) (refused : D × Refusal) → IsStoreOpenRefusal device disk refused.0 refused.1 → device.reads refused.0 ≡ device.reads disk →
+      LeavesOnly device disk refused.0 (device.images disk) → CountsNeverFall device disk refused.0 →
+      Ran device (May OfMemory (nothing_done sources) (and_then (opening_plan sources device disk) f)) (effects_of disk refused.0 output output (unopened (Some refused.1)))
+  ran_refused_opening f refused cause reads images counts =
+      let went = effects_of disk refused.0 output output (unopened (Some refused.1)) in
+      ran_later device went OfMemory (nothing_done sources) (and_then (opening_plan sources device disk) f)
+      (ran_unopened device went f sources refused.1 cause reads images counts refl refl)

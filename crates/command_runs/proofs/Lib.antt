@@ -1,0 +1,9 @@
+pub mod Commands
+pub mod DumpRest
+pub mod During
+pub mod FilledDisks
+pub mod FillingPlan
+pub mod Moments
+pub mod Openings
+pub mod OverInputs
+pub mod ReadOnly

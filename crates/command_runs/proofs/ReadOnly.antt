@@ -1,0 +1,61 @@
+-- The disk of a call that asks an archive.
+use Rattle.std.proofs.Common.{◌≡◌, ◌∙◌, false, List, [], ◌∷◌, length, sym, ap, subst, arith}
+use Rattle.std.specs.Prelude.{IsTrue}
+use Rattle.std.specs.List.{AllByRecursion}
+use Rattle.std.proofs.lemmas.List.{nil_from_length}
+use Rattle.arch_disk.specs.Disk.{Device, LeavesOnly}
+use Rattle.arch_disk.proofs.Moments.{at_end}
+use Rattle.history_items.specs.declared.fills.Addition.TheVariants as additions
+use Rattle.history_items.specs.declared.fills.Fill.{Fill}
+use Rattle.history_items.specs.declared.fills.Fill.TheVariants.{Fault}
+use Rattle.interval_walks.specs.Counts.{late_intervals}
+use Rattle.store_fills.specs.Faults.{IsDone, faults_in}
+use Rattle.store_fills.proofs.Faults.{faults_in-done}
+use Rattle.archive_store.specs.Calls.{IsStoreOpened}
+use Rattle.archive_store.specs.StoreView.{StoreView, filled_of, CrashInvariant, FaultInvariant}
+use Rattle.archive_store.specs.Stands.{IsSoundImage, StandsFilled}
+use Rattle.disk_journal.specs.Calls.{CountsNeverFall}
+use Rattle.command_runs.specs.Command.{HasDiskOutcome, Opened}
+use Rattle.late_filling.specs.Filling.{IsFillTakenBack}
+use Rattle.command_runs.specs.ReadOnly.{IsReadOnly}
+use Rattle.archive_store.specs.LateFills.{late_in_archive}
+
+-- a store that was opened, and to which nothing was done
+pub read_only_store : {D : Type 0} (device : Device D) (disk : D) (s : StoreView D) → StandsFilled (device.reads disk) (filled_of s) → device.reads s.disk ≡ device.reads disk →
+    device.reads s.opened ≡ device.reads disk → LeavesOnly device disk s.opened (device.images disk) → LeavesOnly device s.opened s.disk (λ c. StandsFilled c (filled_of s)) → CrashInvariant device s →
+    IsReadOnly device disk s.disk (filled_of s)
+read_only_store device disk s stands same opening handed_in since keeps = record {
+  stands = stands;
+  reads = same;
+  images = record { opened = s.opened; before = handed_in; since = since; sound = λ handed. keeps.sound (subst IsSoundImage (sym opening) handed) };
+  now = at_end device s.opened s.disk (λ c. StandsFilled c (filled_of s)) since;
+}
+
+-- what became of a disk whose archive was opened, and left as it was
+pub opened_outcome : {D : Type 0} (device : Device D) (disk : D) (s : StoreView D) → IsStoreOpened device disk s → device.reads s.disk ≡ device.reads disk →
+    LeavesOnly device disk s.opened (device.images disk) → CountsNeverFall device disk s.opened → (IsTrue device.is_transparent → CrashInvariant device s) → FaultInvariant device s →
+    HasDiskOutcome device disk s.disk false (Opened (filled_of s))
+opened_outcome device disk s opened reads handed_in counts keeps faults =
+    let first = counts.faults in
+    let later = faults.later in (
+      record { faults = omega (arith, first, later); writes = (0, omega arith, omega arith, opened.no_failed_write) },
+      λ known. read_only_store device disk s (opened.filled known) reads opened.opening handed_in (opened.since known) (keeps known),
+    )
+
+-- ---- filling where no interval is late
+
+-- it left the archive as it was
+pub still_opened : {D : Type 0} (device : Device D) (disk : D) (s new : StoreView D) → IsStoreOpened device disk s → device.reads s.disk ≡ device.reads disk →
+    LeavesOnly device disk s.opened (device.images disk) → CountsNeverFall device disk s.opened → (IsTrue device.is_transparent → CrashInvariant device s) → FaultInvariant device s →
+    length (late_intervals s.exponent s.history s.fills) ≡ length (late_in_archive (filled_of s)) → (late_intervals s.exponent s.history s.fills ≡ [] → new ≡ s) → length (late_in_archive (filled_of s)) ≡ 0 →
+    HasDiskOutcome device disk new.disk false (Opened (filled_of s))
+still_opened {D = D} device disk s new opened reads handed_in counts keeps faults as_late unchanged none =
+    let same : new ≡ s = unchanged (nil_from_length (late_intervals s.exponent s.history s.fills) (as_late ∙ none)) in
+    subst (λ (x : StoreView D). HasDiskOutcome device disk x.disk false (Opened (filled_of s))) (sym same) (opened_outcome device disk s opened reads handed_in counts keeps faults)
+
+-- and no fill failed
+pub none_failed : {D : Type 0} (device : Device D) (s new : StoreView D) → AllByRecursion IsDone s.fills → length (late_intervals s.exponent s.history s.fills) ≡ length (late_in_archive (filled_of s)) →
+    (late_intervals s.exponent s.history s.fills ≡ [] → new ≡ s) → length (late_in_archive (filled_of s)) ≡ 0 → IsFillTakenBack device s new → ⊥
+none_failed {D = D} device s new done as_late unchanged none failed =
+    let same : new ≡ s = unchanged (nil_from_length (late_intervals s.exponent s.history s.fills) (as_late ∙ none)) in
+    let never : ◌≡◌ {A = List Fill} (Fault failed.count failed.wrote (additions.Fill failed.interval failed.base) ∷ []) [] = sym failed.fault ∙ ap (λ (x : StoreView D). faults_in x.fills) same ∙ faults_in-done s.fills done in cc (never)

@@ -1,0 +1,10 @@
+pub mod Command
+pub mod Creation
+pub mod DumpRest
+pub mod Durable
+pub mod Extension
+pub mod FillingPlan
+pub mod Finishing
+pub mod Moment
+pub mod ReadOnly
+pub mod Report

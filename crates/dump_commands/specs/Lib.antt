@@ -1,0 +1,4 @@
+pub mod ReadDump
+pub mod Scan
+pub mod Values
+pub mod ValuesPrinting

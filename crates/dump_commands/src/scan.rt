@@ -1,0 +1,137 @@
+//! The command `scan`: the rows of a dump, as text.
+
+ghost use Rattle.std.specs.Prelude.{◌≡◌, ◌≤◌, OnOk, OnErr, IsErr, IsSome, ◌++◌, []};
+ghost use Rattle.std.specs.Result.{result_err};
+ghost use Rattle.outer_traits.specs.Outside.{HasRisen, Stays, WritesSome};
+ghost use Rattle.command_plans.specs.Ledger.{UsedClock};
+ghost use Rattle.command_plans.specs.Plan.{IsDue};
+ghost use Rattle.dump_lines.specs.Output.{Appends, IsBuffered};
+ghost use Rattle.dump_lines.specs.Printing.{lines_of, end_of, text_of_loaded};
+ghost use Rattle.std.specs.List.{AllByRecursion};
+ghost use Rattle.dump_lines.specs.DumpTable.{IsVisible};
+ghost use Rattle.command_runs.specs.Command.{RanOver, effects_of};
+ghost use Rattle.command_runs.specs.Report.{status_at, unopened};
+ghost use Rattle.dump_commands.specs.Scan.{scan_plan};
+ghost use Rattle.dump_lines.specs.LineRoom.{HasLineRoom};
+
+use crate::scan_input::{ended, read_scan_input};
+use arch_disk::Disk;
+use command_runs::report::Ended;
+use dump_lines::line_buffer::LineBuffer;
+use dump_lines::rows::DumpTable;
+use outer_traits::clock::Clock;
+use outer_traits::fault::Failed;
+use outer_traits::inputs::Inputs;
+use outer_traits::sink::Sink;
+use refusals::Refusal;
+use space_packet::dump::Why;
+use std::alloc::Global;
+use yarch_table::table::Table;
+
+/// Reads the dump of a name to its end, and prints its rows in key order, duplicates dropped. All memory is taken before the first
+/// write.
+pub fn scan<D: Disk, I: Inputs, K: Sink, C: Clock>(
+    alloc: Global,
+    name: &str,
+    disk: D,
+    inputs: &mut I,
+    sink: &mut K,
+    clock: &mut C,
+) -> Ended<D>
+    // It took a way through its plan: where that ends stands what was printed, what is reported, how many sources were given, and
+    // which calls failed. Nothing is asked of the disk.
+    ensures ran { RanOver D.device
+        (scan_plan (I.state inputs.old).files (C.state clock.old).next name.now)
+        (effects_of disk result.disk (K.state sink.old) (K.state sink.new) result.report)
+        (I.state inputs.old) (I.state inputs.new) }
+
+    // Where the inputs are known the answer that is due comes, or that of an interruption at its place.
+    ensures due { IsSome (I.state inputs.old).files →
+        IsDue (scan_plan (I.state inputs.old).files (C.state clock.old).next name.now) result.report.refusal }
+
+    // What is known of the clock stays known, and one that stands still goes on standing.
+    ensures clock { UsedClock (C.state clock.old) (C.state clock.new) }
+
+    // The number of the refusal, and 0 exactly where there's none.
+    ensures status { result.status ≡ status_at result.report.refusal }
+{
+    let done = work::<D, I, K, C>(alloc, name, inputs, sink, clock);
+    Ended::unopened(disk, done.err())
+}
+
+/// Does the command, beside whatever disk of the kind there is.
+fn work<D: Disk, I: Inputs, K: Sink, C: Clock>(
+    alloc: Global,
+    name: &str,
+    inputs: &mut I,
+    sink: &mut K,
+    clock: &mut C,
+) -> Result<(), Refusal>
+    ensures ran { (disk : D) →
+        RanOver D.device (scan_plan (I.state inputs.old).files (C.state clock.old).next name.now)
+        (effects_of disk disk (K.state sink.old) (K.state sink.new) (unopened (result_err result)))
+        (I.state inputs.old) (I.state inputs.new) }
+    ensures clock { UsedClock (C.state clock.old) (C.state clock.new) }
+{
+    let mut scan_input = read_scan_input(alloc, inputs, name, clock)?;
+    match print(&scan_input.loaded, &mut scan_input.line_buffer, sink) {
+        Ok(()) => ended(&scan_input.loaded),
+        Err(_) => Err(Refusal::WriteFault),
+    }
+}
+
+/// Prints the rows in key order, and where nothing is left of the dump the counts.
+fn print<K: Sink>(
+    loaded: &DumpTable,
+    line_buffer: &mut LineBuffer,
+    sink: &mut K,
+) -> Result<(), Failed>
+    requires empty { line_buffer.old ≡ [] }
+    requires shown { AllByRecursion IsVisible loaded.now.table.stored }
+    ensures all { OnOk result (Appends (K.state sink.old).written (K.state sink.new).written
+        (text_of_loaded loaded.now)) }
+    ensures some { OnErr result (WritesSome (K.state sink.old).written (K.state sink.new).written
+        (text_of_loaded loaded.now)) }
+    ensures later { (K.state sink.old).faults ≤ (K.state sink.new).faults }
+    ensures failed { IsErr result → HasRisen (K.state sink.old).faults (K.state sink.new).faults }
+    ensures no_fault { OnOk result (Stays (K.state sink.old).faults (K.state sink.new).faults) }
+{
+    print_rows(&loaded.table, line_buffer, sink)?;
+    put_end(line_buffer, loaded);
+    line_buffer.flush(sink)
+}
+
+/// Adds the counts where nothing is left of the dump.
+fn put_end(line_buffer: &mut LineBuffer, loaded: &DumpTable)
+    requires { HasLineRoom line_buffer.old }
+    ensures { line_buffer.new ≡ line_buffer.old ++ end_of loaded.now.why loaded.now.counts }
+{
+    match loaded.why {
+        Why::End => line_buffer.put_counts(loaded.counts),
+        Why::Version | Why::Truncated => {}
+    }
+}
+
+/// Prints the rows of a table in key order, of which the last may still be buffered.
+fn print_rows<K: Sink>(
+    table: &Table,
+    line_buffer: &mut LineBuffer,
+    sink: &mut K,
+) -> Result<(), Failed>
+    requires empty { line_buffer.old ≡ [] }
+    requires shown { AllByRecursion IsVisible table.now.stored }
+    ensures buffered { OnOk result (IsBuffered (K.state sink.old).written (K.state sink.new).written
+        (lines_of table.now.stored) line_buffer.new) }
+    ensures room { OnOk result (HasLineRoom line_buffer.new) }
+    ensures some { OnErr result (WritesSome (K.state sink.old).written (K.state sink.new).written
+        (lines_of table.now.stored)) }
+    ensures later { (K.state sink.old).faults ≤ (K.state sink.new).faults }
+    ensures failed { IsErr result → HasRisen (K.state sink.old).faults (K.state sink.new).faults }
+    ensures no_fault { OnOk result (Stays (K.state sink.old).faults (K.state sink.new).faults) }
+{
+    for row in table.rows_at(u64::MAX) {
+        line_buffer.put_row(row);
+        line_buffer.flush_if_full(sink)?;
+    }
+    Ok(())
+}

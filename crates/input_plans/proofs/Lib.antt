@@ -1,3 +1,0 @@
-pub mod Inputs
-pub mod Readings
-pub mod Whole

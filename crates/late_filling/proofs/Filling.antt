@@ -1,0 +1,441 @@
+-- One fill more.
+use Rattle.std.proofs.Common.{◌≡◌, ◌≢◌, ◌⊎◌, inl, inr, ℕ, ◌+◌, ◌<◌, ◌≤◌, List, [], ◌∷◌, ◌++◌, length, Bool, true, false, Option, Some, None, refl, sym, ap, subst, ◌∙◌, arith, append-nil}
+use Rattle.std.specs.Prelude.{zero, suc, filter, nat_lt, if◌then◌else◌}
+use Rattle.std.specs.Option.{is_some, option_map, option_map_or}
+use Rattle.std.proofs.Math.Path.{fun_ext}
+use Rattle.std.proofs.lemmas.Bool.Decides.{nat_tests}
+use Rattle.std.proofs.lemmas.Option.{slice_get_within}
+use Rattle.arch_disk.specs.Disk.{Device, raised}
+use Rattle.arch_types.specs.declared.inserted.Installed.{Installed}
+use Rattle.arch_types.specs.declared.inserted.Installed.TheVariants.{Done as BecameDone, Stale}
+use Rattle.intervals.specs.declared.interval.Interval.{Interval}
+use Rattle.refusals.specs.declared.refusal.Refusal.{Refusal}
+use Rattle.refusals.specs.declared.refusal.Refusal.TheVariants.{DiskFault, Limit, NeedsReopen, OutOfMemory}
+use Rattle.refusals.specs.declared.refusal.Which.TheVariants.{Records}
+use Rattle.refusals.specs.Limits.{limit_of}
+use Rattle.history_items.specs.declared.fills.Addition.TheVariants as additions
+use Rattle.history_items.specs.declared.fills.Fill.{Fill}
+use Rattle.history_items.specs.declared.fills.Fill.TheVariants.{Begun, Done, Fault, Freed}
+use Rattle.history_items.specs.Items.{Item}
+use Rattle.history_items.specs.Fills.{base_in, is_same, flight_after, in_flight, pending_fault_of, reopened}
+use Rattle.history_items.specs.Late.{IsLate, IsLastIn, is_late_in, last_in}
+use Rattle.history_items.proofs.FillLists.{base_after_item, flight_after_item}
+use Rattle.history_items.proofs.Late.{last_is_greatest, late_by_last}
+use Rattle.late_marks.specs.Mark.{is_late_by}
+use Rattle.interval_fills.specs.Intervals.{NoRowSince, rows_of_interval}
+use Rattle.interval_fills.specs.Steps.{AllLateInFlight, MachineState, freed}
+use Rattle.interval_fills.proofs.Steps.{same_interval}
+use Rattle.interval_walks.specs.Counts.{intervals_in, late_intervals}
+use Rattle.interval_walks.proofs.Counts.{none_late, one_late_less}
+use Rattle.param_segments.specs.Rows.{SetRow}
+use Rattle.store_fills.specs.Built.{BuiltFill, IsTaskRows, built_fill}
+use Rattle.store_fills.specs.declared.task.FillTask.{FillTask}
+use Rattle.store_fills.specs.Faults.{faults_in}
+use Rattle.store_fills.proofs.Faults.{faults_in-append, faults_in-reopened, pending_fault_of-in}
+use Rattle.store_fills.specs.Filled.{HoldsRows}
+use Rattle.store_fills.specs.LastFills.{PlacedFills, fill_over, fillings_in}
+use Rattle.store_fills.specs.Sound.{Filling, Fillings, base_of_filling, with_filling}
+use Rattle.archive_store.specs.declared.head.Head.{Head}
+use Rattle.archive_store.specs.Entries.{filled_archive}
+use Rattle.archive_store.specs.Installs.{FillIsAppended, IsAbandoned, IsInstallRefusal, IsStoreInstalled}
+use Rattle.archive_store.specs.StoreView.{AddsFault, StoreView}
+use Rattle.archive_store.specs.Tasks.{BeginsTask, IsFillBegun, machine_state}
+use Rattle.load_session.specs.Healing.{IsReopened}
+use Rattle.load_session.specs.Session.{OneAtMost, OneOrTwo}
+use Rattle.load_session.proofs.Sessions.{more_faults, twice}
+use Rattle.archive_store.specs.AddedFills.{AddsWholeFills, IsWholeFill}
+use Rattle.late_filling.specs.Filling.{AllLateFilled, IsBegunTask, IsFillFailed, IsFillTakenBack, IsFilledOn, IsFillingRefusal, IsTaskFilled, IsTaskRefusal, IsUnfailed, filling_refusal}
+use Rattle.archive_store.specs.LateFills.{is_late_in_archive}
+
+abbrev pub begun : List Fill → Interval → ℕ → List Fill
+begun fills i base = fills ++ Begun i base ∷ []
+
+abbrev pub begun_and_done : List Fill → Interval → ℕ → List Fill
+begun_and_done fills i base = begun fills i base ++ Done i base ∷ []
+
+-- ---- a beginning leaves which intervals are late
+
+late_begun_at : (exponent : ℕ) (history : List Item) (fills : List Fill) (i j : Interval) (base : ℕ) → is_late_in exponent j history (begun fills i base) ≡ is_late_in exponent j history fills
+late_begun_at exponent history fills i j base = ap (λ (b : Option ℕ). option_map_or (λ last. is_late_by last b) (last_in exponent j history) false) (base_after_item j fills (Begun i base))
+
+late_begun : (exponent : ℕ) (history : List Item) (fills : List Fill) (i : Interval) (base : ℕ) → late_intervals exponent history (begun fills i base) ≡ late_intervals exponent history fills
+late_begun exponent history fills i base = ap (λ (p : Interval → Bool). filter p (intervals_in exponent history)) (fun_ext (λ j. late_begun_at exponent history fills i j base))
+
+is_late_begun : (exponent : ℕ) (history : List Item) (fills : List Fill) (i j : Interval) (base : ℕ) → IsLate exponent j history fills → IsLate exponent j history (begun fills i base)
+is_late_begun exponent history fills i j base late = (late_by_last exponent j history (begun fills i base)).0 (late_begun_at exponent history fills i j base ∙ (late_by_last exponent j history fills).1 late)
+
+-- ---- a fill over the whole history
+
+none_since_end : (exponent : ℕ) (history : List Item) (i : Interval) → NoRowSince exponent i (length history) history
+none_since_end exponent history i p stands = slice_get_within history p stands.row stands.there
+
+never_stale : (exponent : ℕ) (history : List Item) (i : Interval) (base position : ℕ) → base ≡ length history → base ≤ position → last_in exponent i history ≡ Some position → ⊥
+never_stale exponent history i base position is le last =
+    let p = subst (IsLastIn exponent i history) last (last_is_greatest exponent i history) in
+    omega (arith, is, le, none_since_end exponent history i position p.0)
+
+one_less : (exponent : ℕ) (history : List Item) (fills : List Fill) (i : Interval) (base : ℕ) → base ≡ length history → IsLate exponent i history fills
+    → length (late_intervals exponent history (begun_and_done fills i base)) + 1 ≡ length (late_intervals exponent history fills)
+one_less exponent history fills i base is late =
+    one_late_less exponent history (begun fills i base) i base (is_late_begun exponent history fills i i base late) (subst (λ (n : ℕ). NoRowSince exponent i n history) (sym is) (none_since_end exponent history i))
+    ∙ ap length (late_begun exponent history fills i base)
+
+-- the flight has ended
+idle_again : (fills : List Fill) (i : Interval) (base : ℕ) → ((j : Interval) → in_flight j fills ≡ None) → (j : Interval) → in_flight j (begun_and_done fills i base) ≡ None
+idle_again fills i base idle j =
+    flight_after_item j (begun fills i base) (Done i base) ∙ ap (λ (o : Option ℕ). flight_after j o (Done i base)) (flight_after_item j fills (Begun i base) ∙ ap (λ (o : Option ℕ). flight_after j o (Begun i base)) (idle j)) ∙ go (is_same j i)
+  where
+    go : (b : Bool) → (if b then None else (if b then Some base else None)) ≡ None
+    go true = refl
+    go false = refl
+
+-- what it tells of faults
+faults_begun : (fills : List Fill) (i : Interval) (base : ℕ) → faults_in (begun fills i base) ≡ faults_in fills
+faults_begun fills i base = faults_in-append fills (Begun i base ∷ []) ∙ append-nil (faults_in fills)
+
+faults_begun_and_done : (fills : List Fill) (i : Interval) (base : ℕ) → faults_in (begun_and_done fills i base) ≡ faults_in fills
+faults_begun_and_done fills i base = faults_in-append (begun fills i base) (Done i base ∷ []) ∙ append-nil (faults_in (begun fills i base)) ∙ faults_begun fills i base
+
+faults_freed : (i : Interval) (fills : List Fill) → faults_in (freed i fills) ≡ faults_in fills
+faults_freed i fills = go (is_some (in_flight i fills))
+  where
+    go : (b : Bool) → faults_in (if b then fills ++ Freed i ∷ [] else fills) ≡ faults_in fills
+    go true = faults_in-append fills (Freed i ∷ []) ∙ append-nil (faults_in fills)
+    go false = refl
+
+-- ---- where each late interval is in flight, and nothing is, none is late
+
+none_left : (exponent : ℕ) (s : MachineState) → AllLateInFlight exponent s → ((j : Interval) → in_flight j s.fills ≡ None) → (i : Interval) → IsLate exponent i s.history s.fills → ⊥
+none_left exponent s all idle i late = all i late (idle i)
+
+none_counted : (exponent : ℕ) (s : MachineState) → AllLateInFlight exponent s → ((j : Interval) → in_flight j s.fills ≡ None) → length (late_intervals exponent s.history s.fills) ≡ 0
+none_counted exponent s all idle = ap length (none_late exponent s.history s.fills (none_left exponent s all idle))
+
+-- ---- what an install answers to a task over the whole history
+
+module _ {D : Type 0} (device : Device D) (old new : StoreView D) (done : BuiltFill) (task : FillTask) (at : done.interval ≡ task.interval) (over : done.base ≡ task.base) where
+  same_built : done ≡ built_fill task.interval task.base done.set
+  same_built = ap (λ (j : Interval). built_fill j done.base done.set) at ∙ ap (λ (n : ℕ). built_fill task.interval n done.set) over
+
+  pub task_filled : (became : Installed) → task.base ≡ length old.history → HoldsRows old.head.mdb done.set (rows_of_interval old.exponent task.interval old.history) → IsStoreInstalled device old new done became
+      → IsTaskFilled device old new task
+  task_filled BecameDone whole holds both = record { set = done.set; installable = both.0; appended = subst (FillIsAppended device old new) same_built both.1; holds = holds }
+  task_filled (Stale position) whole holds stale = absurd (never_stale old.exponent old.history done.interval done.base position (over ∙ whole) stale.1.0 stale.1.1)
+
+  pub task_refused : (e : Refusal) → pending_fault_of old.fills ≡ None → IsInstallRefusal device old new done e → IsTaskRefusal device old new task e
+  task_refused (NeedsReopen faults) healed r = absurd (cc (healed, r.0))
+  task_refused (Limit which number) healed r = (r.2, r.3, r.4, subst (λ (j : Interval). IsAbandoned old new j) at r.5)
+  task_refused OutOfMemory healed r = subst (λ (j : Interval). IsAbandoned old new j) at r.2
+  task_refused DiskFault healed r = (
+    r.2.0,
+    subst (λ (j : Interval). AddsFault device old r.2.0 true (additions.Fill j task.base)) at
+        (subst (λ (n : ℕ). AddsFault device old r.2.0 true (additions.Fill done.interval n)) over r.2.1),
+    subst (λ (j : Interval). IsAbandoned r.2.0 new j) at r.2.2,
+  )
+  task_refused _ healed r = absurd r
+
+-- a refused task leaves the rows and the fills
+module _ {D : Type 0} (device : Device D) (old new : StoreView D) (task : FillTask) where
+  refused_history : (e : Refusal) → IsTaskRefusal device old new task e → new.history ≡ old.history
+  refused_history OutOfMemory r = ap (λ (s : StoreView D). s.history) r
+  refused_history (Limit which number) r = ap (λ (s : StoreView D). s.history) r.3
+  refused_history DiskFault r = ap (λ (s : StoreView D). s.history) r.2 ∙ r.1.history
+  refused_history _ r = absurd r
+
+  refused_filled : (e : Refusal) → IsTaskRefusal device old new task e → new.filled ≡ old.filled
+  refused_filled OutOfMemory r = ap (λ (s : StoreView D). s.filled) r
+  refused_filled (Limit which number) r = ap (λ (s : StoreView D). s.filled) r.3
+  refused_filled DiskFault r = ap (λ (s : StoreView D). s.filled) r.2 ∙ r.1.filled
+  refused_filled _ r = absurd r
+
+-- ---- the fills that came
+
+module _ (head : Head) (exponent : ℕ) (history : List Item) (old now : Fillings (List SetRow)) (adds : AddsWholeFills head exponent history old now) (i : Interval) where
+  abbrev late_by : Option (Filling (List SetRow)) → Bool
+  late_by f = option_map_or (λ last. is_late_by last (option_map (λ g. g.base) f)) (last_in exponent i history) false
+
+  -- an interval that is late now was so at first
+  was_late : is_late_in_archive (filled_archive head exponent history now) i ≡ true → is_late_in_archive (filled_archive head exponent history old) i ≡ true
+  was_late late = go (adds i)
+    where
+      go : (now i ≡ old i) ⊎ IsWholeFill head exponent history old i (now i) → is_late_in_archive (filled_archive head exponent history old) i ≡ true
+      go (inl same) = ap late_by (sym same) ∙ late
+      go (inr whole) = whole.0
+
+  one_whole : (base : ℕ) (set : List SetRow) → base ≡ length history → is_late_in_archive (filled_archive head exponent history now) i ≡ true → HoldsRows head.mdb set (rows_of_interval exponent i history)
+      → AddsWholeFills head exponent history old (with_filling now i (fill_over base set))
+  one_whole base set over late holds j = go (is_same j i) refl
+    where
+      go : (b : Bool) → is_same j i ≡ b → ((if b then Some (fill_over base set) else now j) ≡ old j) ⊎ IsWholeFill head exponent history old j (if b then Some (fill_over base set) else now j)
+      go true same =
+          inr (subst (λ (k : Interval). IsWholeFill head exponent history old k (Some (fill_over base set))) (sym (same_interval j i same))
+          (was_late late, (set, ap (λ (n : ℕ). Some (fill_over n set)) over, holds)))
+      go false other = adds j
+
+-- ---- whether the log has room for the fills
+
+filling_fits : (records late : ℕ) → (0 < late → records + late ≤ limit_of Records) → filling_refusal records late ≡ None
+filling_fits records zero fits = refl
+filling_fits records (suc late) fits = go (nat_lt (limit_of Records) (records + suc late)) refl
+  where
+    go : (b : Bool) → nat_lt (limit_of Records) (records + suc late) ≡ b → (if b then Some (Limit Records (limit_of Records)) else None) ≡ None
+    go true more =
+        let passed : limit_of Records < records + suc late = grind (arith, nat_tests, more) in
+        let within = fits (omega arith) in
+        absurd (omega (arith, passed, within))
+    go false within = refl
+
+filling_full : (records late : ℕ) → 0 < late → limit_of Records < records + late → filling_refusal records late ≡ Some (Limit Records (limit_of Records))
+filling_full records zero some more = absurd (omega (arith, some))
+filling_full records (suc late) some more = go (nat_lt (limit_of Records) (records + suc late)) refl
+  where
+    go : (b : Bool) → nat_lt (limit_of Records) (records + suc late) ≡ b → (if b then Some (Limit Records (limit_of Records)) else None) ≡ Some (Limit Records (limit_of Records))
+    go true passed = refl
+    go false not_passed =
+        let within : records + suc late ≤ limit_of Records = grind (arith, nat_tests, not_passed) in
+        absurd (omega (arith, more, within))
+
+-- ---- filling, as far as it came
+
+pub record IsFilling {D : Type 0} (device : Device D) (old now : StoreView D) (filled : ℕ) : Type 0 where
+  pub idle : (i : Interval) → in_flight i now.fills ≡ None
+  pub history : now.history ≡ old.history
+  pub count : filled + length (late_intervals now.exponent now.history now.fills) ≡ length (late_intervals old.exponent old.history old.fills)
+  pub records : now.records ≡ old.records + filled
+  pub room : 0 < filled → now.records ≤ limit_of Records
+  pub unfailed : IsUnfailed device old now
+  pub sets : AddsWholeFills old.head old.exponent old.history (fillings_in old.filled) (fillings_in now.filled)
+  pub head : now.head ≡ old.head
+  pub exponent : now.exponent ≡ old.exponent
+  pub opened : now.opened ≡ old.opened
+  pub unchanged : filled ≡ 0 → now ≡ old
+
+pub filling_first : {D : Type 0} (device : Device D) (store : StoreView D) → ((i : Interval) → in_flight i store.fills ≡ None) → faults_in store.fills ≡ [] → IsFilling device store store 0
+filling_first device store idle no_fault = record {
+  idle = idle;
+  history = refl;
+  count = omega arith;
+  records = omega arith;
+  room = λ some. absurd (omega (arith, some));
+  unfailed = record { no_fault = no_fault; no_failed_write = refl };
+  sets = λ i. inl refl;
+  head = refl;
+  exponent = refl;
+  opened = refl;
+  unchanged = λ none. refl;
+}
+
+-- no interval is late any more
+pub filling_done : {D : Type 0} (device : Device D) (old now new : StoreView D) (filled : ℕ) → IsFilling device old now filled → IsFillBegun now new None → AllLateFilled device old new filled
+filling_done {D = D} device old now new filled f none = subst (λ (x : StoreView D). AllLateFilled device old x filled) (sym none.1) (record {
+  none_late = none_left now.exponent (machine_state now) none.0 f.idle;
+  count = omega (arith, f.count, none_counted now.exponent (machine_state now) none.0 f.idle);
+  fits = filling_fits old.records filled (λ some. let room = f.room some in omega (arith, room, f.records));
+  records = f.records;
+  unfailed = f.unfailed;
+})
+
+module _ {D : Type 0} (device : Device D) (old now begun_store : StoreView D) (filled : ℕ) (f : IsFilling device old now filled) (task : FillTask) (began : BeginsTask now begun_store task) where
+  abbrev i : Interval
+  i = task.interval
+
+  late : IsLate now.exponent i now.history now.fills
+  late = began.step.next.0.late
+
+  same_disk : begun_store.disk ≡ now.disk
+  same_disk = ap (λ (x : StoreView D). x.disk) began.same
+
+  same_records : begun_store.records ≡ now.records
+  same_records = ap (λ (x : StoreView D). x.records) began.same
+
+  same_filled : begun_store.filled ≡ now.filled
+  same_filled = ap (λ (x : StoreView D). x.filled) began.same
+
+  same_head : begun_store.head ≡ now.head
+  same_head = ap (λ (x : StoreView D). x.head) began.same
+
+  same_exponent : begun_store.exponent ≡ now.exponent
+  same_exponent = ap (λ (x : StoreView D). x.exponent) began.same
+
+  same_opened : begun_store.opened ≡ now.opened
+  same_opened = ap (λ (x : StoreView D). x.opened) began.same
+
+  begun_history : begun_store.history ≡ old.history
+  begun_history = began.step.history ∙ f.history
+
+  -- of the task that begins
+  pub begun_task : IsTaskRows task.exponent i task.rows → IsBegunTask begun_store task
+  begun_task in_order = record {
+    base = began.step.base_is ∙ ap length (sym began.step.history);
+    exponent = began.exponent ∙ sym same_exponent;
+    late =
+        subst (λ (e : ℕ). IsLate e i begun_store.history begun_store.fills) (sym same_exponent)
+        (subst (λ (l : List Fill). IsLate now.exponent i begun_store.history l) (sym began.step.fills)
+        (subst (λ (h : List Item). IsLate now.exponent i h (begun now.fills i task.base)) (sym began.step.history) (is_late_begun now.exponent now.history now.fills i i task.base late)));
+    rows =
+        began.step.rows_are ∙ ap (rows_of_interval now.exponent i) (sym began.step.history)
+        ∙ ap (λ (e : ℕ). rows_of_interval e i begun_store.history) (sym same_exponent);
+    in_order = in_order;
+    mdb = began.mdb ∙ ap (λ (h : Head). h.mdb) (sym same_head);
+  }
+
+  begun_unfailed : IsUnfailed device old begun_store
+  begun_unfailed = record {
+    no_fault = ap faults_in began.step.fills ∙ faults_begun now.fills i task.base ∙ f.unfailed.no_fault;
+    no_failed_write = ap device.failed_writes same_disk ∙ f.unfailed.no_failed_write;
+  }
+
+  pub begun_healed : pending_fault_of begun_store.fills ≡ None
+  begun_healed = pending_fault_of-in begun_store.fills ∙ ap pending_fault_of begun_unfailed.no_fault
+
+  -- one late interval at least is left
+  some_left : length (late_intervals now.exponent now.history (begun_and_done now.fills i task.base)) + 1 ≡ length (late_intervals now.exponent now.history now.fills)
+  some_left = one_less now.exponent now.history now.fills i task.base began.step.base_is late
+
+  module _ (new : StoreView D) where
+    module _ (done : IsTaskFilled device begun_store new task) where
+      new_fills : new.fills ≡ begun_and_done now.fills i task.base
+      new_fills = ap (λ m. m.fills) done.appended.step.1 ∙ ap (λ (l : List Fill). l ++ Done i task.base ∷ []) began.step.fills
+
+      new_history : new.history ≡ now.history
+      new_history = ap (λ m. m.history) done.appended.step.1 ∙ began.step.history
+
+      pub less_left : new.exponent ≡ begun_store.exponent → length (late_intervals new.exponent new.history new.fills) + 1 ≡ length (late_intervals now.exponent now.history now.fills)
+      less_left same =
+          ap (λ (e : ℕ). length (late_intervals e new.history new.fills) + 1) (same ∙ same_exponent)
+          ∙ ap (λ (l : List Fill). length (late_intervals now.exponent new.history l) + 1) new_fills
+          ∙ ap (λ (h : List Item). length (late_intervals now.exponent h (begun_and_done now.fills i task.base)) + 1) new_history ∙ some_left
+
+      -- one more was filled
+      pub filling_next : ((j : Interval) → base_in j now.fills ≡ base_of_filling (fillings_in now.filled) j) → (new.head ≡ begun_store.head) × (new.exponent ≡ begun_store.exponent) × (new.opened ≡ begun_store.opened) → IsFilling device old new (filled + 1)
+      filling_next bases same = record {
+        idle = subst (λ (l : List Fill). (j : Interval) → in_flight j l ≡ None) (sym new_fills) (idle_again now.fills i task.base f.idle);
+        history = new_history ∙ f.history;
+        count = omega (arith, less_left same.1, f.count);
+        records = omega (arith, done.appended.records, same_records, f.records);
+        room = λ some. omega (arith, done.appended.records, done.installable.below);
+        unfailed = record {
+          no_fault = ap faults_in new_fills ∙ faults_begun_and_done now.fills i task.base ∙ f.unfailed.no_fault;
+          no_failed_write = done.appended.no_failed_write ∙ begun_unfailed.no_failed_write;
+        };
+        sets =
+            subst (AddsWholeFills old.head old.exponent old.history (fillings_in old.filled)) (sym (done.appended.filled ∙ ap (λ (x : PlacedFills). with_filling (fillings_in x) i (fill_over task.base done.set)) same_filled))
+            (one_whole old.head old.exponent old.history (fillings_in old.filled) (fillings_in now.filled) f.sets i task.base done.set (began.step.base_is ∙ ap length f.history) late_now held);
+        head = same.0 ∙ same_head ∙ f.head;
+        exponent = same.1 ∙ same_exponent ∙ f.exponent;
+        opened = same.2 ∙ same_opened ∙ f.opened;
+        unchanged = λ none. absurd (omega (arith, none));
+      }
+        where
+          late_now : is_late_in_archive (filled_archive old.head old.exponent old.history (fillings_in now.filled)) i ≡ true
+          late_now =
+              ap (λ (h : List Item). is_late_in_archive (filled_archive old.head old.exponent h (fillings_in now.filled)) i) (sym f.history)
+              ∙ ap (λ (e : ℕ). is_late_in_archive (filled_archive old.head e now.history (fillings_in now.filled)) i) (sym f.exponent)
+              ∙ ap (λ (b : Option ℕ). option_map_or (λ last. is_late_by last b) (last_in now.exponent i now.history) false) (sym (bases i)) ∙ (late_by_last now.exponent i now.history now.fills).1 late
+
+          held : HoldsRows old.head.mdb done.set (rows_of_interval old.exponent i old.history)
+          held =
+              subst (λ (h : List Item). HoldsRows old.head.mdb done.set (rows_of_interval old.exponent i h)) begun_history
+              (subst (λ (e : ℕ). HoldsRows old.head.mdb done.set (rows_of_interval e i begun_store.history)) (same_exponent ∙ f.exponent)
+              (subst (λ (h : Head). HoldsRows h.mdb done.set (rows_of_interval begun_store.exponent i begun_store.history)) (same_head ∙ f.head) done.holds))
+
+    -- it was refused
+    pub given_up : (e : Refusal) → IsTaskRefusal device begun_store new task e → (new.head ≡ begun_store.head) × (new.exponent ≡ begun_store.exponent) × (new.opened ≡ begun_store.opened) → IsFilledOn old new
+    given_up e refused same = record {
+      rows = refused_history device begun_store new task e refused ∙ begun_history;
+      head = same.0 ∙ same_head ∙ f.head;
+      exponent = same.1 ∙ same_exponent ∙ f.exponent;
+      opened = same.2 ∙ same_opened ∙ f.opened;
+      sets = subst (λ (x : PlacedFills). AddsWholeFills old.head old.exponent old.history (fillings_in old.filled) (fillings_in x)) (sym (refused_filled device begun_store new task e refused ∙ same_filled)) f.sets;
+      unchanged = λ none. absurd (omega (arith, f.count, ap length none, some_left));
+    }
+
+    unfailed_still : IsAbandoned begun_store new i → IsUnfailed device old new
+    unfailed_still is = record {
+      no_fault = ap (λ (x : StoreView D). faults_in x.fills) is ∙ faults_freed i begun_store.fills ∙ begun_unfailed.no_fault;
+      no_failed_write = ap (λ (x : StoreView D). device.failed_writes x.disk) is ∙ begun_unfailed.no_failed_write;
+    }
+
+    failed_then : (failed : StoreView D) → AddsFault device begun_store failed true (additions.Fill i task.base) → IsAbandoned failed new i → IsFillFailed device old new
+    failed_then failed fault is = record {
+      count = fault.count;
+      interval = i;
+      base = task.base;
+      fault =
+          ap (λ (x : StoreView D). faults_in x.fills) is ∙ faults_freed i failed.fills ∙ ap faults_in fault.fills
+          ∙ faults_in-append begun_store.fills (Fault fault.count true (additions.Fill i task.base) ∷ []) ∙ ap (λ (l : List Fill). l ++ Fault fault.count true (additions.Fill i task.base) ∷ []) begun_unfailed.no_fault;
+      wrote = ap (λ (x : StoreView D). device.failed_writes x.disk) is ∙ fault.writes ∙ ap raised begun_unfailed.no_failed_write;
+    }
+
+    pub filling_refused : (e : Refusal) → IsTaskRefusal device begun_store new task e → IsFillingRefusal device old new (IsFillFailed device old new) e
+    filling_refused OutOfMemory r = unfailed_still r
+    filling_refused (Limit which number) r =
+        let late_at_first = length (late_intervals old.exponent old.history old.fills) in (
+          filling_full old.records late_at_first (omega (arith, f.count, some_left)) (omega (arith, r.2, same_records, f.records, f.count, some_left))
+              ∙ ap (λ (n : ℕ). Some (Limit Records n)) (sym r.1) ∙ ap (λ w. Some (Limit w number)) (sym r.0),
+          unfailed_still r.3,
+        )
+    filling_refused DiskFault r = failed_then r.0 r.1 r.2
+    filling_refused _ r = absurd r
+
+-- what is left where filling goes no further
+pub filled_so_far : {D : Type 0} (device : Device D) (old now : StoreView D) (filled : ℕ) → IsFilling device old now filled → IsFilledOn old now
+filled_so_far device old now filled f = record {
+  rows = f.history;
+  head = f.head;
+  exponent = f.exponent;
+  opened = f.opened;
+  sets = f.sets;
+  unchanged = λ none. f.unchanged (omega (arith, f.count, ap length none));
+}
+
+-- ---- a failed write is taken back
+
+module _ {D : Type 0} (device : Device D) (old mid new : StoreView D) where
+  taken_back : IsFillFailed device old mid → IsReopened device mid new → OneAtMost (Some DiskFault) (device.failed_writes mid.disk) (device.failed_writes new.disk) → IsFillTakenBack device old new
+  taken_back failed again writes = elim again.healed [
+    | inl healed ↦ record {
+      count = failed.count;
+      wrote = false;
+      interval = failed.interval;
+      base = failed.base;
+      fault = ap faults_in healed ∙ faults_in-reopened mid.fills ∙ ap reopened failed.fault;
+      tried = inl refl;
+      writes = once_more writes;
+    }
+    | inr still ↦ record { count = failed.count; wrote = true; interval = failed.interval; base = failed.base; fault = ap faults_in still.0 ∙ failed.fault; tried = inr (rose still.1); writes = once_more writes }
+  ]
+    where
+      rose : raised (device.fault_count mid.disk) ≤ device.fault_count new.disk → raised (raised (device.fault_count new.opened)) ≤ device.fault_count new.disk
+      rose more =
+          let once = more_faults device mid failed.count true (additions.Fill failed.interval failed.base) again.counted failed.fault in
+          subst (λ (d : D). raised (raised (device.fault_count d)) ≤ device.fault_count new.disk) (sym again.opened)
+          (twice (device.fault_count mid.opened) (device.fault_count mid.disk) (device.fault_count new.disk) once more)
+
+      once_more : OneAtMost (Some DiskFault) (device.failed_writes mid.disk) (device.failed_writes new.disk) → OneOrTwo (Some DiskFault) (device.failed_writes old.disk) (device.failed_writes new.disk)
+      once_more (inl same) = inl (same ∙ failed.wrote)
+      once_more (inr more) = inr (more ∙ ap raised failed.wrote)
+
+  pub healed_refusal : (e : Refusal) → IsFillingRefusal device old mid (IsFillFailed device old mid) e → (e ≢ DiskFault → new ≡ mid) → (e ≡ DiskFault → IsReopened device mid new)
+      → OneAtMost (Some e) (device.failed_writes mid.disk) (device.failed_writes new.disk) → IsFillingRefusal device old new (IsFillTakenBack device old new) e
+  healed_refusal OutOfMemory r same again writes = subst (IsUnfailed device old) (sym (same (λ is. cc))) r
+  healed_refusal (Limit which number) r same again writes = (r.0, subst (IsUnfailed device old) (sym (same (λ is. cc))) r.1)
+  healed_refusal DiskFault r same again writes = taken_back r (again refl) writes
+  healed_refusal _ r same again writes = absurd r
+
+  -- where the disk failed an interval was late
+  some_late : faults_in old.fills ≡ [] → IsFillFailed device old mid → mid ≡ old → ⊥
+  some_late no_fault failed same = let none = sym failed.fault ∙ ap (λ (s : StoreView D). faults_in s.fills) same ∙ no_fault in cc
+
+  pub healed_on : (e : Refusal) → faults_in old.fills ≡ [] → IsFillingRefusal device old mid (IsFillFailed device old mid) e → IsFilledOn old mid → (e ≢ DiskFault → new ≡ mid)
+      → (e ≡ DiskFault → IsReopened device mid new) → IsFilledOn old new
+  healed_on DiskFault no_fault failed on same again =
+      let re = again refl in record {
+        rows = re.history ∙ on.rows;
+        head = re.head ∙ on.head;
+        exponent = re.exponent ∙ on.exponent;
+        opened = re.opened ∙ on.opened;
+        sets = subst (λ (x : PlacedFills). AddsWholeFills old.head old.exponent old.history (fillings_in old.filled) (fillings_in x)) (sym re.filled) on.sets;
+        unchanged = λ none. absurd (some_late no_fault failed (on.unchanged none));
+      }
+  healed_on other no_fault refused on same again = subst (IsFilledOn old) (sym (same (λ is. cc))) on

@@ -1,0 +1,540 @@
+//! The command `load`: the packets of a dump, ingested into an archive.
+
+ghost use Rattle.std.specs.Prelude.{◌≡◌, ◌≤◌, ◌+◌, ◌-◌, ◌++◌, [], IsSome, IsTrue, IfOk, IfErr, IfSome, MatchResult, OnOk, None, Some, length, option_map};
+ghost use Rattle.refusals.specs.Limits.{limit_of};
+ghost use Rattle.refusals.specs.declared.refusal.Which.TheVariants as limits;
+ghost use Rattle.outer_traits.specs.Outside.{Stays};
+ghost use Rattle.command_plans.specs.Ledger.{UsedClock};
+ghost use Rattle.text_forms.specs.ClockTime.{IsClockTime};
+ghost use Rattle.mdb_sheets.specs.Sheets.{ReadsCounted};
+ghost use Rattle.command_plans.specs.Plan.{IsDue};
+ghost use Rattle.command_words.specs.JobView.{load_words_of};
+ghost use Rattle.command_runs.specs.Finishing.{WritesCounted};
+ghost use Rattle.retrieval.specs.FoundAsks.{AreFound, asks_found};
+ghost use Rattle.ask_answers.specs.Asks.{ArePrinted, archive_asks_text};
+ghost use Rattle.command_runs.specs.Command.{RanOver, effects_of};
+ghost use Rattle.std.specs.List.{AllByRecursion};
+ghost use Rattle.intervals.specs.declared.interval.Interval.{Interval as AnInterval};
+ghost use Rattle.history_items.specs.Fills.{in_flight};
+ghost use Rattle.store_fills.specs.Faults.{IsDone, faults_in};
+ghost use Rattle.archive_store.specs.StoreView.{filled_of};
+ghost use Rattle.load_session.specs.Receiving.{receiving, IsRouteOver, Receiving};
+ghost use Rattle.load_session.specs.Session.{IsSummary, SessionResult};
+ghost use Rattle.late_filling.specs.Filling.{IsFilledOn};
+ghost use Rattle.script_answers.specs.Scripts.{OrNoMemory};
+ghost use Rattle.load_command.specs.Load.{archive_load_plan, load_plan, routed_load_plan};
+ghost use Rattle.load_command.specs.LoadLine.{load_line};
+ghost use Rattle.load_command.specs.Loading.{printed_report, link_refusal, IsLoadRun, IsWholeLoadEnd, IsDumpRefusal, IsDumpRefusalFor, IsNotReceived, IsReady, IsRouteAnswer};
+ghost use Rattle.command_runs.specs.Report.{disk_of_work, loaded, read_only, report_of_work, status_at};
+ghost use Rattle.dump_lines.specs.LineRoom.{HasLineRoom};
+ghost use Rattle.command_runs.specs.DumpRest.{dump_limit, ending_of};
+
+use arch_disk::Disk;
+use arch_types::octets::Octets;
+use archive_store::Store;
+use ask_answers::answers::{check_asks, print_asks};
+use asks::Asks;
+use command_plans::read::{read_limited, refusal_of_opening};
+use command_runs::dump_rest::bad_packet;
+use command_runs::finishing::finish;
+use command_runs::report::{Ended, LoadCounts, Report};
+use command_words::job::LoadWords;
+use dump_lines::line_buffer::LineBuffer;
+use late_filling::fill_late::fill_late;
+use load_session::{DumpSummary, run_session};
+use mdb_sheets::read_asks;
+use outer_traits::clock::Clock;
+use outer_traits::inputs::Inputs;
+use outer_traits::sink::Sink;
+use outer_traits::source::Source;
+use outer_traits::whole::{ReadFault, read_whole};
+use refusals::{BadKind, Refusal, Which};
+use retrieval::found_asks::{FoundAsk, FoundAsks};
+use script_answers::scripts::typed_text;
+use space_packet::dump::Why;
+use ssql_types::place::ScriptPlace;
+use std::alloc::Global;
+use stream_graph::graph::Graph;
+
+/// Opens a dump and the archive of a disk, ingests the dump's packets in batches of 64 into the tables that a route names, or where none is given into
+/// `tm`, fills each late interval, answers the asks of a sheet, where one is given, over the history after them, and prints what became of the packets. Room
+/// for the line is taken before.
+///
+/// Refuses, in this order: by `Missing`, `ReadFault` or `Limit` ScriptOctets of the route; by `Missing`, `ReadFault` or `Limit` SheetOctets of the sheet;
+/// by `Missing` or `ReadFault` where the dump isn't opened; by `DiskFault`, `NoArchive` or `Damaged`; by `Limit` Links; by `BadSql` of rule 1 or 2; by
+/// `Limit` Statements or SqlDepth; at the first token with which something is wrong by `BadSql` or `UnknownTable`; by `BadSheet`; by `Limit` Asks; each ask
+/// in turn by `UnknownParameter` or `UnknownTable`, then by `BadRange`; by `ReadFault` or `Limit` DumpOctets; batch by batch by a `Limit` of the history or
+/// by `DiskFault`; by `BadPacket`; fill by fill by `Limit` Records or by `DiskFault`; by `WriteFault`. `OutOfMemory` may come anywhere before the line.
+///
+/// Where a call of the disk failed in a batch or at a fill, the write is taken back before it ends, as far as the disk lets it. Behind packets that were
+/// all ingested what is late is filled, also where a rest of the dump is left that is no packet.
+pub fn load<D: Disk, I: Inputs, K: Sink, C: Clock>(
+    alloc: Global,
+    words: LoadWords<'_>,
+    disk: D,
+    inputs: &mut I,
+    sink: &mut K,
+    clock: &mut C,
+) -> Ended<D>
+    requires link { 1 ≤ words.link }
+    // It took a way through its plan: where that ends stands what was printed, what became of the disk, what is reported, how many
+    // sources were given, and which calls failed.
+    ensures ran { RanOver D.device
+        (load_plan D.device disk (I.state inputs.old).files (C.state clock.old).next (load_words_of words.entry))
+        (effects_of disk result.disk (K.state sink.old) (K.state sink.new) result.report)
+        (I.state inputs.old) (I.state inputs.new) }
+
+    // Where disk and inputs are known the answer that is due comes, or that of an interruption at its place.
+    ensures due { IsTrue D.device.is_transparent → IsSome (I.state inputs.old).files →
+        IsDue (load_plan D.device disk (I.state inputs.old).files (C.state clock.old).next
+        (load_words_of words.entry)) result.report.refusal }
+
+    // What is known of the clock stays known, and one that stands still goes on standing.
+    ensures clock { UsedClock (C.state clock.old) (C.state clock.new) }
+
+    // The number of the refusal, and 0 exactly where there's none.
+    ensures status { result.status ≡ status_at result.report.refusal }
+{
+    Ended::of_work(work(alloc, words, disk, inputs, sink, clock))
+}
+
+/// Does the command: reads the script of a route, where one is given, and then loads the dump.
+fn work<D: Disk, I: Inputs, K: Sink, C: Clock>(
+    alloc: Global,
+    words: LoadWords<'_>,
+    disk: D,
+    inputs: &mut I,
+    sink: &mut K,
+    clock: &mut C,
+) -> Result<(D, Report), (D, Refusal)>
+    requires link { 1 ≤ words.link }
+    ensures ran { RanOver D.device
+        (load_plan D.device disk (I.state inputs.old).files (C.state clock.old).next (load_words_of words.entry))
+        (effects_of disk (disk_of_work result) (K.state sink.old) (K.state sink.new) (report_of_work result))
+        (I.state inputs.old) (I.state inputs.new) }
+    ensures clock { UsedClock (C.state clock.old) (C.state clock.new) }
+{
+    match words.route {
+        None => load_routed(alloc, None, words, disk, inputs, sink, clock),
+        Some(name) => match read_limited(alloc, inputs, name, Which::ScriptOctets) {
+            Ok(text) => {
+                let text = Some(text.as_slice());
+                load_routed(alloc, text, words, disk, inputs, sink, clock)
+            }
+            Err(refusal) => Err((disk, refusal)),
+        },
+    }
+}
+
+/// Reads the sheet of asks, where one is given, and loads the dump by the route of a text.
+fn load_routed<D: Disk, I: Inputs, K: Sink, C: Clock>(
+    alloc: Global,
+    text: Option<&[u8]>,
+    words: LoadWords<'_>,
+    disk: D,
+    inputs: &mut I,
+    sink: &mut K,
+    clock: &mut C,
+) -> Result<(D, Report), (D, Refusal)>
+    requires link { 1 ≤ words.link }
+    ensures ran { RanOver D.device
+        (routed_load_plan D.device disk (I.state inputs.old).files (C.state clock.old).next (load_words_of words.entry)
+        (option_map (λ text. text.now) text.entry))
+        (effects_of disk (disk_of_work result) (K.state sink.old) (K.state sink.new) (report_of_work result))
+        (I.state inputs.old) (I.state inputs.new) }
+    ensures clock { UsedClock (C.state clock.old) (C.state clock.new) }
+{
+    match words.asks {
+        None => load_archive(
+            alloc,
+            text,
+            Ok(Asks::new(alloc)),
+            words,
+            disk,
+            inputs,
+            sink,
+            clock,
+        ),
+        Some(name) => match read_asks(alloc, inputs, name) {
+            Ok(sheet) => load_archive(alloc, text, sheet, words, disk, inputs, sink, clock),
+            Err(refusal) => Err((disk, refusal)),
+        },
+    }
+}
+
+/// Opens a dump and the archive of a disk, and loads the dump by the route of a text, behind which the asks of a sheet are answered.
+fn load_archive<D: Disk, I: Inputs, K: Sink, C: Clock>(
+    alloc: Global,
+    text: Option<&[u8]>,
+    sheet: Result<Asks, Refusal>,
+    words: LoadWords<'_>,
+    disk: D,
+    inputs: &mut I,
+    sink: &mut K,
+    clock: &mut C,
+) -> Result<(D, Report), (D, Refusal)>
+    requires link { 1 ≤ words.link }
+    ensures ran { RanOver D.device
+        (archive_load_plan D.device disk (I.state inputs.old).files (C.state clock.old).next (load_words_of words.entry)
+        (option_map (λ text. text.now) text.entry) sheet) (effects_of disk (disk_of_work result) (K.state sink.old) (K.state sink.new) (report_of_work result))
+        (I.state inputs.old) (I.state inputs.new) }
+    ensures clock { UsedClock (C.state clock.old) (C.state clock.new) }
+{
+    let Ok(line_buffer) = LineBuffer::new(alloc) else {
+        return Err((disk, Refusal::OutOfMemory));
+    };
+    let mut source = match inputs.open(alloc, words.dump) {
+        Ok(source) => source,
+        Err(fault) => return Err((disk, refusal_of_opening(alloc, fault, words.dump))),
+    };
+    let mut store = match Store::open(alloc, disk) {
+        Ok(store) => store,
+        Err(refused) => {
+            inputs.close(source);
+            return Err(refused);
+        }
+    };
+    // It tells the proof that the fill list has the bases of the fills that are there.
+    let _opened = store.front();
+    let received = receive(alloc, &store, text, sheet, &mut source, words.link);
+    inputs.close(source);
+    let report = match received {
+        Ok(received) => {
+            let moment = clock.now();
+            load_dump(alloc, &mut store, &received, moment, line_buffer, sink)
+        }
+        Err(unread) => nothing_loaded(&store, unread),
+    };
+    // It tells the proof which fills a crash leaves now.
+    let _loaded = store.front();
+    Ok((store.into_disk(), report))
+}
+
+/// A dump that was read to its end, the link that it came by, the route of its packets, and the asks that are answered behind it.
+#[derive(Drop)]
+struct LoadInput {
+    link: u16,
+    asks: FoundAsks,
+    graph: Graph,
+    dump: Octets,
+}
+
+/// Why a dump wasn't read to its end.
+#[derive(Drop)]
+struct DumpRefusal {
+    refusal: Refusal,
+    /// The link of a dump that is too long.
+    link: Option<u16>,
+}
+
+/// Reads a dump to its end, where there's a link of its number, the text of its route is none that is refused, and the asks of a sheet are found in
+/// the archive.
+fn receive<D: Disk, S: Source>(
+    alloc: Global,
+    store: &Store<D>,
+    text: Option<&[u8]>,
+    sheet: Result<Asks, Refusal>,
+    source: &mut S,
+    link: u64,
+) -> Result<LoadInput, DumpRefusal>
+    ensures ready { IfOk result (λ received. IsReady store.now.head (option_map (λ text. text.now) text.entry) sheet link
+        received.graph (asks_found received.asks)) }
+    ensures found { IfOk result (λ received. AreFound store.now.head received.asks) }
+    ensures link { IfOk result (λ received. (received.link ≡ link) × (received.link ≤ limit_of limits.Links)) }
+    ensures route { IfOk result (λ received. IsRouteOver store.now.head received.graph) }
+    ensures whole { IfOk result (λ received. IfSome (S.state source.old).left (λ left. left ≡ received.dump)) }
+    ensures short { IfOk result (λ received. length received.dump ≤ dump_limit) }
+    ensures unread { IfErr result (λ unread. IsNotReceived store.now.head (option_map (λ text. text.now) text.entry) sheet
+        link (S.state source.old).left (S.state source.old).faults (S.state source.new).faults unread.refusal
+        unread.link) }
+    ensures no_fault { OnOk result (Stays (S.state source.old).faults (S.state source.new).faults) }
+    ensures later { (S.state source.old).faults ≤ (S.state source.new).faults }
+    ensures reliable { (S.state source.old).never_fails →
+        Stays (S.state source.old).faults (S.state source.new).faults }
+{
+    let link = link_numbered(link)?;
+    let graph = route_of_load(alloc, store, text)?;
+    let asks = check_asks(alloc, store, sheet)?;
+    let dump = read_dump(alloc, source, link)?;
+    Ok(LoadInput {
+        link,
+        asks,
+        graph,
+        dump,
+    })
+}
+
+/// The route of a load: that of a text, or where none is given the one of every packet into `tm`.
+fn route_of_load<D: Disk>(
+    alloc: Global,
+    store: &Store<D>,
+    text: Option<&[u8]>,
+) -> Result<Graph, Refusal>
+    ensures answer { OrNoMemory (IsRouteAnswer store.now.head (option_map (λ text. text.now) text.entry)) result }
+    ensures over { IfOk result (IsRouteOver store.now.head) }
+{
+    match text {
+        None => every_packet(alloc, store),
+        Some(text) => scripted_route(alloc, store, text),
+    }
+}
+
+/// The route of a load that is given none.
+fn every_packet<D: Disk>(alloc: Global, store: &Store<D>) -> Result<Graph, Refusal>
+    ensures answer { OrNoMemory (IsRouteAnswer store.now.head None) result }
+    ensures over { IfOk result (IsRouteOver store.now.head) }
+{
+    // This tells the proof that the archive has a first table.
+    store.head();
+    match Graph::every_packet(alloc) {
+        Ok(graph) => Ok(graph),
+        Err(_) => Err(Refusal::OutOfMemory),
+    }
+}
+
+/// The route of a script's text over the tables and packet names of an archive.
+fn scripted_route<D: Disk>(alloc: Global, store: &Store<D>, text: &[u8]) -> Result<Graph, Refusal>
+    ensures answer { OrNoMemory (IsRouteAnswer store.now.head (Some text.now)) result }
+    ensures over { IfOk result (IsRouteOver store.now.head) }
+{
+    let names = store.names(alloc)?;
+    let head = store.head();
+    // It tells the proof how many packet names there may be.
+    head.mdb.containers();
+    let script = typed_text(alloc, text, ScriptPlace::Route, &head.tables, &names)?;
+    match Graph::of(alloc, &script) {
+        Ok(graph) => Ok(graph),
+        Err(_) => Err(Refusal::OutOfMemory),
+    }
+}
+
+/// The link with a number.
+fn link_numbered(link: u64) -> Result<u16, Refusal>
+    ensures link { IfOk result (λ number. (number ≡ link) × (number ≤ limit_of limits.Links) × (link_refusal link ≡ None)) }
+    ensures refused { IfErr result (λ refusal. link_refusal link ≡ Some refusal) }
+{
+    if link > Which::Links.limit() {
+        return Err(Refusal::Limit {
+            which: Which::Links,
+            number: Which::Links.limit(),
+        });
+    }
+    Ok(link as u16)
+}
+
+/// Reads the dump of a link to its end.
+fn read_dump<S: Source>(alloc: Global, source: &mut S, link: u16) -> Result<Octets, DumpRefusal>
+    ensures whole { IfOk result (λ dump. IfSome (S.state source.old).left (λ left. left ≡ dump)) }
+    ensures short { IfOk result (λ dump. length dump ≤ dump_limit) }
+    ensures unread { IfErr result (λ unread. IsDumpRefusal (S.state source.old).left link unread.refusal unread.link) }
+    ensures counted { MatchResult result (λ _. Stays (S.state source.old).faults (S.state source.new).faults)
+        (λ unread. ReadsCounted (Some unread.refusal) (S.state source.old).faults (S.state source.new).faults) }
+    ensures later { (S.state source.old).faults ≤ (S.state source.new).faults }
+    ensures reliable { (S.state source.old).never_fails →
+        Stays (S.state source.old).faults (S.state source.new).faults }
+{
+    match read_whole(alloc, source, Which::DumpOctets.limit() as usize) {
+        Ok(octets) => match Octets::from_vec(alloc, octets) {
+            Ok(dump) => Ok(dump),
+            Err(_) => Err(DumpRefusal::from(Refusal::OutOfMemory)),
+        },
+        Err(fault) => Err(unread_for(fault, link)),
+    }
+}
+
+impl From<Refusal> for DumpRefusal {
+    ghost use Rattle.std.specs.Prelude.{◌≡◌, None};
+
+    ghost from_gives = { λ refusal unread. (unread.refusal ≡ refusal) × (unread.link ≡ None) };
+
+    fn from(refusal: Refusal) -> DumpRefusal {
+        DumpRefusal {
+            refusal,
+            link: None,
+        }
+    }
+}
+
+/// A dump of a link that wasn't read because of a fault.
+fn unread_for(fault: ReadFault, link: u16) -> DumpRefusal
+    ensures { IsDumpRefusalFor fault link result.refusal result.link }
+{
+    match fault {
+        ReadFault::Failed => DumpRefusal::from(Refusal::ReadFault),
+        ReadFault::TooLong => DumpRefusal {
+            refusal: Refusal::Limit {
+                which: Which::DumpOctets,
+                number: Which::DumpOctets.limit(),
+            },
+            link: Some(link),
+        },
+        ReadFault::OutOfMemory | ReadFault::Missing => DumpRefusal::from(Refusal::OutOfMemory),
+    }
+}
+
+/// The report of a load that ingested nothing, since its dump wasn't read.
+fn nothing_loaded<D: Disk>(store: &Store<D>, unread: DumpRefusal) -> Report
+    ensures { result ≡ record (read_only (Some unread.refusal) (length store.now.history)) { link = unread.link } }
+{
+    let mut report = Report::read_only(Some(unread.refusal), store.front());
+    report.link = unread.link;
+    report
+}
+
+/// Ingests the packets of a dump that was received at a moment, in milliseconds since 1970, and prints the answers to its asks and what became of the
+/// packets.
+fn load_dump<D: Disk, K: Sink>(
+    alloc: Global,
+    store: &mut Store<D>,
+    received: &LoadInput,
+    moment: i64,
+    line_buffer: LineBuffer,
+    sink: &mut K,
+) -> Report
+    requires short { length received.now.dump ≤ dump_limit }
+    requires link { (1 ≤ received.now.link) × (received.now.link ≤ limit_of limits.Links) }
+    requires found { AreFound store.old.head received.now.asks }
+    requires route { IsRouteOver store.old.head received.now.graph }
+    requires moment { IsClockTime moment }
+    requires empty { line_buffer ≡ [] }
+    requires opened { AllByRecursion IsDone store.old.fills }
+    ensures session { IsLoadRun D.device store.old store.new (asks_found received.now.asks) received.now.dump
+        (receiving store.old.head received.now.graph received.now.link moment) (K.state sink.old).written
+        (K.state sink.new).written result }
+    ensures writes_counted { WritesCounted result.refusal (K.state sink.old).faults (K.state sink.new).faults }
+    ensures writes_later { (K.state sink.old).faults ≤ (K.state sink.new).faults }
+{
+    let before = store.front();
+    match run_session(
+        alloc,
+        store,
+        &received.graph,
+        &received.dump,
+        received.link,
+        moment,
+    ) {
+        Ok(whole) => end_load(alloc, store, before, whole, received, line_buffer, sink),
+        Err(refusal) => stopped(store, before, None, refusal),
+    }
+}
+
+/// Fills what is late behind a session that ingested all packets of a dump, and prints the answers to its asks and what
+/// became of the packets. Where a rest is left of the dump that is what is reported, whatever the filling came to.
+fn end_load<D: Disk, K: Sink>(
+    alloc: Global,
+    store: &mut Store<D>,
+    before: u64,
+    whole: DumpSummary,
+    received: &LoadInput,
+    line_buffer: LineBuffer,
+    sink: &mut K,
+) -> Report
+    requires idle { (i : AnInterval) → in_flight i store.old.fills ≡ None }
+    requires no_fault { faults_in store.old.fills ≡ [] }
+    requires found { AreFound store.old.head received.now.asks }
+    requires empty { line_buffer ≡ [] }
+    requires grown { before ≤ length store.old.history }
+    requires counts { length store.old.history ≤ whole.routed + before }
+    ensures left { IsFilledOn store.old store.new }
+
+    // For each session that came to this store and this summary.
+    ensures ending { (r : Receiving) (s : SessionResult) → IsSummary received.now.dump r s whole → s.refusal ≡ None →
+        store.old.history ≡ s.reached → store.old.head ≡ r.head → received.now.link ≡ r.link →
+        IsWholeLoadEnd D.device store.old store.new r (asks_found received.now.asks) before received.now.dump s
+        (K.state sink.old).written (K.state sink.new).written result }
+    ensures writes_counted { WritesCounted result.refusal (K.state sink.old).faults (K.state sink.new).faults }
+    ensures writes_later { (K.state sink.old).faults ≤ (K.state sink.new).faults }
+{
+    let filled = fill_late(alloc, store);
+    match refusal_of_rest(&whole) {
+        Some(refusal) => stopped(store, before, Some(received.link), refusal),
+        None => match filled {
+            Ok(_) => print(
+                alloc,
+                store,
+                before,
+                whole,
+                received.asks.as_slice(),
+                line_buffer,
+                sink,
+            ),
+            Err(refusal) => stopped(store, before, None, refusal),
+        },
+    }
+}
+
+/// The refusal of a dump whose rest isn't empty.
+fn refusal_of_rest(whole: &DumpSummary) -> Option<Refusal>
+    ensures { result ≡ ending_of whole.now.why whole.now.at }
+{
+    match whole.why {
+        Why::End => None,
+        Why::Version => Some(bad_packet(whole.at, BadKind::Version)),
+        Why::Truncated => Some(bad_packet(whole.at, BadKind::Truncated)),
+    }
+}
+
+/// The report of a load that was refused after some packets were ingested.
+fn stopped<D: Disk>(store: &Store<D>, before: u64, link: Option<u16>, refusal: Refusal) -> Report
+    requires { before ≤ length store.now.history }
+    ensures { result ≡ loaded (Some refusal) link before (length store.now.history) 0 0 0 }
+{
+    let counts = LoadCounts::default();
+    Report::loaded(Some(refusal), link, before, store.front(), counts)
+}
+
+/// Prints the answers to asks that were found, and what became of the packets of a whole dump.
+fn print<D: Disk, K: Sink>(
+    alloc: Global,
+    store: &mut Store<D>,
+    before: u64,
+    whole: DumpSummary,
+    asks: &[FoundAsk],
+    line_buffer: LineBuffer,
+    sink: &mut K,
+) -> Report
+    requires found { AreFound store.old.head asks.now }
+    requires empty { line_buffer ≡ [] }
+    requires grown { before ≤ length store.old.history }
+    requires counts { length store.old.history ≤ whole.routed + before }
+    ensures printed { ArePrinted (asks_found asks.now) result.refusal (K.state sink.old).written (K.state sink.new).written
+        (archive_asks_text (filled_of store.old) 1 (asks_found asks.now) ++ load_line whole.packets
+        (length store.old.history - before) (whole.routed - (length store.old.history - before)) whole.idle
+        (length store.old.history)) }
+    ensures report { result ≡ printed_report result.refusal before (length store.old.history) whole.packets whole.routed
+        whole.idle }
+    ensures writes_counted { WritesCounted result.refusal (K.state sink.old).faults (K.state sink.new).faults }
+    ensures writes_later { (K.state sink.old).faults ≤ (K.state sink.new).faults }
+    ensures same { store.new ≡ store.old }
+{
+    let mut line_buffer = line_buffer;
+    let after = store.front();
+    let counts = LoadCounts {
+        packets: whole.packets,
+        duplicates: whole.routed - (after - before),
+        idle: whole.idle,
+    };
+    match print_asks(alloc, asks, store, &mut line_buffer, sink) {
+        Ok(()) => {
+            put_line(&mut line_buffer, counts, after - before, after);
+            match finish(line_buffer, sink) {
+                None => Report::loaded(None, None, before, after, counts),
+                Some(refusal) => stopped(store, before, None, refusal),
+            }
+        }
+        Err(fault) => stopped(store, before, None, Refusal::from(fault)),
+    }
+}
+
+/// Adds the last line.
+fn put_line(line_buffer: &mut LineBuffer, counts: LoadCounts, new: u64, rows: u64)
+    requires { HasLineRoom line_buffer.old }
+    ensures { line_buffer.new ≡ line_buffer.old ++ load_line counts.packets new counts.duplicates counts.idle rows }
+{
+    line_buffer.put_number(b"load packets ", counts.packets);
+    line_buffer.put_number(b" new ", new);
+    line_buffer.put_number(b" duplicates ", counts.duplicates);
+    line_buffer.put_number(b" idle ", counts.idle);
+    line_buffer.put_number(b" rows ", rows);
+    line_buffer.put(b"\n");
+}

@@ -1,0 +1,3 @@
+pub mod QueryPlan
+pub mod Replies
+pub mod SqlPlan

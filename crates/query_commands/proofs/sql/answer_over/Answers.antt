@@ -1,0 +1,23 @@
+use Rattle.std.proofs.Common.{inl, inr, refl, arith}
+use Rattle.script_answers.proofs.HeldParts.{names_few}
+use Rattle.query_commands.proofs.SqlPlan.{named_tables}
+use Rattle.query_commands.proofs.sql.answer_over.Goals as goal
+
+pub typed_text-requires : goal.typed_text-requires
+typed_text-requires g c = record {
+  tables = rw c.head-head.ensures.head c.head-head.ensures.sound.0.few;
+  names = rw c.requires.names (names_few c.args.store.now.head c.containers-containers.result (rw c.head-head.ensures.head at c.containers-containers.ensures) (omega (arith, c.containers-containers.type_inv)));
+}
+
+pub print_answers-requires : goal.print_answers-requires
+print_answers-requires g c = record {
+  names = c.requires.names;
+  tables = rw c.as_slice.ensures (named_tables c.args.store.now.head c.args.text.now c.in-Ok.script c.typed_names_tables.ensures (rw (c.requires.names, c.head-head.ensures.head) at c.in-Ok.ensures));
+  empty = c.requires.empty;
+}
+
+pub returns-in-Ok : goal.returns-in-Ok
+returns-in-Ok g c = inr (c.in-Ok.script, rw (c.requires.names, c.head-head.ensures.head) at c.in-Ok.ensures, rw c.as_slice.ensures at c.print_answers.ensures)
+
+pub returns-in-Err : goal.returns-in-Err
+returns-in-Err g c = inl (rw c.head-head.ensures.head at c.in-Err.ensures, refl)

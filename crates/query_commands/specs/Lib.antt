@@ -1,0 +1,4 @@
+pub mod Query
+pub mod QueryReplying
+pub mod Sql
+pub mod SqlReplying

@@ -1,0 +1,135 @@
+//! The command `query --ask`: the answers of an archive to a sheet of asks.
+
+ghost use Rattle.std.specs.Prelude.{◌≡◌, ◌≤◌, [], IsSome, IsTrue, None};
+ghost use Rattle.archive_store.specs.StoreView.{filled_of};
+ghost use Rattle.retrieval.specs.FoundAsks.{AreFound, asks_found};
+ghost use Rattle.command_plans.specs.Plan.{IsDue};
+ghost use Rattle.command_runs.specs.Finishing.{WritesCounted};
+ghost use Rattle.ask_answers.specs.Asks.{ArePrinted, archive_asks_text};
+ghost use Rattle.command_runs.specs.Command.{Ran, RanOver, effects_of};
+ghost use Rattle.query_commands.specs.Query.{archive_asks_plan, query_plan};
+ghost use Rattle.query_commands.specs.QueryReplying.{IsSheetReply};
+ghost use Rattle.command_runs.specs.Report.{disk_of_work, report_of_work, status_at};
+
+use arch_disk::Disk;
+use archive_store::Store;
+use ask_answers::answers::{check_asks, print_asks};
+use asks::Asks;
+use command_runs::finishing::finish;
+use command_runs::report::{Ended, Report};
+use dump_lines::line_buffer::LineBuffer;
+use mdb_sheets::read_asks;
+use outer_traits::inputs::Inputs;
+use outer_traits::sink::Sink;
+use refusals::Refusal;
+use retrieval::found_asks::FoundAsk;
+use std::alloc::Global;
+
+/// Answers the asks of a sheet over the whole history of a disk's archive.
+///
+/// Refuses, in this order: by `Missing`, `ReadFault` or `Limit` SheetOctets; by `DiskFault`, `NoArchive` or `Damaged`; by `BadSheet`; by `Limit` Asks;
+/// each ask in turn by `UnknownParameter` or `UnknownTable`, then by `BadRange`; by `WriteFault`. `OutOfMemory` may come anywhere, also after some answers.
+pub fn query<D: Disk, I: Inputs, K: Sink>(
+    alloc: Global,
+    name: &str,
+    disk: D,
+    inputs: &mut I,
+    sink: &mut K,
+) -> Ended<D>
+    // It took a way through its plan: where that ends stands what was printed, what became of the disk, what is reported, how many
+    // sources were given, and which calls failed.
+    ensures ran { RanOver D.device
+        (query_plan D.device disk (I.state inputs.old).files name.now)
+        (effects_of disk result.disk (K.state sink.old) (K.state sink.new) result.report)
+        (I.state inputs.old) (I.state inputs.new) }
+
+    // Where disk and inputs are known the answer that is due comes, or that of an interruption at its place.
+    ensures due { IsTrue D.device.is_transparent → IsSome (I.state inputs.old).files →
+        IsDue (query_plan D.device disk (I.state inputs.old).files name.now) result.report.refusal }
+
+    // The number of the refusal, and 0 exactly where there's none.
+    ensures status { result.status ≡ status_at result.report.refusal }
+{
+    Ended::of_work(work(alloc, name, disk, inputs, sink))
+}
+
+/// Does the command.
+fn work<D: Disk, I: Inputs, K: Sink>(
+    alloc: Global,
+    name: &str,
+    disk: D,
+    inputs: &mut I,
+    sink: &mut K,
+) -> Result<(D, Report), (D, Refusal)>
+    ensures { RanOver D.device (query_plan D.device disk (I.state inputs.old).files name.now)
+        (effects_of disk (disk_of_work result) (K.state sink.old) (K.state sink.new) (report_of_work result))
+        (I.state inputs.old) (I.state inputs.new) }
+{
+    match read_asks(alloc, inputs, name) {
+        Ok(asks) => ask_archive(alloc, asks, disk, sink),
+        Err(refusal) => Err((disk, refusal)),
+    }
+}
+
+/// Opens the archive of a disk, and answers the asks of a sheet, or says why the sheet is refused.
+fn ask_archive<D: Disk, K: Sink>(
+    alloc: Global,
+    sheet: Result<Asks, Refusal>,
+    disk: D,
+    sink: &mut K,
+) -> Result<(D, Report), (D, Refusal)>
+    // It took a way through its plan.
+    ensures { Ran D.device (archive_asks_plan D.device disk sheet) (effects_of disk (disk_of_work result) (K.state sink.old)
+        (K.state sink.new) (report_of_work result)) }
+{
+    let Ok(line_buffer) = LineBuffer::new(alloc) else {
+        return Err((disk, Refusal::OutOfMemory));
+    };
+    let mut store = Store::open(alloc, disk)?;
+    let rows = store.front();
+    let refusal = answer_sheet(alloc, sheet, &mut store, line_buffer, sink);
+    Ok((store.into_disk(), Report::read_only(refusal, rows)))
+}
+
+/// Prints the answers to a sheet, or says why it is refused.
+fn answer_sheet<D: Disk, K: Sink>(
+    alloc: Global,
+    sheet: Result<Asks, Refusal>,
+    store: &mut Store<D>,
+    line_buffer: LineBuffer,
+    sink: &mut K,
+) -> Option<Refusal>
+    requires { line_buffer ≡ [] }
+    ensures reply { IsSheetReply (filled_of store.old) sheet result (K.state sink.old).written (K.state sink.new).written
+        (K.state sink.old).faults (K.state sink.new).faults }
+    ensures writes_later { (K.state sink.old).faults ≤ (K.state sink.new).faults }
+    ensures same { store.new ≡ store.old }
+{
+    match check_asks(alloc, store, sheet) {
+        Ok(asks) => answer_asks(alloc, asks.as_slice(), store, line_buffer, sink),
+        Err(refusal) => Some(refusal),
+    }
+}
+
+/// Prints the answers to asks that were found.
+fn answer_asks<D: Disk, K: Sink>(
+    alloc: Global,
+    asks: &[FoundAsk],
+    store: &mut Store<D>,
+    line_buffer: LineBuffer,
+    sink: &mut K,
+) -> Option<Refusal>
+    requires found { AreFound store.old.head asks.now }
+    requires empty { line_buffer ≡ [] }
+    ensures printed { ArePrinted (asks_found asks.now) result (K.state sink.old).written (K.state sink.new).written
+        (archive_asks_text (filled_of store.old) 1 (asks_found asks.now)) }
+    ensures writes_counted { WritesCounted result (K.state sink.old).faults (K.state sink.new).faults }
+    ensures writes_later { (K.state sink.old).faults ≤ (K.state sink.new).faults }
+    ensures same { store.new ≡ store.old }
+{
+    let mut line_buffer = line_buffer;
+    match print_asks(alloc, asks, store, &mut line_buffer, sink) {
+        Ok(()) => finish(line_buffer, sink),
+        Err(fault) => Some(Refusal::from(fault)),
+    }
+}

@@ -1,0 +1,158 @@
+//! The command `query --sql`: the answers of an archive to a script.
+
+ghost use Rattle.std.specs.Prelude.{◌≡◌, [], length, IsSome, IsTrue};
+ghost use Rattle.std.specs.List.{AllByRecursion};
+ghost use Rattle.archive_store.specs.StoreView.{archive_of};
+ghost use Rattle.command_plans.specs.Plan.{IsDue};
+ghost use Rattle.ssql_types.specs.Laws.{NamesTables};
+ghost use Rattle.command_runs.specs.Command.{Ran, RanOver, effects_of};
+ghost use Rattle.command_runs.specs.Report.{disk_of_work, report_of_work, status_at};
+ghost use Rattle.query_commands.specs.SqlReplying.{IsTextPrinted, IsTextReply};
+ghost use Rattle.query_commands.specs.Sql.{archive_text_plan, sql_plan};
+ghost use Rattle.script_answers.specs.Statements.{packet_names, statements_text};
+
+use arch_disk::Disk;
+use arch_types::name::Names;
+use archive_store::Store;
+use command_plans::read::read_limited;
+use command_runs::finishing::finish;
+use command_runs::report::{Ended, Report};
+use dump_lines::line_buffer::LineBuffer;
+use outer_traits::inputs::Inputs;
+use outer_traits::sink::Sink;
+use refusals::{Refusal, Which};
+use script_answers::scripts::typed_text;
+use script_answers::statements::answer_statements;
+use ssql_types::laws::typed_names_tables;
+use ssql_types::place::ScriptPlace;
+use ssql_types::statement::TypedStatement;
+use std::alloc::Global;
+
+/// Answers the statements of a script over the whole history of a disk's archive.
+///
+/// Refuses, in this order: by `Missing`, `ReadFault` or `Limit` ScriptOctets; by `DiskFault`, `NoArchive` or `Damaged`; by `BadSql` of rule 1 or 2,
+/// `Limit` Statements or SqlDepth; at the first token with which something is wrong by `BadSql` of another rule or `UnknownTable`; by `WriteFault`.
+/// `OutOfMemory` may come anywhere, also after some answers.
+pub fn query_sql<D: Disk, I: Inputs, K: Sink>(
+    alloc: Global,
+    name: &str,
+    disk: D,
+    inputs: &mut I,
+    sink: &mut K,
+) -> Ended<D>
+    // It took a way through its plan: where that ends stands what was printed, what became of the disk, what is reported, how many
+    // sources were given, and which calls failed.
+    ensures ran { RanOver D.device
+        (sql_plan D.device disk (I.state inputs.old).files name.now)
+        (effects_of disk result.disk (K.state sink.old) (K.state sink.new) result.report)
+        (I.state inputs.old) (I.state inputs.new) }
+
+    // Where disk and inputs are known the answer that is due comes, or that of an interruption at its place.
+    ensures due { IsTrue D.device.is_transparent → IsSome (I.state inputs.old).files →
+        IsDue (sql_plan D.device disk (I.state inputs.old).files name.now) result.report.refusal }
+
+    // The number of the refusal, and 0 exactly where there's none.
+    ensures status { result.status ≡ status_at result.report.refusal }
+{
+    Ended::of_work(work(alloc, name, disk, inputs, sink))
+}
+
+/// Does the command.
+fn work<D: Disk, I: Inputs, K: Sink>(
+    alloc: Global,
+    name: &str,
+    disk: D,
+    inputs: &mut I,
+    sink: &mut K,
+) -> Result<(D, Report), (D, Refusal)>
+    ensures { RanOver D.device (sql_plan D.device disk (I.state inputs.old).files name.now)
+        (effects_of disk (disk_of_work result) (K.state sink.old) (K.state sink.new) (report_of_work result))
+        (I.state inputs.old) (I.state inputs.new) }
+{
+    match read_limited(alloc, inputs, name, Which::ScriptOctets) {
+        Ok(octets) => ask_archive(alloc, octets.as_slice(), disk, sink),
+        Err(refusal) => Err((disk, refusal)),
+    }
+}
+
+/// Opens the archive of a disk, and answers a text.
+fn ask_archive<D: Disk, K: Sink>(
+    alloc: Global,
+    text: &[u8],
+    disk: D,
+    sink: &mut K,
+) -> Result<(D, Report), (D, Refusal)>
+    // It took a way through its plan.
+    ensures { Ran D.device (archive_text_plan D.device disk text.now) (effects_of disk (disk_of_work result)
+        (K.state sink.old) (K.state sink.new) (report_of_work result)) }
+{
+    let Ok(line_buffer) = LineBuffer::new(alloc) else {
+        return Err((disk, Refusal::OutOfMemory));
+    };
+    let store = Store::open(alloc, disk)?;
+    let rows = store.front();
+    let refusal = answer_text(alloc, text, &store, line_buffer, sink);
+    Ok((store.into_disk(), Report::read_only(refusal, rows)))
+}
+
+/// Answers a text, or says why it is refused.
+fn answer_text<D: Disk, K: Sink>(
+    alloc: Global,
+    text: &[u8],
+    store: &Store<D>,
+    line_buffer: LineBuffer,
+    sink: &mut K,
+) -> Option<Refusal>
+    requires { line_buffer ≡ [] }
+    ensures { IsTextReply (archive_of store.now) text.now result (K.state sink.old) (K.state sink.new) }
+{
+    match store.names(alloc) {
+        Ok(names) => answer_over(alloc, text, &names, store, line_buffer, sink),
+        Err(refusal) => Some(refusal),
+    }
+}
+
+/// The same beside the packet names.
+fn answer_over<D: Disk, K: Sink>(
+    alloc: Global,
+    text: &[u8],
+    names: &Names,
+    store: &Store<D>,
+    line_buffer: LineBuffer,
+    sink: &mut K,
+) -> Option<Refusal>
+    requires names { names.now ≡ packet_names store.now.head }
+    requires empty { line_buffer ≡ [] }
+    ensures { IsTextReply (archive_of store.now) text.now result (K.state sink.old) (K.state sink.new) }
+{
+    typed_names_tables();
+    let head = store.head();
+    // It tells the proof how many packet names there may be.
+    let _containers = head.mdb.containers();
+    match typed_text(alloc, text, ScriptPlace::Sql, &head.tables, names) {
+        Ok(script) => print_answers(alloc, script.as_slice(), names, store, line_buffer, sink),
+        Err(refusal) => Some(refusal),
+    }
+}
+
+/// Prints the answers to statements, and what is still buffered.
+fn print_answers<D: Disk, K: Sink>(
+    alloc: Global,
+    statements: &[TypedStatement],
+    names: &Names,
+    store: &Store<D>,
+    line_buffer: LineBuffer,
+    sink: &mut K,
+) -> Option<Refusal>
+    requires names { names.now ≡ packet_names store.now.head }
+    requires tables { AllByRecursion (NamesTables (length store.now.head.tables)) statements.now }
+    requires empty { line_buffer ≡ [] }
+    ensures { IsTextPrinted result (K.state sink.old) (K.state sink.new)
+        (statements_text (archive_of store.now) statements.now) }
+{
+    let mut line_buffer = line_buffer;
+    match answer_statements(alloc, statements, names, store, &mut line_buffer, sink) {
+        Ok(()) => finish(line_buffer, sink),
+        Err(fault) => Some(Refusal::from(fault)),
+    }
+}

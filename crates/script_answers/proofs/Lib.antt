@@ -1,0 +1,5 @@
+pub mod HeldParts
+pub mod RisingParts
+pub mod ScriptAnswers
+pub mod ScriptLimits
+pub mod Unprinted

@@ -1,0 +1,13 @@
+use Rattle.std.proofs.Common.{◌≤◌, List, length, arith}
+use Rattle.std.specs.Prelude.{Ok}
+use Rattle.arch_types.specs.declared.row.Row.{Row}
+use Rattle.refusals.specs.declared.refusal.Refusal.{Refusal}
+use Rattle.script_answers.proofs.HeldParts.{whole_selection}
+use Rattle.script_answers.proofs.statements.selection.Goals as goal
+
+pub returns-clause-text : goal.returns-clause-text
+returns-clause-text g c =
+    let history : List Row = c.args.store.now.history in
+    let all : length history ≤ c.front-front.result = omega (arith, c.front-front.ensures.front) in
+    whole_selection {E = Refusal} c.args.names.now c.args.query.now c.in_ok-parts.parts history c.front-front.result (Ok c.in_ok-select.field-0) all c.in_ok-parts.ensures.held
+    (rw c.source-source.ensures at c.in_ok-select.ensures.text)

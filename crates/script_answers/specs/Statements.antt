@@ -1,0 +1,89 @@
+-- What an archive answers to the statements of a script.
+use Rattle.std.specs.Prelude.{◌≡◌, ℕ, List, [], ◌∷◌, ◌++◌, flat_map, length, map}
+use Rattle.std.specs.List.{range_with_len}
+use Rattle.std.specs.declared.cmp.Ordering.{Ordering}
+use Rattle.std.specs.declared.cmp.Ordering.TheVariants.{Less, Equal, Greater}
+use Rattle.arch_types.specs.declared.row.Row.{Row}
+use Rattle.histogram.specs.Times.{spans_of_times, times_of}
+use Rattle.partitions.specs.declared.bounds.Bounds.{Bounds}
+use Rattle.partitions.specs.declared.partition.Partition.{Partition}
+use Rattle.partitions.specs.Partition.{partition_cmp, partition_of}
+use Rattle.history_items.specs.Items.{Item, rows_in}
+use Rattle.archive_history.specs.PartitionedTable.{named_times_of}
+use Rattle.archive_history.specs.History.{rows_in_table}
+use Rattle.archive_store.specs.declared.head.Head.{Head}
+use Rattle.archive_store.specs.Entries.{Archive}
+use Rattle.archive_store.specs.Replays.{AreParts}
+use Rattle.ssql_select.specs.declared.show.ShowLine.{ShowLine}
+use Rattle.ssql_select.specs.declared.show.ShowLine.TheVariants.{Histogram}
+use Rattle.ssql_select.specs.SelectionText.{selection_text}
+use Rattle.ssql_select.specs.ShowText.{partition_lines, show_text}
+use Rattle.ssql_types.specs.declared.statement.TypedStatement.{TypedStatement}
+use Rattle.ssql_types.specs.declared.statement.TypedStatement.TheVariants as ts
+
+-- the packet names of an archive, in the order of their numbers
+abbrev pub packet_names : Head → List (List ℕ)
+packet_names head = map (λ c. c.name) head.mdb.containers
+
+-- ---- queries
+
+-- the partitions that are read for some tables in some bounds: those of a table that may hold a row there, and behind
+-- them those of the next
+abbrev pub AreSourceParts : List Item → Bounds → List ℕ → List Partition → Type 0
+AreSourceParts history bounds [] parts = parts ≡ []
+AreSourceParts history bounds (table ∷ tables) parts =
+    (own : List Partition) × (others : List Partition) × AreParts history table bounds own
+    × AreSourceParts history bounds tables others × (parts ≡ own ++ others)
+
+-- ---- SHOW PARTITIONS
+
+-- a partition and others that rise, by how it compares with the first of these; behind the first the rest stands with
+-- the partition
+abbrev pub placed_by : Ordering → Partition → Partition → List Partition → List Partition → List Partition
+placed_by Less partition first rest with_rest = partition ∷ first ∷ rest
+placed_by Equal partition first rest with_rest = first ∷ rest
+placed_by Greater partition first rest with_rest = first ∷ with_rest
+
+-- partitions that rise, and one at its place among them, unless it is there
+abbrev pub with_part : Partition → List Partition → List Partition
+with_part partition [] = partition ∷ []
+with_part partition (first ∷ rest) =
+    placed_by (partition_cmp partition first) partition first rest (with_part partition rest)
+
+-- the partitions of rows, each once, by day and then by the packet name's number
+abbrev pub parts_of_rows : List Row → List Partition
+parts_of_rows [] = []
+parts_of_rows (row ∷ rows) = with_part (partition_of row.key.time row.pname) (parts_of_rows rows)
+
+-- the partitions of a table with their rows
+abbrev pub table_partitions : ℕ → List Row → List ShowLine
+table_partitions table history =
+    partition_lines (length history) table history (parts_of_rows (rows_in_table table history))
+
+-- ---- SHOW HISTOGRAM
+
+-- the records of a packet name's rows
+abbrev pub name_spans : List Row → ℕ → List ShowLine
+name_spans rows pname = map (Histogram pname) (spans_of_times (times_of pname (named_times_of rows)))
+
+-- the records of a table, by the number of the packet name and then by time
+abbrev pub table_spans : ℕ → ℕ → List Row → List ShowLine
+table_spans names table history = flat_map (name_spans (rows_in_table table history)) (range_with_len 0 names)
+
+-- ---- statements
+
+-- what is answered to a statement; nothing where it isn't a query or SHOW
+abbrev pub statement_text : Archive → TypedStatement → List ℕ
+statement_text archive (ts.CreateTable name) = []
+statement_text archive (ts.CreateStream flow) = []
+statement_text archive (ts.Insert table flow) = []
+statement_text archive (ts.Select select) = selection_text (packet_names archive.head) select (rows_in archive.history)
+statement_text archive (ts.ShowHistogram table) =
+    show_text (packet_names archive.head)
+    (table_spans (length archive.head.mdb.containers) table (rows_in archive.history))
+statement_text archive (ts.ShowPartitions table) =
+    show_text (packet_names archive.head) (table_partitions table (rows_in archive.history))
+
+-- the answers to statements, one behind the other
+abbrev pub statements_text : Archive → List TypedStatement → List ℕ
+statements_text archive statements = flat_map (statement_text archive) statements

@@ -1,0 +1,274 @@
+//! The answers of an archive to the statements of a script.
+
+ghost use Rattle.std.specs.Prelude.{◌≡◌, ◌<◌, ◌++◌, length, map, IfOk, IfErr, OnOk};
+ghost use Rattle.std.specs.List.{AllByRecursion};
+ghost use Rattle.archive_store.specs.StoreView.{archive_of};
+ghost use Rattle.history_items.specs.Items.{rows_in};
+ghost use Rattle.ssql_conditions.specs.ConditionBounds.{bounds_of};
+ghost use Rattle.dump_lines.specs.Printed.{PrintsText};
+ghost use Rattle.ssql_select.specs.Selection.{HoldsSelected};
+ghost use Rattle.ssql_select.specs.SelectionText.{selection_text};
+ghost use Rattle.ssql_types.specs.Laws.{NamesTables};
+ghost use Rattle.script_answers.specs.Statements as spec;
+ghost use Rattle.dump_lines.specs.LineRoom.{HasLineRoom};
+
+use arch_disk::Disk;
+use arch_types::name::Names;
+use arch_types::spans::Span;
+use arch_types::steps::Steps;
+use archive_store::Store;
+use archive_store::laws::archived_rows_have_clock_times;
+use dump_lines::line_buffer::LineBuffer;
+use outer_traits::print_fault::PrintFault;
+use outer_traits::sink::Sink;
+use partitions::bounds::Bounds;
+use partitions::lists::PartList;
+use refusals::Refusal;
+use ssql_conditions::bounds::{all_bounds, bounds};
+use ssql_select::laws::pruned_holds_selected;
+use ssql_select::select::select;
+use ssql_select::selection_text::SelectionText;
+use ssql_select::show::{ShowLine, partition_lines, print_show};
+use ssql_types::query::TypedSelect;
+use ssql_types::statement::TypedStatement;
+use std::alloc::{AllocError, Global};
+use std::marker::Brand;
+use std::sync::ledger::{Blank, Ledger};
+
+/// Prints the answers to statements, of which the last may still be buffered.
+pub fn answer_statements<D: Disk, K: Sink>(
+    alloc: Global,
+    statements: &[TypedStatement],
+    names: &Names,
+    store: &Store<D>,
+    line_buffer: &mut LineBuffer,
+    sink: &mut K,
+) -> Result<(), PrintFault>
+    requires names { names.now ≡ spec.packet_names store.now.head }
+    requires tables { AllByRecursion (NamesTables (length store.now.head.tables)) statements.now }
+    requires room { HasLineRoom line_buffer.old }
+    ensures { PrintsText result (K.state sink.old) (K.state sink.new)
+        (line_buffer.old ++ spec.statements_text (archive_of store.now) statements.now) line_buffer.new }
+{
+    for statement in statements {
+        answer_statement(alloc, statement, names, store, line_buffer, sink)?;
+    }
+    Ok(())
+}
+
+/// Prints the answer to a statement, whose end may still be buffered.
+fn answer_statement<D: Disk, K: Sink>(
+    alloc: Global,
+    statement: &TypedStatement,
+    names: &Names,
+    store: &Store<D>,
+    line_buffer: &mut LineBuffer,
+    sink: &mut K,
+) -> Result<(), PrintFault>
+    requires names { names.now ≡ spec.packet_names store.now.head }
+    requires tables { NamesTables (length store.now.head.tables) statement.now }
+    requires room { HasLineRoom line_buffer.old }
+    ensures { PrintsText result (K.state sink.old) (K.state sink.new)
+        (line_buffer.old ++ spec.statement_text (archive_of store.now) statement.now) line_buffer.new }
+{
+    match statement {
+        TypedStatement::Select(query) => {
+            print_selection(alloc, query, names, store, line_buffer, sink)
+        }
+        TypedStatement::ShowHistogram(table) => {
+            print_spans(alloc, *table, names, store, line_buffer, sink)
+        }
+        TypedStatement::ShowPartitions(table) => {
+            print_partitions(alloc, *table, names, store, line_buffer, sink)
+        }
+        // these stand in other scripts
+        TypedStatement::CreateTable(_) => Ok(()),
+        TypedStatement::CreateStream(_) => Ok(()),
+        TypedStatement::Insert { .. } => Ok(()),
+    }
+}
+
+/// How printing fails where the rows in memory refuse: nothing but more memory may be wanting.
+fn memory_fault(refusal: Refusal) -> PrintFault
+    requires { refusal ≡ Refusal.OutOfMemory }
+    ensures { result ≡ PrintFault.OutOfMemory }
+{
+    let _wanting = refusal;
+    PrintFault::OutOfMemory
+}
+
+/// Prints what a query selects.
+fn print_selection<D: Disk, K: Sink>(
+    alloc: Global,
+    query: &TypedSelect,
+    names: &Names,
+    store: &Store<D>,
+    line_buffer: &mut LineBuffer,
+    sink: &mut K,
+) -> Result<(), PrintFault>
+    requires names { names.now ≡ spec.packet_names store.now.head }
+    requires tables { AllByRecursion (λ table. table < length store.now.head.tables) query.now.sources }
+    requires room { HasLineRoom line_buffer.old }
+    ensures { PrintsText result (K.state sink.old) (K.state sink.new)
+        (line_buffer.old ++ spec.statement_text (archive_of store.now) (TypedStatement.Select query.now))
+        line_buffer.new }
+{
+    match selection::<D, Brand>(alloc, Blank::new(1), query, names, store) {
+        Ok(text) => text.print(alloc, line_buffer, sink),
+        Err(refusal) => Err(memory_fault(refusal)),
+    }
+}
+
+/// Prints the partitions of a table.
+fn print_partitions<D: Disk, K: Sink>(
+    alloc: Global,
+    table: u8,
+    names: &Names,
+    store: &Store<D>,
+    line_buffer: &mut LineBuffer,
+    sink: &mut K,
+) -> Result<(), PrintFault>
+    requires names { names.now ≡ spec.packet_names store.now.head }
+    requires tables { table < length store.now.head.tables }
+    requires room { HasLineRoom line_buffer.old }
+    ensures { PrintsText result (K.state sink.old) (K.state sink.new)
+        (line_buffer.old ++ spec.statement_text (archive_of store.now) (TypedStatement.ShowPartitions table))
+        line_buffer.new }
+{
+    match table_partitions(alloc, table, store) {
+        Ok(lines) => print_show(alloc, names, lines.as_slice(), line_buffer, sink),
+        Err(refusal) => Err(memory_fault(refusal)),
+    }
+}
+
+/// Prints the records of a table.
+fn print_spans<D: Disk, K: Sink>(
+    alloc: Global,
+    table: u8,
+    names: &Names,
+    store: &Store<D>,
+    line_buffer: &mut LineBuffer,
+    sink: &mut K,
+) -> Result<(), PrintFault>
+    requires names { names.now ≡ spec.packet_names store.now.head }
+    requires tables { table < length store.now.head.tables }
+    requires room { HasLineRoom line_buffer.old }
+    ensures { PrintsText result (K.state sink.old) (K.state sink.new)
+        (line_buffer.old ++ spec.statement_text (archive_of store.now) (TypedStatement.ShowHistogram table))
+        line_buffer.new }
+{
+    match table_spans(alloc, table, store) {
+        Ok(lines) => print_show(alloc, names, lines.as_slice(), line_buffer, sink),
+        Err(refusal) => Err(memory_fault(refusal)),
+    }
+}
+
+/// What a query selects of the rows of an archive, in steps that nobody counts.
+fn selection<'a, D: Disk, L: Ledger>(
+    alloc: Global,
+    blank: Blank,
+    query: &'a TypedSelect,
+    names: &'a Names,
+    store: &Store<D>,
+) -> Result<SelectionText<'a>, Refusal>
+    requires tables { AllByRecursion (λ table. table < length store.now.head.tables) query.now.sources }
+    requires blank { (blank.name ≡ L.name) × (blank.parts ≡ L.parts) × (0 < blank.parts) }
+    ensures text { IfOk result (λ text. text ≡ selection_text names.now query.now (rows_in store.now.history)) }
+    ensures refused { IfErr result (λ refusal. refusal ≡ Refusal.OutOfMemory) }
+{
+    let parts = held_parts(alloc, query, store)?;
+    let (book, share) = blank.open::<L>();
+    let mut steps = Steps::new(book, share);
+    let mut source = store.source();
+    let front = store.front();
+    Ok(select(alloc, query, names, &mut source, &parts, front, &mut steps)?)
+}
+
+/// The partitions that hold what a query selects: of each source those that may hold a row in the bounds of the condition.
+fn held_parts<D: Disk>(
+    alloc: Global,
+    query: &TypedSelect,
+    store: &Store<D>,
+) -> Result<PartList, Refusal>
+    requires { AllByRecursion (λ table. table < length store.now.head.tables) query.now.sources }
+    ensures held { IfOk result (λ parts. HoldsSelected query.now parts (rows_in store.now.history)) }
+    ensures pruned { IfOk result
+        (spec.AreSourceParts store.now.history (bounds_of query.now.condition) query.now.sources) }
+    ensures refused { IfErr result (λ refusal. refusal ≡ Refusal.OutOfMemory) }
+{
+    pruned_holds_selected();
+    archived_rows_have_clock_times();
+    // It tells the proof of which rows the history is.
+    let _front = store.front();
+    let bounds = bounds(alloc, &query.condition)?;
+    pruned_parts(alloc, query.sources.as_slice(), store, &bounds)
+}
+
+/// The partitions of some tables that may hold a row in the bounds, those of each table behind those of the table before.
+fn pruned_parts<D: Disk>(
+    alloc: Global,
+    tables: &[u8],
+    store: &Store<D>,
+    bounds: &Bounds,
+) -> Result<PartList, Refusal>
+    requires { AllByRecursion (λ table. table < length store.now.head.tables) tables.now }
+    ensures pruned { IfOk result (spec.AreSourceParts store.now.history bounds.now tables.now) }
+    ensures refused { IfErr result (λ refusal. refusal ≡ Refusal.OutOfMemory) }
+{
+    let mut parts = Vec::new(alloc);
+    for table in tables {
+        let found = store.parts(*table, bounds)?;
+        let mut more = found.into_vec();
+        parts.append(&mut more)?;
+    }
+    Ok(PartList::from_vec(parts))
+}
+
+/// The partitions of a table that have a row, with how many they have.
+fn table_partitions<D: Disk>(
+    alloc: Global,
+    table: u8,
+    store: &Store<D>,
+) -> Result<Vec<ShowLine>, Refusal>
+    requires { table < length store.now.head.tables }
+    ensures lines { IfOk result (λ lines. lines.items
+        ≡ spec.table_partitions table (rows_in store.now.history)) }
+    ensures refused { IfErr result (λ refusal. refusal ≡ Refusal.OutOfMemory) }
+{
+    archived_rows_have_clock_times();
+    let bounds = all_bounds();
+    let parts = store.parts(table, &bounds)?;
+    let mut source = store.source();
+    let front = store.front();
+    Ok(partition_lines(alloc, &mut source, table, parts.as_slice(), front)?)
+}
+
+/// The records of a table, packet name after packet name.
+fn table_spans<D: Disk>(
+    alloc: Global,
+    table: u8,
+    store: &Store<D>,
+) -> Result<Vec<ShowLine>, Refusal>
+    requires { table < length store.now.head.tables }
+    ensures lines { IfOk result (λ lines. lines.items
+        ≡ spec.table_spans (length store.now.head.mdb.containers) table (rows_in store.now.history)) }
+    ensures refused { IfErr result (λ refusal. refusal ≡ Refusal.OutOfMemory) }
+{
+    let names = store.head().mdb.containers();
+    let mut lines = Vec::new(alloc);
+    for pname in 0..names {
+        let spans = store.histogram(table, pname)?;
+        add_spans(&mut lines, pname, spans.as_slice())?;
+    }
+    Ok(lines)
+}
+
+/// Adds the records of a packet name.
+fn add_spans(lines: &mut Vec<ShowLine>, pname: u16, spans: &[Span]) -> Result<(), AllocError>
+    ensures { OnOk result (lines.new.items ≡ lines.old.items ++ map (ShowLine.Histogram pname) spans.now) }
+{
+    for span in spans {
+        lines.push(ShowLine::Histogram { pname, span: *span })?;
+    }
+    Ok(())
+}
