@@ -1,5 +1,5 @@
 -- Stores whose history goes on, and fills that stay right for them.
-use Rattle.std.proofs.Common.{◌≡◌, List, ◌++◌, refl, sym, ◌∙◌, ap, subst, append_assoc}
+use Rattle.std.proofs.Common.{◌≡◌, ℕ, List, ◌++◌, refl, sym, ◌∙◌, ap, subst, append_assoc}
 use mathlib.Core.List.{IsPrefix}
 use Rattle.store_fills.specs.Built.{BuiltFill}
 use Rattle.store_fills.specs.Filled.{IsRightFill}
@@ -14,16 +14,18 @@ prefix_on {A = A} xs ys zs first next = (first.0 ++ next.0, sym (append_assoc xs
 
 module _ {D : Type 0} where
   pub stays : (store : StoreView D) → GoesOnFrom store store
-  stays store = record { history = prefix_self store.history; head = refl }
+  stays store = record { history = prefix_self store.history; head = refl; exponent = refl }
 
   pub goes_on : (old mid new : StoreView D) → GoesOnFrom old mid → GoesOnFrom mid new → GoesOnFrom old new
   goes_on old mid new first next = record {
     history = prefix_on old.history mid.history new.history first.history next.history;
     head = next.head ∙ first.head;
+    exponent = next.exponent ∙ first.exponent;
   }
 
   pub stays_right : (old new : StoreView D) (done : BuiltFill) → GoesOnFrom old new → IsRightFor old done → IsRightFor new done
   stays_right old new done on right =
-      subst (λ (h : Head). IsRightFill 22 h.mdb new.history done.interval done.base done.set) (sym on.head)
-      (subst (λ l. IsRightFill 22 old.head.mdb l done.interval done.base done.set) on.history.1
-      (right_fill_stays 22 old.head.mdb old.history on.history.0 done.interval done.base done.set right))
+      subst (λ (e : ℕ). IsRightFill e new.head.mdb new.history done.interval done.base done.set) (sym on.exponent)
+      (subst (λ (h : Head). IsRightFill old.exponent h.mdb new.history done.interval done.base done.set) (sym on.head)
+      (subst (λ l. IsRightFill old.exponent old.head.mdb l done.interval done.base done.set) on.history.1
+      (right_fill_stays old.exponent old.head.mdb old.history on.history.0 done.interval done.base done.set right)))

@@ -5,11 +5,12 @@ use Rattle.archive_store.specs.StoreView.{StoreView}
 use Rattle.store_fills.specs.Built.{BuiltFill}
 use Rattle.store_fills.specs.Filled.{IsRightFill}
 
--- the history goes on from the old one, and the head stays
+-- the history goes on from the old one, and head and exponent stay
 pub record GoesOnFrom {D : Type 0} (old new : StoreView D) : Type 0 where
   pub history : IsPrefix old.history new.history
   pub head : new.head ≡ old.head
+  pub exponent : new.exponent ≡ old.exponent
 
 -- a fill that is built is right for a store
 abbrev pub IsRightFor : {D : Type 0} → StoreView D → BuiltFill → Type 0
-IsRightFor store done = IsRightFill 22 store.head.mdb store.history done.interval done.base done.set
+IsRightFor store done = IsRightFill store.exponent store.head.mdb store.history done.interval done.base done.set

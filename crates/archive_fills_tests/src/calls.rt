@@ -73,7 +73,7 @@ fn ingested<D: Disk>(
 }
 
 /// Whether a packet is answered so.
-fn is_ingested<D: Disk>(
+pub(crate) fn is_ingested<D: Disk>(
     alloc: Global,
     store: &mut Store<D>,
     incoming: Incoming,
@@ -139,8 +139,20 @@ fn gives_up<D: Disk>(alloc: Global, store: &mut Store<D>, expected: &Task) -> bo
     }
 }
 
+/// Whether it is this one; any is where none is expected.
+fn is_expected(task: &FillTask, expected: &Option<Task>) -> bool {
+    match expected {
+        Some(expected) => is_task(task, expected),
+        None => true,
+    }
+}
+
 /// The fill of a task that begins, where it is this one.
-pub(crate) fn built<D: Disk>(alloc: Global, store: &mut Store<D>, expected: &Task) -> Option<Filled>
+pub(crate) fn built<D: Disk>(
+    alloc: Global,
+    store: &mut Store<D>,
+    expected: &Option<Task>,
+) -> Option<Filled>
     ensures right { IfSome result (IsRightFor store.new) }
     ensures goes_on { GoesOnFrom store.old store.new }
 {
@@ -150,7 +162,7 @@ pub(crate) fn built<D: Disk>(alloc: Global, store: &mut Store<D>, expected: &Tas
     let Some(task) = begun else {
         return None;
     };
-    if !is_task(&task, expected) {
+    if !is_expected(&task, expected) {
         store.abandon(task);
         return None;
     }
@@ -175,7 +187,12 @@ pub(crate) fn is_installed<D: Disk>(store: &mut Store<D>, filled: Filled, outcom
 }
 
 /// Whether this fill begins, and its installing is answered so.
-fn fills<D: Disk>(alloc: Global, store: &mut Store<D>, expected: &Task, outcome: Outcome) -> bool
+pub(crate) fn fills<D: Disk>(
+    alloc: Global,
+    store: &mut Store<D>,
+    expected: &Option<Task>,
+    outcome: Outcome,
+) -> bool
     ensures { GoesOnFrom store.old store.new }
 {
     match built(alloc, store, expected) {
@@ -223,7 +240,7 @@ fn is_answered<D: Disk>(alloc: Global, store: &mut Store<D>, call: &Call) -> boo
         Call::Refused(incoming, why) => is_ingested(alloc, store, *incoming, Err(*why)),
         Call::Begin(task) => begins(alloc, store, task),
         Call::GiveUp(task) => gives_up(alloc, store, task),
-        Call::Fill(task, outcome) => fills(alloc, store, task, *outcome),
+        Call::Fill(task, outcome) => fills(alloc, store, &Some(*task), *outcome),
         Call::Settle => {
             store.settle();
             true

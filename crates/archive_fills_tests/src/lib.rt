@@ -1,5 +1,5 @@
 // Tests of fills: how archive_store begins, builds, installs and gives them up, what a disk that fails leaves of an install, what crashes leave, and which
-// records of fills are damage; what plans over ranges have of late intervals; how store_fills keeps a fill in place of another; and what archive_verify
+// records of fills are damage; many flights at once, and thousands of fills; what plans over ranges have of late intervals; how store_fills keeps a fill in place of another; and what archive_verify
 // finds of those that aren't right.
 //
 // A test lists calls and their answers as data (`Step`), or the records of a journal and what is found there. Only `of_store` and its like own a store and
@@ -17,6 +17,8 @@ mod faults;
 mod fills;
 #[cfg(test)]
 mod journals;
+#[cfg(test)]
+mod many;
 #[cfg(test)]
 mod parts;
 #[cfg(test)]

@@ -46,10 +46,11 @@ fn planned<D: Disk>(alloc: Global, store: &mut Store<D>, from: i64, to: i64) -> 
 
 /// Whether a part is this one.
 fn is_part(part: &Part, expected: &Over) -> bool {
+    let of = part.interval().0;
     match (part, expected) {
-        (Part::Set { interval: of, .. }, Over::Set(interval)) => of.0 == *interval,
-        (Part::Rows { interval: of, rows }, Over::Rows(interval, packets)) => {
-            of.0 == *interval && are_packets(rows.as_slice(), packets)
+        (Part::Set { .. }, Over::Set(interval)) => of == *interval,
+        (Part::Rows { rows, .. }, Over::Rows(interval, packets)) => {
+            of == *interval && are_packets(rows.as_slice(), packets)
         }
         _ => false,
     }

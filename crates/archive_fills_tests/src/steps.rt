@@ -19,7 +19,7 @@ pub enum Step {
 fn fills_across<D: Disk>(
     alloc: Global,
     store: &mut Store<D>,
-    task: &Task,
+    task: &Option<Task>,
     calls: &[Call],
     outcome: Outcome,
 ) -> bool {
@@ -34,7 +34,9 @@ fn fills_across<D: Disk>(
 fn is_made<D: Disk>(alloc: Global, store: &mut Store<D>, step: &Step) -> bool {
     match step {
         Step::Calls(calls) => are_answered(alloc, store, calls),
-        Step::Fill(task, calls, outcome) => fills_across(alloc, store, task, calls, *outcome),
+        Step::Fill(task, calls, outcome) => {
+            fills_across(alloc, store, &Some(*task), calls, *outcome)
+        }
     }
 }
 

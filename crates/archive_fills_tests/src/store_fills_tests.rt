@@ -5,7 +5,7 @@ use param_segments::SetBuilder;
 use std::alloc::{AllocError, Global};
 use std::sync::Arc;
 use std::test::Fail;
-use store_fills::FilledSets;
+use store_fills::LastFills;
 
 /// Fills that are put one after the other: the interval, and the base.
 const FILLS: &[(i64, u64)] = &[(3, 5), (-1, 6), (3, 9), (0, 9), (-1, 12)];
@@ -29,7 +29,7 @@ fn bases() -> &'static [(i64, Option<u64>)] {
 }
 
 /// Puts a fill with a set of no rows.
-fn put(alloc: Global, sets: &mut FilledSets, interval: i64, base: u64) -> Result<(), AllocError> {
+fn put(alloc: Global, sets: &mut LastFills, interval: i64, base: u64) -> Result<(), AllocError> {
     let set = SetBuilder::new(alloc).set(alloc)?;
     let shared = Arc::new(alloc, set)?;
     sets.reserve()?;
@@ -37,7 +37,7 @@ fn put(alloc: Global, sets: &mut FilledSets, interval: i64, base: u64) -> Result
     Ok(())
 }
 
-fn put_all(alloc: Global, sets: &mut FilledSets, fills: &[(i64, u64)]) -> Result<(), AllocError> {
+fn put_all(alloc: Global, sets: &mut LastFills, fills: &[(i64, u64)]) -> Result<(), AllocError> {
     for (interval, base) in fills {
         put(alloc, sets, *interval, *base)?;
     }
@@ -45,7 +45,7 @@ fn put_all(alloc: Global, sets: &mut FilledSets, fills: &[(i64, u64)]) -> Result
 }
 
 /// The base of the fill of an interval.
-fn base_of(sets: &FilledSets, interval: i64) -> Option<u64> {
+fn base_of(sets: &LastFills, interval: i64) -> Option<u64> {
     match sets.get(Interval(interval)) {
         Some(fill) => Some(fill.base),
         None => None,
@@ -53,7 +53,7 @@ fn base_of(sets: &FilledSets, interval: i64) -> Option<u64> {
 }
 
 /// The first of the intervals whose fill has another base.
-fn other(sets: &FilledSets, bases: &[(i64, Option<u64>)]) -> Option<i64> {
+fn other(sets: &LastFills, bases: &[(i64, Option<u64>)]) -> Option<i64> {
     for (interval, base) in bases {
         if base_of(sets, *interval) != *base {
             return Some(*interval);
@@ -64,7 +64,7 @@ fn other(sets: &FilledSets, bases: &[(i64, Option<u64>)]) -> Option<i64> {
 
 /// The same once these fills are put. Where memory is wanting for one the last isn't put, so that its interval has another.
 fn other_behind(alloc: Global, fills: &[(i64, u64)], bases: &[(i64, Option<u64>)]) -> Option<i64> {
-    let mut sets = FilledSets::new(alloc);
+    let mut sets = LastFills::new(alloc);
     let _ = put_all(alloc, &mut sets, fills);
     other(&sets, bases)
 }

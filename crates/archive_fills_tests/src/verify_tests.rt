@@ -48,7 +48,7 @@ fn of_answer(answer: Result<Sound, Refusal>) -> Answer {
 }
 
 /// What verifying a store answers that is given up, and its disk.
-fn answer_of<D: Disk>(alloc: Global, store: Result<Store<D>, D>) -> (Answer, D) {
+pub(crate) fn answer_of<D: Disk>(alloc: Global, store: Result<Store<D>, D>) -> (Answer, D) {
     match store {
         Ok(store) => {
             let answer = of_answer(verify(alloc, &store));

@@ -158,7 +158,7 @@ fn part_of(octets: &Octets, from: usize, to: usize) -> Option<Octets> {
     if to < from || octets.len() < to {
         return None;
     }
-    octets.part(from, to).ok()
+    octets.slice(from, to).ok()
 }
 
 /// Of the part from 1 to 4 of the octets 0 to 4 the part from 1 to 2.

@@ -133,8 +133,8 @@ fn other_given(
 
 /// Whether a partition has its two rows of one time.
 fn has_rows_of_one_time(alloc: Global, table: &PartitionedTable) -> Result<bool, AllocError> {
-    let part = Partition { day: 0, pname: 0 };
-    let rows = table.partition_rows(alloc, &part, 15)?;
+    let partition = Partition { day: 0, pname: 0 };
+    let rows = table.partition_rows(alloc, &partition, 15)?;
     Ok(are_of_places(rows.as_slice(), &[13, 14]))
 }
 

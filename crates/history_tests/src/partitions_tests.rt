@@ -95,8 +95,8 @@ fn bounds(alloc: Global, from: i64, to: i64, names: Option<&[u16]>) -> Result<Bo
 
 /// Whether these are the partitions, by their days and packet names.
 fn are_parts(parts: &[Partition], want: &[(i64, u16)]) -> bool {
-    for (part, want) in parts.iter().zip(want) {
-        if (part.day, part.pname) != *want {
+    for (partition, want) in parts.iter().zip(want) {
+        if (partition.day, partition.pname) != *want {
             return false;
         }
     }
@@ -154,9 +154,9 @@ fn partition_places() -> &'static [PartitionPlaces] {
 }
 
 /// Whether a partition has these rows.
-fn has_places(held: &Partitions, part: Partition, want: &[usize]) -> bool {
+fn has_places(held: &Partitions, partition: Partition, want: &[usize]) -> bool {
     let mut at = 0usize;
-    for place in held.places_of(part) {
+    for place in held.places_of(partition) {
         if at >= want.len() || want[at] != place {
             return false;
         }
@@ -169,11 +169,11 @@ fn has_places(held: &Partitions, part: Partition, want: &[usize]) -> bool {
 fn other_places(held: &Partitions, all: &[PartitionPlaces]) -> Option<usize> {
     let mut place = 0usize;
     for (day, pname, want) in all {
-        let part = Partition {
+        let partition = Partition {
             day: *day,
             pname: *pname,
         };
-        if !has_places(held, part, want) || held.row_count(part) != want.len() {
+        if !has_places(held, partition, want) || held.row_count(partition) != want.len() {
             return Some(place);
         }
         place = place.saturating_add(1);

@@ -2,7 +2,7 @@
 
 use crate::parts::none_other;
 use arch_types::octets::Octets;
-use space_packet::dump::{Why, first_packet};
+use space_packet::dump::{DumpPackets, Why, first_packet};
 use space_packet::header::{Header, Version, is_idle_packet};
 use space_packet::key::key_of;
 use space_packet::packets::Split;
@@ -147,7 +147,37 @@ fn other_split(whole: &Split) -> Option<(&'static str, usize)> {
     }
 }
 
+/// What the first packet of a dump tells that is gone through in its place.
+fn first_told(dump: &[u8]) -> Option<Told> {
+    let mut places = DumpPackets::new(dump);
+    let Some(range) = places.next_packet() else {
+        return None;
+    };
+    told(places.octets(range))
+}
+
+/// The dump that many idle packets are.
+fn long_dump(alloc: Global) -> Result<Octets, AllocError> {
+    let mut dump = Vec::new(alloc);
+    for _ in 0..100_000 {
+        dump.extend_from_slice(b"\x07\xFF\xC0\0\0\0\0")?;
+    }
+    Octets::from_vec(alloc, dump)
+}
+
+/// How many packets it is split into, where these are others.
+fn other_count(alloc: Global) -> Result<Option<(&'static str, usize)>, AllocError> {
+    let whole = split(alloc, &long_dump(alloc)?)?;
+    match whole.packets.as_slice().len() {
+        100_000 => Ok(None),
+        count => Ok(Some(("a long dump's packets", count))),
+    }
+}
+
 fn other_of_dump(alloc: Global) -> Result<Option<(&'static str, usize)>, AllocError> {
+    if first_told(dump()) != Some((13, false, 1500, 140_820_480)) {
+        return Ok(Some(("the first packet", 0)));
+    }
     let dump = Octets::from_slice(alloc, dump())?;
     let whole = split(alloc, &dump)?;
     Ok(other_split(&whole))
@@ -166,4 +196,9 @@ fn tells_what_octets_begin_with(rt: HostRuntime) -> Result<(), Fail> {
 #[test]
 fn splits_dumps(rt: HostRuntime) -> Result<(), Fail> {
     none_other(other_of_dump(rt.alloc())?)
+}
+
+#[test]
+fn splits_a_long_dump(rt: HostRuntime) -> Result<(), Fail> {
+    none_other(other_count(rt.alloc())?)
 }

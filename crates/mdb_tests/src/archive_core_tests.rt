@@ -9,7 +9,7 @@ use arch_types::octets::Octets;
 use arch_types::row::{Row, Rows};
 use archive_core::{Core, Event, Reply};
 use asks::{ReplayRequest, Request};
-use intervals::Interval;
+use intervals::{Exponent, Interval};
 use mdb_model::Mdb;
 use std::alloc::{AllocError, Global};
 use std::test::*;
@@ -239,7 +239,7 @@ fn event(alloc: Global, caller: u32, deed: &Deed) -> Option<Event> {
 fn machine(alloc: Global) -> Option<Core> {
     let tables = names(alloc, &[b"tm", b"hk"])?;
     match Mdb::from_bytes(alloc, MDB) {
-        Ok(mdb) => Some(Core::new(alloc, tables, mdb)),
+        Ok(mdb) => Some(Core::new(alloc, tables, mdb, Exponent::of_format_1())),
         Err(_) => None,
     }
 }

@@ -15,7 +15,7 @@ use arch_types::row::{Row, Rows};
 use arch_types::steps::Steps;
 use archive_store::FoundRequest;
 use asks::{Answer, Request};
-use intervals::Interval;
+use intervals::{Exponent, Interval};
 use mdb_model::Mdb;
 use param_segments::{Part, Parts, Plan, SegSet};
 use retrieval::answer::answer;
@@ -179,6 +179,7 @@ fn plan_of(alloc: Global, parts: Parts, mdb: &Mdb) -> Option<Plan>
         Ok(mdb) => match Arc::new(alloc, mdb) {
             Ok(mdb) => Some(Plan {
                 front: 7,
+                exponent: Exponent::of_format_1(),
                 mdb,
                 parts,
             }),
@@ -188,15 +189,12 @@ fn plan_of(alloc: Global, parts: Parts, mdb: &Mdb) -> Option<Plan>
     }
 }
 
-/// A request, with the number of its parameter in the database of a plan.
+/// A request that is found in the database of a plan.
 fn found(plan: &Plan, request: Request) -> Option<FoundRequest> {
-    let number = plan.mdb.parameter_number(request.parameter.as_str())?;
-    let mdb = Arc::try_clone(&plan.mdb).ok()?;
-    Some(FoundRequest {
-        request,
-        mdb,
-        number,
-    })
+    match FoundRequest::of(&plan.mdb, request) {
+        Ok(found) => Some(found),
+        Err(_) => None,
+    }
 }
 
 /// The answer to a request over a plan, where the database has the parameter.

@@ -158,6 +158,35 @@ fn are_labelled(alloc: Global, mdb: &Mdb, labels: &Labels) -> bool {
     }
 }
 
+/// How many cells there are in a long answer, and how long the line of each is.
+const MANY: usize = 100_000;
+
+const LINE: usize = 14;
+
+/// Whether a long answer has a line for each cell.
+fn has_each_line(alloc: Global, answer: &Answer, mdb: &Mdb) -> bool {
+    if mdb.parameters() == 0 {
+        return false;
+    }
+    match answer_text(alloc, answer, mdb, 0) {
+        Ok(text) => text.len() == MANY * LINE,
+        Err(_) => false,
+    }
+}
+
+/// The cells of a long answer.
+fn many_cells(alloc: Global) -> Result<Cells, AllocError> {
+    let engs = Vec::from_elem(alloc, Eng::Whole, MANY)?;
+    cells_of(alloc, engs.as_slice())
+}
+
+fn is_long(alloc: Global, mdb: &Mdb) -> bool {
+    match many_cells(alloc) {
+        Ok(cells) => has_each_line(alloc, &Answer { front: 0, cells }, mdb),
+        Err(_) => false,
+    }
+}
+
 /// The first row of a table whose lines are other ones.
 fn other_lines(alloc: Global, mdb: &Mdb, table: &[Labels]) -> Option<Other> {
     for i in 0..table.len() {
@@ -170,7 +199,13 @@ fn other_lines(alloc: Global, mdb: &Mdb, table: &[Labels]) -> Option<Other> {
 
 fn other(alloc: Global) -> Option<Other> {
     match Mdb::from_bytes(alloc, labelled()) {
-        Ok(mdb) => other_lines(alloc, &mdb, labels()),
+        Ok(mdb) => {
+            if is_long(alloc, &mdb) {
+                other_lines(alloc, &mdb, labels())
+            } else {
+                Some(("a long answer", 0))
+            }
+        }
         Err(_) => Some(("a database", 0)),
     }
 }

@@ -449,6 +449,6 @@ fn one_behind_the_other(rt: HostRuntime) {
 #[test]
 fn prints_faults(rt: HostRuntime) -> Result<(), Fail> {
     let text = format!(in rt.alloc(); "{}, {}", NotASegment::Malformed, NotASegment::OutOfMemory)?;
-    assert!(rt; text.as_str() == "not a segment, out of memory");
+    assert!(rt; text.as_str() == "the octets spell no such value, out of memory");
     Ok(())
 }

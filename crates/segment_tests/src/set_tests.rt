@@ -1,20 +1,24 @@
 //! Sets of packets under worked databases: sets that are built here, and what the octets of sets are read as in
 //! set_reading_tests.rt. A test gives the first case that goes otherwise.
 
+ghost use Rattle.std.specs.Prelude.{◌≡◌, ◌<◌};
 ghost use Rattle.param_segments.specs.Cells.{AreValuesOf};
 
 use crate::ordered::built;
 use crate::set_reading_tests::{
     are_keys_apart, are_ordered, are_segments, other_of_one_group_read,
 };
-use arch_types::cell::Cell;
+use arch_types::cell::{Cell, Cells};
 use arch_types::key::Key;
 use arch_types::octets::Octets;
 use arch_types::row::{Row, Rows};
+use arch_types::steps::Steps;
 use intervals::Interval;
 use mdb_model::Mdb;
 use param_segments::SegSet;
 use std::alloc::{AllocError, Global};
+use std::marker::Brand;
+use std::sync::ledger::{Blank, Ledger};
 use std::test::*;
 
 /// The database of a parameter `v` of eight bits at the start of a packet.
@@ -253,11 +257,59 @@ fn copy_has_keys(alloc: Global, set: &SegSet, mdb: &Mdb, rows: &[Row]) -> bool
     }
 }
 
-/// Whether rows are in so many segments, of which a copy has a cell for each.
+/// The cells of the parameter 0 in a segment, where a set has one of this number.
+fn cells_in<L: Ledger>(
+    alloc: Global,
+    blank: Blank,
+    set: &SegSet,
+    mdb: &Mdb,
+    segment: u32,
+) -> Option<Cells>
+    requires name { blank.name ≡ L.name }
+    requires parts { blank.parts ≡ L.parts }
+    requires some { 0 < blank.parts }
+    requires values { AreValuesOf mdb.now set.now }
+{
+    if segment >= set.segments() {
+        return None;
+    }
+    let (book, share) = blank.open::<L>();
+    let mut steps = Steps::new(book, share);
+    set.cells_in_segment(alloc, mdb, segment, 0, &mut steps)
+        .ok()
+}
+
+/// Whether a segment of a set has a cell for each of these rows.
+fn is_segment_of(alloc: Global, set: &SegSet, mdb: &Mdb, segment: u32, rows: &[Row]) -> bool
+    requires { AreValuesOf mdb.now set.now }
+{
+    match cells_in::<Brand>(alloc, Blank::new(1), set, mdb, segment) {
+        Some(cells) => have_keys(cells.as_slice(), rows),
+        None => false,
+    }
+}
+
+/// Whether each segment of a set of one group has a cell for each of its rows, which are 4,096 in all but the last.
+fn segments_have_keys(alloc: Global, set: &SegSet, mdb: &Mdb, rows: &[Row]) -> bool
+    requires { AreValuesOf mdb.now set.now }
+{
+    let mut segment = 0u32;
+    for part in rows.chunks(4_096) {
+        if !is_segment_of(alloc, set, mdb, segment, part) {
+            return false;
+        }
+        segment = segment.saturating_add(1);
+    }
+    true
+}
+
+/// Whether rows are in so many segments, and each has a cell in its segment and in a copy of the set.
 fn are_in_segments(alloc: Global, rows: &Rows, mdb: &Mdb, segments: u32) -> bool {
     match built(alloc, Interval(0), rows, mdb) {
         Ok(Some(set)) => {
-            set.segments() == segments && copy_has_keys(alloc, &set, mdb, rows.as_slice())
+            set.segments() == segments
+                && segments_have_keys(alloc, &set, mdb, rows.as_slice())
+                && copy_has_keys(alloc, &set, mdb, rows.as_slice())
         }
         _ => false,
     }

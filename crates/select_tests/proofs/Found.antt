@@ -16,7 +16,7 @@ use Rattle.arch_types.proofs.InOrder.{order_sorted}
 use Rattle.arch_types.proofs.Histories.{keeps_history}
 use Rattle.partitions.specs.declared.partition.Partition.{Partition}
 use Rattle.partitions.specs.Rows.{is_of_partition, partition_at}
-use Rattle.replay_merge.specs.Source.{IsKeyedRow, IsRowOf, AreRowsOf, IsRowSourceHistory}
+use Rattle.replay_merge.specs.RowSource.{IsKeyedRow, IsRowOf, AreRowsOf, IsRowSourceHistory}
 use Rattle.replay_merge.proofs.Sorting.{ascending, same_sorted}
 use Rattle.replay_merge.proofs.Tied.{is_tied, AtMostOne, one_tied, one_after, ordered_one, first_rows}
 use Rattle.replay_merge.proofs.Reading.{all_both}
@@ -28,48 +28,48 @@ use Rattle.std.proofs.lemmas.Int.{ints}
 
 -- ---- what is found
 
-one_test : (table : ℕ) (part : Partition) (row : Row) (rows : List Row) (b c : Bool) → is_in_table table row ≡ b → is_of_partition part row ≡ c →
-    filter (is_in_table_and_partition table part) rows ≡ filter (is_of_partition part) (filter (is_in_table table) rows) →
-    filter (is_in_table_and_partition table part) (row ∷ rows) ≡ filter (is_of_partition part) (filter (is_in_table table) (row ∷ rows))
-one_test table part row rows true true eb ec same = rw (eb, ec) (ap (λ (l : List Row). row ∷ l) same)
-one_test table part row rows true false eb ec same = rw (eb, ec) same
-one_test table part row rows false c eb ec same = rw eb same
+one_test : (table : ℕ) (partition : Partition) (row : Row) (rows : List Row) (b c : Bool) → is_in_table table row ≡ b → is_of_partition partition row ≡ c →
+    filter (is_in_table_and_partition table partition) rows ≡ filter (is_of_partition partition) (filter (is_in_table table) rows) →
+    filter (is_in_table_and_partition table partition) (row ∷ rows) ≡ filter (is_of_partition partition) (filter (is_in_table table) (row ∷ rows))
+one_test table partition row rows true true eb ec same = rw (eb, ec) (ap (λ (l : List Row). row ∷ l) same)
+one_test table partition row rows true false eb ec same = rw (eb, ec) same
+one_test table partition row rows false c eb ec same = rw eb same
 
-two_tests : (table : ℕ) (part : Partition) (rows : List Row) → filter (is_in_table_and_partition table part) rows ≡ filter (is_of_partition part) (filter (is_in_table table) rows)
-two_tests table part [] = refl
-two_tests table part (row ∷ rows) = one_test table part row rows (is_in_table table row) (is_of_partition part row) refl refl (two_tests table part rows)
+two_tests : (table : ℕ) (partition : Partition) (rows : List Row) → filter (is_in_table_and_partition table partition) rows ≡ filter (is_of_partition partition) (filter (is_in_table table) rows)
+two_tests table partition [] = refl
+two_tests table partition (row ∷ rows) = one_test table partition row rows (is_in_table table row) (is_of_partition partition row) refl refl (two_tests table partition rows)
 
-found_each : (table : ℕ) (part : Partition) (rows : List Row) → AllByRecursion IsKeyedRow rows → AllByRecursion (IsRowOf table part) (filter (is_in_table_and_partition table part) rows)
-found_each table part [] all = tt
-found_each table part (row ∷ rows) all = by (is_in_table table row) (is_of_partition part row) refl refl (found_each table part rows all.1)
+found_each : (table : ℕ) (partition : Partition) (rows : List Row) → AllByRecursion IsKeyedRow rows → AllByRecursion (IsRowOf table partition) (filter (is_in_table_and_partition table partition) rows)
+found_each table partition [] all = tt
+found_each table partition (row ∷ rows) all = by (is_in_table table row) (is_of_partition partition row) refl refl (found_each table partition rows all.1)
   where
-    by : (b c : Bool) → is_in_table table row ≡ b → is_of_partition part row ≡ c → AllByRecursion (IsRowOf table part) (filter (is_in_table_and_partition table part) rows) → AllByRecursion (IsRowOf table part) (filter (is_in_table_and_partition table part) (row ∷ rows))
+    by : (b c : Bool) → is_in_table table row ≡ b → is_of_partition partition row ≡ c → AllByRecursion (IsRowOf table partition) (filter (is_in_table_and_partition table partition) rows) → AllByRecursion (IsRowOf table partition) (filter (is_in_table_and_partition table partition) (row ∷ rows))
     by true true eb ec later =
         let number : row.table ≡ table = grind (arith, nat_tests, eb) in
-        rw (eb, ec) (record { keyed = all.0; in_table = number; in_part = ec }, later)
+        rw (eb, ec) (record { keyed = all.0; in_table = number; in_partition = ec }, later)
     by true false eb ec later = rw (eb, ec) later
     by false c eb ec later = rw eb later
 
-module _ (table : ℕ) (part : Partition) (rows found sorted : List Row) (history : IsRowSourceHistory rows) (got : found ≡ filter (is_in_table_and_partition table part) rows) (same : IsPermutation found sorted)
+module _ (table : ℕ) (partition : Partition) (rows found sorted : List Row) (history : IsRowSourceHistory rows) (got : found ≡ filter (is_in_table_and_partition table partition) rows) (same : IsPermutation found sorted)
     (in_order : IsSortedBy is_before sorted) (stable : (z : Row) → filter (is_tied z) sorted ≡ filter (is_tied z) found) where
-  twice : found ≡ filter (is_of_partition part) (filter (is_in_table table) rows)
-  twice = got ∙ two_tests table part rows
+  twice : found ≡ filter (is_of_partition partition) (filter (is_in_table table) rows)
+  twice = got ∙ two_tests table partition rows
 
   one : (z : Row) → AtMostOne (filter (is_tied z) found)
-  one z = subst (λ (l : List Row). AtMostOne (filter (is_tied z) l)) (sym twice) (one_after (is_of_partition part) z (filter (is_in_table table) rows) (one_tied table z rows history.once))
+  one z = subst (λ (l : List Row). AtMostOne (filter (is_tied z) l)) (sym twice) (one_after (is_of_partition partition) z (filter (is_in_table table) rows) (one_tied table z rows history.once))
 
   are_sorted : sorted ≡ order_by is_before found
   are_sorted = same_sorted rows_rank sorted (order_by is_before found) (ascending rows_rank sorted in_order) (ascending rows_rank (order_by is_before found) (order_sorted found))
       (λ z. stable z ∙ sym (filter-order rows_rank (is_tied z) found ∙ ordered_one (filter (is_tied z) found) (one z)))
 
-  pub are_partition : (front : ℕ) (all : List Row) → rows ≡ take front all → sorted ≡ partition_at front table part all
+  pub are_partition : (front : ℕ) (all : List Row) → rows ≡ take front all → sorted ≡ partition_at front table partition all
   are_partition front all is =
-      are_sorted ∙ ap (order_by is_before) twice ∙ sym (filter-order rows_rank (is_of_partition part) (filter (is_in_table table) rows))
-      ∙ ap (λ (l : List Row). filter (is_of_partition part) (table_of table l)) is
+      are_sorted ∙ ap (order_by is_before) twice ∙ sym (filter-order rows_rank (is_of_partition partition) (filter (is_in_table table) rows))
+      ∙ ap (λ (l : List Row). filter (is_of_partition partition) (table_of table l)) is
 
-  pub are_rows : AreRowsOf table part sorted
+  pub are_rows : AreRowsOf table partition sorted
   are_rows = record {
-    each = recursion_from_All (IsRowOf table part) sorted (All-permutation (IsRowOf table part) found sorted same (All-from_recursion (IsRowOf table part) found (subst (λ (l : List Row). AllByRecursion (IsRowOf table part) l) (sym got) (found_each table part rows history.each))));
+    each = recursion_from_All (IsRowOf table partition) sorted (All-permutation (IsRowOf table partition) found sorted same (All-from_recursion (IsRowOf table partition) found (subst (λ (l : List Row). AllByRecursion (IsRowOf table partition) l) (sym got) (found_each table partition rows history.each))));
     rising = strictly sorted (ascending rows_rank sorted in_order) (λ z. subst AtMostOne (sym (stable z)) (one z));
   }
 

@@ -12,4 +12,4 @@ known_history false rows = None
 
 -- whether a row is of a table and a partition
 abbrev pub is_in_table_and_partition : ℕ → Partition → Row → Bool
-is_in_table_and_partition table part row = is_in_table table row && is_of_partition part row
+is_in_table_and_partition table partition row = is_in_table table row && is_of_partition partition row

@@ -6,7 +6,7 @@ ghost use Rattle.std.specs.List.{list_any};
 ghost use Rattle.arch_types.specs.Packet.{IsPacket};
 ghost use Rattle.arch_types.specs.History.{is_duplicate_of};
 ghost use Rattle.partitions.specs.Rows.{partition_at};
-ghost use Rattle.replay_merge.specs.Source.{IsKeyedRow, IsRowSourceHistory, AreRowsOf, IsRowFault, UsedRowSource};
+ghost use Rattle.replay_merge.specs.RowSource.{IsKeyedRow, IsRowSourceHistory, AreRowsOf, IsRowFault, UsedRowSource};
 ghost use Rattle.text_forms.specs.ClockTime.{is_clock_time};
 ghost use Rattle.select_tests.specs.MemSource.{known_history, is_in_table_and_partition};
 
@@ -15,7 +15,7 @@ use arch_types::row::{Row, Rows};
 use arch_types::row_fault::RowFault;
 use partitions::partition::{Partition, partition_of};
 use refusals::Refusal;
-use replay_merge::source::RowSource;
+use replay_merge::row_source::RowSource;
 use space_packet::dump::first_packet;
 use space_packet::key::key_of;
 use std::alloc::{AllocError, Global};
@@ -34,7 +34,7 @@ pub(crate) struct MemSource {
 }
 
 impl Model for MemSource {
-    ghost use Rattle.replay_merge.specs.Source.{RowSourceState, IsRowSourceHistory};
+    ghost use Rattle.replay_merge.specs.RowSource.{RowSourceState, IsRowSourceHistory};
     ghost use Rattle.select_tests.specs.MemSource.{known_history};
 
     ghost Value = { RowSourceState };
@@ -121,12 +121,12 @@ impl RowSource for MemSource {
         &mut self,
         alloc: Global,
         table: u8,
-        part: &Partition,
+        partition: &Partition,
         front: u64,
     ) -> Result<Rows, RowFault> {
         self.fail_in_turn()?;
         let count = self.history.len().min(front as usize);
-        let rows = part_rows(alloc, &self.history.as_slice()[..count], table, part)?;
+        let rows = part_rows(alloc, &self.history.as_slice()[..count], table, partition)?;
         Ok(Rows::from_vec(rows))
     }
 }
@@ -155,10 +155,13 @@ fn is_there(rows: &[Row], row: &Row) -> bool
 }
 
 /// Whether a row is of a table and a partition.
-fn is_in_table_and_partition(row: &Row, table: u8, part: &Partition) -> bool
-    ensures { result ≡ is_in_table_and_partition table part.now row.now }
+fn is_in_table_and_partition(row: &Row, table: u8, partition: &Partition) -> bool
+    ensures { result ≡ is_in_table_and_partition table partition.now row.now }
 {
-    table == row.table && part.cmp(&partition_of(row.key.time, row.pname)).is_eq()
+    table == row.table
+        && partition
+            .cmp(&partition_of(row.key.time, row.pname))
+            .is_eq()
 }
 
 /// The rows of a table and a partition, as they stand.
@@ -166,13 +169,13 @@ fn matching(
     alloc: Global,
     rows: &[Row],
     table: u8,
-    part: &Partition,
+    partition: &Partition,
 ) -> Result<Vec<Row>, AllocError>
-    ensures { IfOk result (λ found. found.items ≡ filter (is_in_table_and_partition table part.now) rows.now) }
+    ensures { IfOk result (λ found. found.items ≡ filter (is_in_table_and_partition table partition.now) rows.now) }
 {
     let mut found = Vec::new(alloc);
     for row in rows {
-        if is_in_table_and_partition(row, table, part) {
+        if is_in_table_and_partition(row, table, partition) {
             found.push(row.copy()?)?;
         }
     }
@@ -184,14 +187,14 @@ fn part_rows(
     alloc: Global,
     rows: &[Row],
     table: u8,
-    part: &Partition,
+    partition: &Partition,
 ) -> Result<Vec<Row>, AllocError>
     requires { IsRowSourceHistory rows.now }
     ensures rows { IfOk result (λ found. (front : ℕ) (history : List Row) → rows.now ≡ take front history
-        → found.items ≡ partition_at front table part.now history) }
-    ensures each { IfOk result (λ found. AreRowsOf table part.now found.items) }
+        → found.items ≡ partition_at front table partition.now history) }
+    ensures each { IfOk result (λ found. AreRowsOf table partition.now found.items) }
 {
-    let mut found = matching(alloc, rows, table, part)?;
+    let mut found = matching(alloc, rows, table, partition)?;
     found.sort_by_key(|row| row.key)?;
     Ok(found)
 }

@@ -6,12 +6,12 @@ use Rattle.select_tests.proofs.mem_source.part_rows.Goals as goal
 
 pub returns-clause-rows : goal.returns-clause-rows
 returns-clause-rows c =
-    are_partition c.args.table c.args.part.now c.args.rows.now c.in_ok-found.found.items c.sort_by_key.new.self.items c.requires c.in_ok-found.ensures c.sort_by_key.ensures.permutation
+    are_partition c.args.table c.args.partition.now c.args.rows.now c.in_ok-found.found.items c.sort_by_key.new.self.items c.requires c.in_ok-found.ensures c.sort_by_key.ensures.permutation
     (c.in_ok-sort_by_key.ensures.sorted (λ (row : Row). row.key) (answers_always _ _ _ (λ f a r h k. search rules)))
     (c.sort_by_key.ensures.stable (λ (row : Row). row.key) (answers_always _ _ _ (λ f a r h k. search rules)))
 
 pub returns-clause-each : goal.returns-clause-each
 returns-clause-each c =
-    are_rows c.args.table c.args.part.now c.args.rows.now c.in_ok-found.found.items c.sort_by_key.new.self.items c.requires c.in_ok-found.ensures c.sort_by_key.ensures.permutation
+    are_rows c.args.table c.args.partition.now c.args.rows.now c.in_ok-found.found.items c.sort_by_key.new.self.items c.requires c.in_ok-found.ensures c.sort_by_key.ensures.permutation
     (c.in_ok-sort_by_key.ensures.sorted (λ (row : Row). row.key) (answers_always _ _ _ (λ f a r h k. search rules)))
     (c.sort_by_key.ensures.stable (λ (row : Row). row.key) (answers_always _ _ _ (λ f a r h k. search rules)))
