@@ -1,4 +1,4 @@
-// Tests of arch_types, block_map, command_words, octet_fields and time_text: worked rows, vectors, each call once with ample memory, what no clause says.
+// Tests of arch_types, block_map, command_words, octet_fields, refusals and time_text: worked rows, vectors, each call once with ample memory, what no clause says.
 #![tactic(auto)]
 
 #[cfg(test)]
@@ -11,5 +11,7 @@ mod command_words_tests;
 mod ends;
 #[cfg(test)]
 mod octet_fields_tests;
+#[cfg(test)]
+mod refusals_tests;
 #[cfg(test)]
 mod time_text_tests;

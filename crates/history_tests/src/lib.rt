@@ -1,10 +1,8 @@
-// Tests of the archive's history in memory and of what it stands on: worked rows and vectors, printed texts, each call once with ample memory, and what no clause says.
+// Tests of the archive's history in memory and of what it stands on: worked rows and vectors, each call once with ample memory, and what no clause says.
 #![tactic(auto)]
 
 #[cfg(test)]
 mod archive_history_tests;
-#[cfg(test)]
-mod dump_lines_tests;
 #[cfg(test)]
 mod fill_tracker_tests;
 #[cfg(test)]

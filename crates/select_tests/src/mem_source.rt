@@ -14,7 +14,6 @@ use arch_types::octets::Octets;
 use arch_types::row::{Row, Rows};
 use arch_types::row_fault::RowFault;
 use partitions::partition::{Partition, partition_of};
-use refusals::Refusal;
 use replay_merge::row_source::RowSource;
 use space_packet::dump::first_packet;
 use space_packet::key::key_of;

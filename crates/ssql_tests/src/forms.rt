@@ -7,7 +7,6 @@ use arch_types::key::Key;
 use arch_types::name::{Name, Names};
 use arch_types::octets::Octets;
 use arch_types::row::Row;
-use refusals::Refusal;
 use space_packet::dump::first_packet;
 use ssql_parse::{NotAScript, parse};
 use ssql_types::not_typed::NotTyped;

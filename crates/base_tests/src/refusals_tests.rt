@@ -1,6 +1,6 @@
 //! The text of each refusal.
 
-use crate::parts::none_other;
+use crate::ends::none_other;
 use arch_types::key::Key;
 use arch_types::name::Name;
 use arch_types::octets::Octets;
@@ -135,11 +135,12 @@ fn says_at(alloc: Global, place: usize, want: &str) -> bool {
     }
 }
 
-fn other_text(alloc: Global, texts: &[&'static str]) -> Option<(&'static str, usize)> {
+/// The first of these texts that is another.
+fn other_text(alloc: Global, texts: &[&'static str]) -> Option<&'static str> {
     let mut place = 0usize;
     for text in texts {
         if !says_at(alloc, place, text) {
-            return Some((*text, place));
+            return Some(*text);
         }
         place = place.saturating_add(1);
     }
