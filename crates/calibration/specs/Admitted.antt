@@ -4,9 +4,11 @@ use Rattle.std.specs.List.{AllByRecursion}
 use Rattle.mdb_items.specs.declared.calibration.Calibration.{Calibration}
 use Rattle.mdb_items.specs.declared.calibration.Calibrator.{Calibrator}
 use Rattle.mdb_items.specs.declared.calibration.Calibrator.TheVariants.{Poly, Points, Enum}
+use Rattle.mdb_items.specs.declared.fault.MdbLimit.TheVariants.{CalibrationRows}
 use Rattle.mdb_items.specs.declared.parameter.Coding.{Coding}
 use Rattle.mdb_items.specs.declared.parameter.Coding.TheVariants.{Uint, Int, UintLe, IntLe}
 use Rattle.mdb_items.specs.declared.parameter.Parameter.{Parameter}
+use Rattle.mdb_items.specs.Limits.{database_limit}
 use Rattle.mdb_items.specs.ParameterRows.{admits, calibrator_of_calibration}
 use Rattle.mdb_items.specs.Structure.{IsPoint, ArePointsRising}
 
@@ -25,12 +27,12 @@ IsInWidth Int bits raw = IsSigned bits raw
 IsInWidth UintLe bits raw = IsUnsigned bits raw
 IsInWidth IntLe bits raw = IsSigned bits raw
 
--- the rules of a calibrator's own rows: points rise, and a sheet has at most 65,536 rows
+-- the rules of a calibrator's own rows: points rise, and labels are no more than a database may have
 abbrev pub KeepsRules : Option Calibrator → Type 0
 KeepsRules None = Unit {0}
 KeepsRules (Some (Poly rows)) = Unit {0}
 KeepsRules (Some (Points points)) = AllByRecursion IsPoint points × ArePointsRising points
-KeepsRules (Some (Enum rows)) = length rows ≤ 65536
+KeepsRules (Some (Enum rows)) = length rows ≤ database_limit CalibrationRows
 
 -- the raw number is one of a parameter for which the rules of the sheets admit the calibration
 pub record IsAdmitted (calibration : Option Calibration) (raw : ℤ) : Type 0 where

@@ -1,6 +1,6 @@
 //! Calibrated values.
 
-ghost use Rattle.std.specs.Prelude.{◌≡◌, ◌<◌, ℕ, Some, length, option_copied};
+ghost use Rattle.std.specs.Prelude.{◌≡◌, ◌<◌, ◌^◌, ℕ, Some, length, option_copied};
 ghost use Rattle.std.specs.List.{position};
 ghost use Rattle.std.specs.Ordering.{int_eq};
 ghost use Rattle.calibration.specs.Admitted.{IsAdmitted};
@@ -21,7 +21,7 @@ fn row_of(rows: &[EnumRow], raw: i128) -> Option<usize>
 
 /// The label of a row, where there is one.
 fn label(row: Option<usize>) -> Eng
-    requires { (n : ℕ) → row ≡ Some n → n < 65536 }
+    requires { (n : ℕ) → row ≡ Some n → n < 2 ^ 16 }
     ensures { result ≡ label_at row }
 {
     match row {

@@ -4,4 +4,5 @@ pub mod Chain
 pub mod Step
 pub mod Room
 pub mod Extraction
+pub mod Answer
 pub mod Laws

@@ -3,8 +3,9 @@
 // The definitions stand in specs/: Bits takes the packet as one number and says what a field is (CCSDS 133.0-B counts bits from the first one
 // on), Values says what an entry's raw value is, its engineering value, and when a condition holds, Chain is a relation between a packet and a
 // list of container numbers (`IsChain`, of which `laws` says that there is exactly one), and Extraction is the values along it, raw and
-// calibrated. An `Extractor` takes the raw values of one packet after the other and takes memory once; `eng_of` calibrates those that are
-// asked for. The archive names each arrival and reads packets by an `Extractor`; `extract` and `packet_name` are for one packet alone.
+// calibrated. Answer is the answer to a request over a history: the plain machine and retrieval both say it by that one definition. An
+// `Extractor` takes the raw values of one packet after the other and takes memory once; `eng_of` calibrates those that are asked for. The
+// archive names each arrival and reads packets by an `Extractor`; `extract` and `packet_name` are for one packet alone.
 //
 // The idea of the proof: whatever goes on from the containers so far makes a chain (proofs/Walk.antt), so that the walk ends with one.
 // The values so far are those of the path's entries in their order, so that a condition finds each value at the place that the database keeps

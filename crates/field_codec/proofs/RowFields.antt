@@ -15,7 +15,7 @@ use Rattle.arch_types.specs.Dump.{BeginsWithNoPacket}
 use Rattle.octet_fields.specs.Exact.{IsOctets, IsExact}
 use Rattle.octet_fields.specs.Reading.{both_at, mapped_at, number_at, signed_at, tested_at, times_at}
 use Rattle.octet_fields.specs.Spelling.{counted, number, signed}
-use Rattle.octet_fields.proofs.Exact.{some_is, guard_some, IsExact-both, IsExact-tested, IsExact-mapped, IsExact-times}
+use Rattle.octet_fields.proofs.Exact.{one_form, some_is, guard_some, IsExact-both, IsExact-tested, IsExact-mapped, IsExact-times}
 use Rattle.octet_fields.proofs.Numbers.{exact8, exact16, exact_i64}
 use Rattle.field_codec.specs.Entries.{IsStored, AreStored}
 use Rattle.text_forms.specs.ClockTime.{IsClockTime, is_clock_time}
@@ -126,9 +126,13 @@ here r h =
     let right : is_stored (back r) ≡ true = rw (le-leb 1 r.link h.link.0, true_clock r.rectime h.rectime, h.kept) refl in
     (((h.table, (clock_fits r.rectime h.rectime, (h.link.1, (h.pname, h.packet)))), right), ap (λ (k : Key). record r { key = k }) (sym h.key))
 
-row_exact : IsExact IsStored row_octets row_at
+pub row_exact : IsExact IsStored row_octets row_at
 unfolding row_octets row_at
 row_exact = IsExact-mapped (IsExact-tested fields_exact is_stored) IsStored row_of_fields back there here
+
+-- no row's spelling begins another's
+pub one_row : (a b : Row) (behind_a behind_b : List ℕ) → IsStored a → IsStored b → row_octets a ++ behind_a ≡ row_octets b ++ behind_b → (a ≡ b) × (behind_a ≡ behind_b)
+one_row a b behind_a behind_b stored_a stored_b e = one_form row_exact a b behind_a behind_b stored_a stored_b e
 
 count_true : (n : ℕ) → is_count n ≡ true → (1 ≤ n) × (n ≤ 1024)
 count_true n h = grind arith

@@ -12,7 +12,8 @@ use Rattle.octet_fields.specs.Reading.{Reader, both_at, counted_at, mapped_at, n
 use Rattle.field_codec.specs.declared.rows.Fields.{Fields as StoredFields}
 use Rattle.mdb_items.specs.Database.{Database, IsDatabase}
 use Rattle.field_codec.specs.Entries.{tm, AreTables, FillFields}
-use Rattle.field_codec.specs.Spelling.{format_1_exponent, head_octets}
+use Rattle.intervals.specs.Interval.{format_1_exponent}
+use Rattle.field_codec.specs.Spelling.{head_octets}
 
 -- ---- the opening of a head
 

@@ -2,6 +2,7 @@
 use Rattle.std.specs.Prelude.{ℕ, List, ◌++◌}
 use Rattle.std.specs.Int.{w8, w16, w64}
 use Rattle.intervals.specs.declared.interval.Interval.{Interval}
+use Rattle.intervals.specs.Interval.{format_1_exponent}
 use Rattle.arch_types.specs.declared.row.Row.{Row}
 use Rattle.mdb_items.specs.Database.{Database}
 use Rattle.mdb_octets.specs.Spelling.{database_octets}
@@ -9,10 +10,6 @@ use Rattle.octet_fields.specs.Spelling.{counted, name, number, signed}
 use Rattle.field_codec.specs.declared.entry.Entry.{Entry}
 use Rattle.field_codec.specs.Entries.{FillFields}
 use Rattle.field_codec.specs.declared.entry.Entry.TheVariants.{Head, Rows, Fill}
-
--- the exponent of the intervals of each archive of format 1
-abbrev pub format_1_exponent : ℕ
-format_1_exponent = 22
 
 -- u8 format 1, u8 interval exponent, u8 count and names of the tables
 unfoldable pub opening_octets : List (List ℕ) → List ℕ

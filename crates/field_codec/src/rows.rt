@@ -5,7 +5,7 @@ ghost use Rattle.std.specs.Int.{w8};
 ghost use Rattle.std.specs.List.{AllByRecursion, flat_map};
 ghost use Rattle.arch_types.specs.Packet.{IsPacket};
 ghost use Rattle.octet_fields.specs.declared.fault.DecodeError.TheVariants.{OutOfMemory};
-ghost use Rattle.octet_fields.specs.Answers.{Answers, Gives, ReadsEach, ReadsOnly};
+ghost use Rattle.octet_fields.specs.Answers.{Answers, Gives, ReadsEach, ReadsEachFirst, ReadsOnly, ReadsOnlyFirst};
 ghost use Rattle.octet_fields.specs.Reading.{times_at, whole};
 ghost use Rattle.octet_fields.specs.Spelling.{number};
 ghost use Rattle.field_codec.specs.Entries.{AreStored, IsStored};
@@ -100,6 +100,22 @@ fn row_at<'a>(block: &Octets, octets: &'a [u8]) -> Result<(Row, &'a [u8]), Decod
     Ok((row, rest))
 }
 
+/// The row at the front of an end of a block, and what is left behind it. Its packet is a slice of the block.
+pub fn read_row<'a>(block: &Octets, octets: &'a [u8]) -> Result<(Row, &'a [u8]), DecodeError>
+    requires { IsEndOf octets.now block.now }
+
+    // Ok: the octets begin with the spelling of this row, which the format admits, and go on with what is left.
+    ensures spelled { ReadsOnlyFirst IsStored row_octets (λ x. (x.0, x.1.now)) octets.now result }
+
+    // Octets that begin with the spelling of a row give that row, whatever follows, unless memory is wanting.
+    ensures each { ReadsEachFirst IsStored row_octets (λ x. (x.0, x.1.now)) (λ e. e ≡ OutOfMemory) octets.now result }
+
+    // What is left is an end of the block too, so that the next row is read from it.
+    ensures rest { IfOk result (λ x. IsEndOf x.1.now block.now) }
+{
+    row_at(block, octets)
+}
+
 /// So many rows at the front of an end of a block.
 fn some_rows_at<'a>(
     alloc: Global,
@@ -146,6 +162,19 @@ pub(crate) fn read_rows(alloc: Global, block: &Octets, octets: &[u8]) -> Result<
     whole_rows(alloc, block, octets)
 }
 
+/// Adds the one spelling of a row that the format admits to a buffer. `read_row` reads it back, whatever follows it.
+#[tactic(auto, unfolding(crate::specs::Spelling::row_octets))]
+pub fn put_row(out: &mut Vec<u8>, row: &Row) -> Result<(), AllocError>
+    requires { IsStored row.now }
+    ensures { OnOk result (out.new.items ≡ out.old.items ++ row_octets row.now) }
+{
+    put_u8(out, row.table)?;
+    put_i64(out, row.rectime)?;
+    put_u8(out, row.link as u8)?;
+    put_u16(out, row.pname)?;
+    out.extend_from_slice(row.packet.as_slice())
+}
+
 /// How a row is spelled. It is read beside its block, by `row_at`.
 struct RowCodec;
 
@@ -156,13 +185,8 @@ impl Encode for RowCodec {
 
     ghost spell = { row_octets };
 
-    #[tactic(auto, unfolding(crate::specs::Spelling::row_octets))]
     fn put(out: &mut Vec<u8>, row: &Row) -> Result<(), AllocError> {
-        put_u8(out, row.table)?;
-        put_i64(out, row.rectime)?;
-        put_u8(out, row.link as u8)?;
-        put_u16(out, row.pname)?;
-        out.extend_from_slice(row.packet.as_slice())
+        put_row(out, row)
     }
 }
 

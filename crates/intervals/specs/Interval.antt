@@ -6,7 +6,11 @@ use Rattle.std.specs.declared.cmp.Ordering.{Ordering}
 use Rattle.text_forms.specs.ClockTime.{IsClockTime}
 use Rattle.intervals.specs.declared.interval.Interval.{Interval}
 
--- the interval of a time is floor(t / 2^e), the time in milliseconds, e the exponent of the archive's intervals: 22 in format 1
+-- the exponent of the intervals of each archive of format 1
+abbrev pub format_1_exponent : ℕ
+format_1_exponent = 22
+
+-- the interval of a time is floor(t / 2^e), the time in milliseconds, e the exponent of the archive's intervals
 abbrev pub interval_of : ℕ → ℤ → ℤ
 interval_of exponent time = int_div_euclid time (pos (2 ^ exponent))
 

@@ -1,7 +1,7 @@
 //! The intervals of the parameter archive, and their length.
 
 ghost use Rattle.std.specs.Prelude.{◌≡◌, ◌^◌, pos};
-ghost use Rattle.intervals.specs.Interval.{interval_end, interval_of, interval_start, HasClockTime};
+ghost use Rattle.intervals.specs.Interval.{format_1_exponent, interval_end, interval_of, interval_start, HasClockTime};
 
 use std::marker::Model;
 
@@ -26,7 +26,7 @@ impl Model for Exponent {
 impl Exponent {
     /// That of each archive of format 1.
     pub fn of_format_1() -> Exponent
-        ensures { result ≡ 22 }
+        ensures { result ≡ format_1_exponent }
     {
         Exponent { bits: 22 }
     }

@@ -15,6 +15,7 @@ use Rattle.mdb_items.specs.declared.rows.EntryPosition.TheVariants.{At}
 use Rattle.mdb_items.specs.declared.rows.Reference.{Reference}
 use Rattle.mdb_items.specs.declared.rows.Reference.TheVariants.{Nothing, Unknown, Known}
 use Rattle.mdb_items.specs.Checks.{Checks, first_broken, or_else}
+use Rattle.mdb_items.specs.Limits.{longest_packet_bits, most_comparisons}
 use Rattle.mdb_items.specs.Paths.{ContainerPath, bits_at, last_number, path_at, paths_of, stands_on}
 use Rattle.mdb_items.specs.Lists.{at_last, is_empty}
 use Rattle.mdb_items.specs.Numbers.{is_in_range}
@@ -40,10 +41,10 @@ is_parent above Nothing = true
 is_parent above Unknown = false
 is_parent above (Known n) = nat_lt n above
 
--- at most 255 comparisons with whole numbers
+-- comparisons with whole numbers, no more than a condition may have
 abbrev pub is_condition : Option (List Comparison) → Bool
 is_condition None = false
-is_condition (Some comparisons) = nat_le (length comparisons) 255 && list_all (λ c. is_in_range c.number) comparisons
+is_condition (Some comparisons) = nat_le (length comparisons) most_comparisons && list_all (λ c. is_in_range c.number) comparisons
 
 -- a parameter is compared that is no entry of an ancestor
 abbrev pub compares_other : List ParameterEntry → List Comparison → Bool
@@ -119,7 +120,7 @@ is_placed (Known n) (At at) = true
 
 -- the entry ends after the last bit of the longest packet
 abbrev pub is_too_far : List Parameter → Reference → EntryPosition → Bool
-is_too_far parameters (Known n) (At at) = not (nat_le (at + bits_at parameters n) 524336)
+is_too_far parameters (Known n) (At at) = not (nat_le (at + bits_at parameters n) longest_packet_bits)
 is_too_far parameters entry position = false
 
 -- the rules of a row's entry, which goes to the end of the path

@@ -13,6 +13,7 @@ use Rattle.mdb_items.specs.declared.rows.ParameterRow.{ParameterRow}
 use Rattle.mdb_items.specs.CalibrationRows.{CalibrationRow, calibration_fault_at, calibrations_of, rows_of_calibration}
 use Rattle.mdb_items.specs.Checks.{first_at, or_else}
 use Rattle.mdb_items.specs.ContainerRows.{ContainerRow, container_fault_at, containers_of, rows_of_container}
+use Rattle.mdb_items.specs.Limits.{database_limit}
 use Rattle.mdb_items.specs.ParameterRows.{parameter_fault_at, parameters_of, row_of_parameter}
 
 -- a mission database: three lists, each in the order of its sheet
@@ -87,14 +88,19 @@ row_count c = calibrator_len c.calibrator
 abbrev pub entry_count : Container → ℕ
 entry_count c = length c.entries
 
+-- a quantity and its limit, where so many pass it, or else what is passed of the others
+abbrev pub passed_or : MdbLimit → ℕ → Option (MdbLimit × ℕ) → Option (MdbLimit × ℕ)
+passed_or quantity count others =
+    if nat_lt (database_limit quantity) count then Some (quantity, database_limit quantity) else others
+
 -- the first limit that is passed, in their order
 abbrev pub limit_passed : Database → Option (MdbLimit × ℕ)
 limit_passed d =
-    if nat_lt 4096 (length d.calibrations) then Some (limit.Calibrations, 4096)
-    else (if nat_lt 65536 (sum_by row_count d.calibrations) then Some (limit.CalibrationRows, 65536)
-    else (if nat_lt 4096 (length d.parameters) then Some (limit.Parameters, 4096)
-    else (if nat_lt 4096 (length d.containers) then Some (limit.Containers, 4096)
-    else (if nat_lt 65536 (sum_by entry_count d.containers) then Some (limit.Entries, 65536) else None))))
+    passed_or limit.Calibrations (length d.calibrations)
+    (passed_or limit.CalibrationRows (sum_by row_count d.calibrations)
+    (passed_or limit.Parameters (length d.parameters)
+    (passed_or limit.Containers (length d.containers)
+    (passed_or limit.Entries (sum_by entry_count d.containers) None))))
 
 -- its own rows spell it, they break no rule, and it passes no limit
 pub record IsDatabase (d : Database) : Type 0 where

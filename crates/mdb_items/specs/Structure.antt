@@ -13,9 +13,11 @@ use Rattle.mdb_items.specs.declared.calibration.Calibrator.TheVariants.{Poly, Po
 use Rattle.mdb_items.specs.declared.container.Comparison.{Comparison}
 use Rattle.mdb_items.specs.declared.container.Container.{Container}
 use Rattle.mdb_items.specs.declared.container.ParameterEntry.{ParameterEntry}
+use Rattle.mdb_items.specs.declared.fault.MdbLimit.TheVariants as limit
 use Rattle.mdb_items.specs.declared.parameter.Parameter.{Parameter}
 use Rattle.mdb_items.specs.ContainerRows.{compares_other}
 use Rattle.mdb_items.specs.Database.{Database, IsDatabase, entry_count, row_count, calibrator_len}
+use Rattle.mdb_items.specs.Limits.{database_limit, longest_packet_bits, most_comparisons}
 use Rattle.mdb_items.specs.Numbers.{is_decimal, is_in_range}
 use Rattle.mdb_items.specs.Paths.{ContainerPath, bits_at, path_at, path_below, paths_of}
 use Rattle.mdb_items.specs.ParameterRows.{admits, fits_coding, is_reference, reference_to, referenced_calibrator}
@@ -98,7 +100,7 @@ IsCalibrator (Enum rows) = IsEnumeration rows
 pub record IsCalibration (c : Calibration) : Type 0 where
   pub named : IsName c.name
   pub rows : IsCalibrator c.calibrator
-  pub few : calibrator_len c.calibrator ≤ 65536
+  pub few : calibrator_len c.calibrator ≤ database_limit limit.CalibrationRows
 
 -- ---- parameters
 
@@ -114,7 +116,7 @@ pub record IsParameter (d : Database) (p : Parameter) : Type 0 where
 -- the entry is of a parameter of the database, and ends inside the longest packet
 pub record IsEntry (d : Database) (e : ParameterEntry) : Type 0 where
   pub parameter : e.parameter < length d.parameters
-  pub near : e.at + bits_at d.parameters e.parameter ≤ 524336
+  pub near : e.at + bits_at d.parameters e.parameter ≤ longest_packet_bits
 
 -- no parameter stands twice
 abbrev pub AreDistinctEntries : List ParameterEntry → Type 0
@@ -126,9 +128,9 @@ pub record IsPath (path : ContainerPath) : Type 0 where
   pub few_entries : length path.entries ≤ 256
   pub distinct : AreDistinctEntries path.entries
 
--- the condition compares at most 255 entries of the path above with whole numbers
+-- the condition compares entries of the path above with whole numbers, no more than a condition may
 pub record IsCondition (entries : List ParameterEntry) (condition : List Comparison) : Type 0 where
-  pub few : length condition ≤ 255
+  pub few : length condition ≤ most_comparisons
   pub whole : AllByRecursion (λ c. IsWhole c.number) condition
   pub above : compares_other entries condition ≡ false
 
@@ -151,11 +153,11 @@ pub record IsContainer (d : Database) (n : ℕ) (c : Container) : Type 0 where
 
 -- a database is within its limits and has a root, its items of one kind have distinct names, and each item is sound
 pub record IsStructured (d : Database) : Type 0 where
-  pub few_calibrations : length d.calibrations ≤ 4096
-  pub few_rows : sum_by row_count d.calibrations ≤ 65536
-  pub few_parameters : length d.parameters ≤ 4096
-  pub few_containers : length d.containers ≤ 4096
-  pub few_entries : sum_by entry_count d.containers ≤ 65536
+  pub few_calibrations : length d.calibrations ≤ database_limit limit.Calibrations
+  pub few_rows : sum_by row_count d.calibrations ≤ database_limit limit.CalibrationRows
+  pub few_parameters : length d.parameters ≤ database_limit limit.Parameters
+  pub few_containers : length d.containers ≤ database_limit limit.Containers
+  pub few_entries : sum_by entry_count d.containers ≤ database_limit limit.Entries
   pub root : 0 < length d.containers
   pub calibration_names : AreDistinctNames (map (λ c. c.name) d.calibrations)
   pub parameter_names : AreDistinctNames (map (λ p. p.name) d.parameters)

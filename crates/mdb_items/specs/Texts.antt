@@ -3,6 +3,7 @@ use Rattle.std.specs.Prelude.{ℕ, ◌+◌, ◌*◌, ◌-◌, ◌^◌, ◌==◌,
 use Rattle.std.specs.List.{list_all}
 use Rattle.std.specs.Str.{bytes_eq}
 use Rattle.text_forms.specs.Digits.{decimal_value, digits_at_most, is_digit}
+use Rattle.mdb_items.specs.Limits.{longest_packet_bits}
 
 -- the octets of a text
 abbrev pub Text : Type 0
@@ -77,4 +78,4 @@ small_number low high text = between low high (whole_number text)
 
 -- one digit or more; beyond the last bit of a packet all numbers are alike
 abbrev pub offset : Text → Option ℕ
-offset text = if nat_le 1 (length text) && list_all is_digit text then Some (min (decimal_value text) 524336) else None
+offset text = if nat_le 1 (length text) && list_all is_digit text then Some (min (decimal_value text) longest_packet_bits) else None

@@ -11,12 +11,13 @@ use Rattle.mdb_items.specs.declared.rows.ParameterRow.{ParameterRow}
 use Rattle.mdb_items.specs.CalibrationRows.{CalibrationRow, calibration_fault_at, calibrations_of, rows_of_calibration, with_calibration_row}
 use Rattle.mdb_items.specs.Checks.{first_at, or_else}
 use Rattle.mdb_items.specs.ContainerRows.{ContainerRow, container_fault_at, containers_of, rows_of_container, with_container_row}
-use Rattle.mdb_items.specs.Database.{Database, IsDatabase, broken_below, calibrations_fault, containers_fault, limit_passed, parameters_fault, row_count, database_rows}
+use Rattle.mdb_items.specs.Database.{Database, IsDatabase, broken_below, calibrations_fault, containers_fault, parameters_fault, database_rows}
 use Rattle.mdb_items.specs.ParameterRows.{parameter_fault_at, parameter_of, parameters_of, row_of_parameter}
 use Rattle.mdb_model.specs.Rechecking.{HasRows, calibration_fault_before, calibrations_sound, container_fault_below, containers_sound, parameter_fault_below, parameters_sound, with_parameter_row}
 use Rattle.mdb_octets.specs.Spelling.{FitsDatabase}
 use Rattle.std.specs.List.{AllByRecursion}
 use Rattle.mdb_model.proofs.ContainersFit.{containers_fit}
+use Rattle.mdb_model.proofs.Counts.{counts}
 use Rattle.mdb_model.proofs.DatabaseFits.{calibrations_fit, calibrations_have_rows, parameters_fit}
 use Rattle.mdb_items.proofs.Ends.{slice_get-end, take-front}
 use Rattle.mdb_rules.proofs.Passing.{or_else-none}
@@ -94,24 +95,6 @@ parts_of d is =
       containers_none = ap (λ (x : List Parameter). containers_fault x r.containers) (sym ps) ∙ two.1;
     }
 
-record Few (d : Database) : Type 0 where
-  calibrations : length d.calibrations ≤ 4096
-  rows : sum_by row_count d.calibrations ≤ 65536
-  parameters : length d.parameters ≤ 4096
-  containers : length d.containers ≤ 4096
-
-if_none : {X : Type 0} (b : Bool) (x : X) (rest : Option X) → cond b (Some x) rest ≡ None → (b ≡ false) × (rest ≡ None)
-if_none true x rest e = cc
-if_none false x rest e = (refl, e)
-
-few_of : (d : Database) → limit_passed d ≡ None → Few d
-few_of d small =
-    let a = if_none (ltb 4096 (length d.calibrations)) _ _ small in
-    let b = if_none (ltb 65536 (sum_by row_count d.calibrations)) _ _ a.1 in
-    let c = if_none (ltb 4096 (length d.parameters)) _ _ b.1 in
-    let e = if_none (ltb 4096 (length d.containers)) _ _ c.1 in
-    record { calibrations = ltb-false _ _ a.0; rows = ltb-false _ _ b.0; parameters = ltb-false _ _ c.0; containers = ltb-false _ _ e.0 }
-
 pub has_rows : (d : Database) → IsDatabase d → AllByRecursion HasRows d.calibrations
 has_rows d is = let p = parts_of d is in subst (λ (cs : List Calibration). AllByRecursion HasRows cs) p.calibrations (calibrations_have_rows (flat_map rows_of_calibration d.calibrations) p.calibrations_none)
 
@@ -119,7 +102,7 @@ has_rows d is = let p = parts_of d is in subst (λ (cs : List Calibration). AllB
 pub database_fits : (d : Database) → IsDatabase d → FitsDatabase d
 database_fits d is =
     let p = parts_of d is in
-    let few = few_of d is.small in
+    let few = counts d is.small in
     let a = few.calibrations in
     let b = few.parameters in
     let c = few.containers in

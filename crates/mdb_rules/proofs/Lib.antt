@@ -7,3 +7,4 @@ pub mod ContainerSteps
 pub mod Passing
 pub mod CalibrationSpelling
 pub mod CalibrationSteps
+pub mod NumberSteps

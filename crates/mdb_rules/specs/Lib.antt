@@ -1,2 +1,3 @@
+pub mod NotedNumbers
 pub mod Steps
 pub mod Totals

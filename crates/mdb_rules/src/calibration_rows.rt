@@ -10,7 +10,8 @@ ghost use Rattle.mdb_items.specs.Numbers.{is_decimal, is_in_range, is_whole_numb
 ghost use Rattle.mdb_rules.specs.Steps.{IsInStep};
 ghost use Rattle.mdb_items.specs.Texts.{place_of};
 
-use crate::name_index::{NameIndex, Numbers};
+use crate::name_index::NameIndex;
+use crate::numbers::Numbers;
 use item_list::items::Items;
 use mdb_items::calibration::{Calibration, Calibrator, EnumRow, PointsRow, PolyRow};
 use mdb_items::name::MdbName;

@@ -7,6 +7,7 @@ ghost use Rattle.mdb_items.specs.ContainerRows.{new_container_checks, compares_o
 ghost use Rattle.mdb_items.specs.declared.parameter.Parameter.{Parameter as ParameterValue};
 ghost use Rattle.mdb_items.specs.declared.rows.ContainerColumns.TheVariants.{Begins as BeginsValue};
 ghost use Rattle.mdb_items.specs.Paths.{bits_at, last_number, path_at, path_end, paths_of, stands_on, AreEarlier};
+ghost use Rattle.mdb_items.specs.Limits.{longest_packet_bits};
 ghost use Rattle.mdb_items.specs.Lists.{at_last, is_empty};
 ghost use Rattle.mdb_items.specs.Numbers.{is_in_range};
 ghost use Rattle.mdb_items.specs.ParameterRows.{referenced_number};
@@ -423,7 +424,7 @@ impl Containers {
         requires path { HasPaths parameters.now self.old }
         requires begun { 0 < length self.old.items.items }
         requires room { length (last_path self.old.items.items).entries < 256 }
-        requires near { entry.at + bits_at parameters.now entry.parameter ≤ 524336 }
+        requires near { entry.at + bits_at parameters.now entry.parameter ≤ longest_packet_bits }
         ensures added { OnOk result (self.new.items.items ≡ at_last (with_new_entry entry) self.old.items.items) }
         ensures path { OnOk result (HasPaths parameters.now self.new) }
     {

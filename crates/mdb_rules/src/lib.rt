@@ -9,4 +9,5 @@ pub mod condition;
 pub mod container_rows;
 pub mod limits;
 pub mod name_index;
+pub mod numbers;
 pub mod parameter_rows;

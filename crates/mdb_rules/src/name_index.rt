@@ -1,9 +1,7 @@
-//! Distinct names and distinct numbers, found by their hashes.
+//! Distinct names, found by their hashes.
 
-ghost use Rattle.std.specs.Prelude.{◌≡◌, ◌∷◌, ◌++◌, [], OnOk, OnErr, None, false};
-ghost use Rattle.std.specs.List.{list_any};
+ghost use Rattle.std.specs.Prelude.{◌≡◌, ◌∷◌, ◌++◌, [], OnOk, OnErr, None};
 ghost use Rattle.mdb_items.specs.Texts.{place_of};
-ghost use Rattle.mdb_items.specs.Numbers.{has_number};
 
 use indexmap::IndexSet;
 use std::alloc::{AllocError, Global};
@@ -46,46 +44,6 @@ impl NameIndex {
         ensures kept { OnErr result (self.new ≡ self.old) }
     {
         self.set.insert(name)?;
-        Ok(())
-    }
-}
-
-/// Distinct numbers in the order in which they were first seen.
-#[derive(Drop)]
-pub struct Numbers {
-    set: IndexSet<i128>,
-}
-
-impl Model for Numbers {
-    ghost use Rattle.std.specs.Prelude.{List, ℤ};
-
-    ghost Value = { List ℤ };
-
-    ghost view = { λ a. a.set.keys };
-}
-
-impl Numbers {
-    pub fn new(alloc: Global) -> Numbers
-        ensures { result ≡ [] }
-    {
-        Numbers {
-            set: IndexSet::new(alloc),
-        }
-    }
-
-    pub fn contains(&self, number: i128) -> bool
-        ensures { result ≡ has_number number self.now }
-    {
-        self.set.contains(&number)
-    }
-
-    /// Adds a number that is not there. It goes last. Where there's no memory the numbers stay as they were.
-    pub fn add(&mut self, number: i128) -> Result<(), AllocError>
-        requires { has_number number self.old ≡ false }
-        ensures added { OnOk result (self.new ≡ self.old ++ number ∷ []) }
-        ensures kept { OnErr result (self.new ≡ self.old) }
-    {
-        self.set.insert(number)?;
         Ok(())
     }
 }

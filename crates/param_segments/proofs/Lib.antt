@@ -22,3 +22,4 @@ pub mod Decoded
 pub mod Placed
 pub mod Asked
 pub mod SegmentValues
+pub mod ListSteps

@@ -1,3 +1,4 @@
+pub mod NotedLists
 pub mod Rows
 pub mod Groups
 pub mod Segments

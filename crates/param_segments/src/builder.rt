@@ -42,7 +42,7 @@ impl Model for SetBuilder {
     ghost invariant = { λ b. AreGroups b.numbers b.groups.items };
 }
 
-/// The number of the group of values: most often the one that was guessed, else found by the hash of their parameters,
+/// The number of the group of values: most often the one that was guessed, else found by the order of their parameters,
 /// which then stand in the buffer.
 fn number_of(
     numbers: &GroupNumbers,

@@ -1,4 +1,4 @@
-//! Which group may have a row, guessed before its parameters are hashed.
+//! Which group may have a row, guessed before its parameters are looked for.
 
 ghost use Rattle.std.specs.Prelude.{◌<◌};
 

@@ -1,25 +1,32 @@
-//! Distinct lists of parameters, found by their hashes.
+//! Distinct lists of parameters, found by their order.
 
 ghost use Rattle.std.specs.Prelude.{◌≡◌, ◌∷◌, ◌++◌, [], nat_eq, OnOk, OnErr, None};
 ghost use Rattle.std.specs.List.{position};
 ghost use lib.Pointwise.{pointwise};
 
-use indexmap::IndexSet;
 use std::alloc::{AllocError, Global};
+use std::collections::BTreeMap;
 use std::marker::Model;
+use std::snapshot::Snapshot;
 
-/// Distinct lists of parameters, numbered in the order in which they were first seen.
+/// Distinct lists of parameters, numbered in the order in which they were first seen. A tree finds them: who writes a
+/// sheet, or a set that is read, picks its lists, and could make a hash of them slow.
 #[derive(Drop)]
 pub struct GroupNumbers {
-    set: IndexSet<Vec<u16>>,
+    tree: BTreeMap<Vec<u16>, usize>,
+    /// The lists as they came, for contracts alone: a snapshot takes no memory.
+    order: Vec<Snapshot<Vec<u16>>>,
 }
 
 impl Model for GroupNumbers {
-    ghost use Rattle.std.specs.Prelude.{List, ℕ, map};
+    ghost use Rattle.std.specs.Prelude.{List, ℕ};
+    ghost use Rattle.param_segments.specs.NotedLists.{AreNumbered, noted_lists};
 
     ghost Value = { List (List ℕ) };
 
-    ghost view = { λ a. map (λ k. k.items) a.set.keys };
+    ghost view = { λ g. noted_lists g.order.items };
+
+    ghost invariant = { λ g. AreNumbered g.tree.entries (noted_lists g.order.items) };
 }
 
 impl GroupNumbers {
@@ -28,7 +35,8 @@ impl GroupNumbers {
         ensures { result ≡ [] }
     {
         GroupNumbers {
-            set: IndexSet::new(alloc),
+            tree: BTreeMap::new(alloc),
+            order: Vec::new(alloc),
         }
     }
 
@@ -38,7 +46,7 @@ impl GroupNumbers {
     pub fn number(&self, parameters: &[u16]) -> Option<usize>
         ensures { result ≡ position (pointwise nat_eq parameters.now) self.now }
     {
-        self.set.get_index_of(parameters)
+        self.tree.get(parameters).copied()
     }
 
     /// Adds a list that is not there. It goes last. Where there's no memory the lists stay as they were.
@@ -47,7 +55,11 @@ impl GroupNumbers {
         ensures added { OnOk result (self.new ≡ self.old ++ parameters.items ∷ []) }
         ensures kept { OnErr result (self.new ≡ self.old) }
     {
-        self.set.insert(parameters)?;
+        self.order.reserve(1)?;
+        let number = self.order.len();
+        let noted = Snapshot::of(&parameters);
+        self.tree.insert(parameters, number)?;
+        self.order.push_reserved(noted);
         Ok(())
     }
 }

@@ -11,7 +11,7 @@ use Rattle.partitions.specs.declared.partition.Partition.{Partition}
 use Rattle.partitions.specs.declared.links.Link.{Link}
 use Rattle.partitions.specs.Partition.{partition_cmp}
 use Rattle.partitions.specs.Places.{is_noted_in, places_below, last_place_below}
-use Rattle.partitions.specs.Links.{place_of_word, noted_in, AreChained, AreAt, part_at, places_up_to}
+use Rattle.partitions.specs.Links.{place_of_word, noted_in, AreChained, AreAt, noted_partition, places_up_to}
 use Rattle.partitions.proofs.Order.{partition_cmp_total, exact_partitions}
 
 -- ---- a list and one item more
@@ -132,7 +132,7 @@ length-noted links = length-map links (λ (l : Link). l.noted.value)
 
 -- a link leads to the places before its own
 module _ (links : List Link) (place : ℕ) (link : Link) (chained : AreChained links) (is : slice_get links place ≡ Some link) where
-  noted_there : link.noted.value ≡ part_at links place
+  noted_there : link.noted.value ≡ noted_partition links place
   noted_there = sym (get_or_from_slice_get (noted_in links) place link.noted.value (record { day = pos 0; pname = 0 }) (slice_get-map (λ (l : Link). l.noted.value) links place ∙ ap (λ (o : Option Link). option_map (λ (l : Link). l.noted.value) o) is))
 
   pub next_at : AreAt links (place_of_word link.earlier)

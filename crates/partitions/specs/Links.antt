@@ -23,10 +23,10 @@ pub record AreAt (links : List Link) (next : Option ℕ) : Type 0 where
   pub within : IfSome next (λ place. place < length links)
 
 -- the partition noted at a place
-abbrev pub part_at : List Link → ℕ → Partition
-part_at links place = slice_index_or (noted_in links) place (record { day = pos 0; pname = 0 })
+abbrev pub noted_partition : List Link → ℕ → Partition
+noted_partition links place = slice_index_or (noted_in links) place (record { day = pos 0; pname = 0 })
 
 -- a place and those before it of its partition, the last first; no place has none before it
 abbrev pub places_up_to : List Link → Option ℕ → List ℕ
 places_up_to links None = []
-places_up_to links (Some place) = place ∷ places_below place (part_at links place) (noted_in links)
+places_up_to links (Some place) = place ∷ places_below place (noted_partition links place) (noted_in links)

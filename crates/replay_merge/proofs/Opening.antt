@@ -18,13 +18,14 @@ use Rattle.std.proofs.lemmas.List.Sorted.{Contains-permutation, IsPermutation-sy
 use Rattle.arch_types.specs.declared.row.Row.{Row}
 use Rattle.asks.specs.declared.ask.ReplayRequest.{ReplayRequest}
 use Rattle.arch_types.specs.Table.{range_of}
+use Rattle.arch_types.specs.Directions.{truncated}
 use Rattle.partitions.specs.declared.partition.Partition.{Partition}
 use Rattle.partitions.specs.Partition.{partition_cmp}
 use Rattle.partitions.specs.Partitions.{AreRising}
 use Rattle.partitions.specs.Rows.{is_of_partition, is_of_parts}
 use Rattle.partitions.proofs.Order.{partition_cmp_total, exact_partitions}
 use Rattle.partitions.proofs.Parted.{equal_by}
-use Rattle.replay_merge.specs.Replay.{has_listed_name, rows_asked, truncated, replay_of, HoldsEachRow}
+use Rattle.replay_merge.specs.Replay.{has_listed_name, rows_asked, HoldsEachRow}
 use Rattle.replay_merge.specs.Cursor.{CursorView, rest_of, IsAtEnd, IsCursorOf}
 use Rattle.replay_merge.proofs.Tied.{none_in_parts}
 use Rattle.replay_merge.proofs.Reading.{all_pass}
@@ -88,7 +89,7 @@ all_there given parts same (row ∷ rows) all = (there given parts same row all.
 -- a cursor that was just opened, over all partitions that it needs, has the replay before it
 pub opened_is_replay : (request : ReplayRequest) (table front : ℕ) (parts : List Partition) (names : Option (List ℕ)) (c : CursorView) → IsCursorOf request table front parts names c → (history : List Row) →
     HoldsEachRow parts (rows_asked table request.from request.to names (take front history)) →
-    rest_of c history ≡ replay_of table request.from request.to names request.limit (take front history)
+    rest_of c history ≡ truncated request.limit (rows_asked table request.from request.to names (take front history))
 opened_is_replay request table front parts names c is history hold =
     let range = range_of table request.from request.to (take front history) in
     let asked : rows_asked c.table c.from c.to c.names (take c.front history) ≡ rows_asked table request.from request.to names (take front history) =

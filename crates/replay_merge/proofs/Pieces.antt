@@ -6,9 +6,9 @@ use Rattle.std.specs.List.Sorted.{IsSortedBy}
 use Rattle.std.proofs.lemmas.Bool.Decides.{nat_tests}
 use Rattle.std.proofs.lemmas.List.{take-append-drop, take_all, drop_all, take_at, drop_at, reverse-append, length-reverse, length-drop, length-take, get_or-take, get_or-drop}
 use Rattle.arch_types.specs.declared.row.Row.{Row}
+use Rattle.arch_types.specs.Directions.{truncated}
 use Rattle.partitions.specs.declared.partition.Partition.{Partition}
 use Rattle.replay_merge.specs.declared.wanted.Wanted.{Wanted}
-use Rattle.replay_merge.specs.Replay.{truncated}
 use Rattle.replay_merge.specs.Cursor.{CursorView, rest_of, still_ahead, left_after}
 use Rattle.replay_merge.specs.Fetch.{wanted_in}
 

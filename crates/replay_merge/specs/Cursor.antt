@@ -1,11 +1,12 @@
 -- Where a replay stands.
 use Rattle.std.specs.Prelude.{◌≡◌, ◌⊎◌, ◌↔◌, ◌-◌, ◌+◌, ◌*◌, ◌^◌, ◌<◌, ℕ, ℤ, List, length, [], ◌++◌, take, filter, Option, Some, None, ◌==◌, if◌then◌else◌, Contains}
 use Rattle.arch_types.specs.declared.row.Row.{Row}
+use Rattle.arch_types.specs.Directions.{truncated}
 use Rattle.asks.specs.declared.ask.ReplayRequest.{ReplayRequest}
 use Rattle.partitions.specs.declared.partition.Partition.{Partition}
 use Rattle.partitions.specs.Partitions.{AreRising}
 use Rattle.partitions.specs.Rows.{is_of_parts}
-use Rattle.replay_merge.specs.Replay.{is_listed_name, rows_asked, truncated, IsReplayedRow}
+use Rattle.replay_merge.specs.Replay.{is_listed_name, rows_asked, IsReplayedRow}
 
 -- what contracts see of a cursor
 pub record CursorView : Type 0 where

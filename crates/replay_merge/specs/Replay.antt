@@ -1,8 +1,12 @@
 -- A replay: the rows of a table in a range of times, of some packet names, in the order of their keys.
-use Rattle.std.specs.Prelude.{◌≡◌, ℕ, ℤ, List, take, filter, Option, Some, None, Bool, true, nat_eq}
+use Rattle.std.specs.Prelude.{◌≡◌, ℕ, ℤ, List, filter, Option, Some, None, Bool, true, nat_eq}
 use Rattle.std.specs.List.{list_any, AllByRecursion}
+use Rattle.asks.specs.declared.ask.ReplayRequest.{ReplayRequest}
+use Rattle.asks.specs.Names.{packet_name_numbers}
 use Rattle.arch_types.specs.declared.row.Row.{Row}
+use Rattle.arch_types.specs.Directions.{truncated}
 use Rattle.arch_types.specs.Table.{is_in_time_range, range_of}
+use Rattle.mdb_items.specs.Database.{Database}
 use Rattle.partitions.specs.declared.partition.Partition.{Partition}
 use Rattle.partitions.specs.Rows.{is_of_parts}
 use Rattle.replay_merge.specs.RowSource.{IsKeyedRow}
@@ -20,14 +24,11 @@ has_listed_name names row = is_listed_name names row.pname
 abbrev pub rows_asked : ℕ → ℤ → ℤ → Option (List ℕ) → List Row → List Row
 rows_asked table from to names history = filter (has_listed_name names) (range_of table from to history)
 
--- the first items, so many at most where there is a limit
-abbrev pub truncated : {X : Type 0} → Option ℕ → List X → List X
-truncated None xs = xs
-truncated (Some limit) xs = take limit xs
-
--- the replay of a history
-abbrev pub replay_of : ℕ → ℤ → ℤ → Option (List ℕ) → Option ℕ → List Row → List Row
-replay_of table from to names limit history = truncated limit (rows_asked table from to names history)
+-- the replay of a request, whose table has this number, over a history: the rows of the table in its range of its packet names
+-- in key order, and of these the first `limit`
+abbrev pub replay_of : Database → ℕ → ReplayRequest → List Row → List Row
+replay_of db table request history =
+    truncated request.limit (rows_asked table request.from request.to (packet_name_numbers db request.names) history)
 
 -- each of the rows stands in one of these partitions
 abbrev pub HoldsEachRow : List Partition → List Row → Type 0

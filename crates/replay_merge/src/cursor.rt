@@ -3,9 +3,10 @@
 ghost use Rattle.std.specs.Prelude.{◌≡◌, ◌<◌, ◌≤◌, ◌++◌, ◌↔◌, List, [], length, take, Some, Contains, IfOk, IfErr, IfSome, OnErr};
 ghost use Rattle.std.specs.List.{AllByRecursion};
 ghost use Rattle.arch_types.specs.declared.row.Row.{Row};
+ghost use Rattle.arch_types.specs.Directions.{truncated};
 ghost use Rattle.partitions.specs.Partitions.{AreRising};
 ghost use Rattle.replay_merge.specs.RowSource.{AreInKeyOrder, IsRowFault, UsedRowSource};
-ghost use Rattle.replay_merge.specs.Replay.{rows_asked, replay_of, HoldsEachRow};
+ghost use Rattle.replay_merge.specs.Replay.{rows_asked, HoldsEachRow};
 ghost use Rattle.replay_merge.specs.Cursor.{rest_of, steps_at_most, AsksTheSame, EndsExactly, IsRowAsked, IsCursorOf, left_after};
 
 use crate::ahead::{Ahead, split_first};
@@ -69,8 +70,8 @@ impl Cursor {
         ensures opened { IsCursorOf request.now table front parts names result }
         ensures replays { (history : List Row)
             → HoldsEachRow parts (rows_asked table request.now.from request.now.to names (take front history))
-            → rest_of result history
-            ≡ replay_of table request.now.from request.now.to names request.now.limit (take front history) }
+            → rest_of result history ≡ truncated request.now.limit
+            (rows_asked table request.now.from request.now.to names (take front history)) }
     {
         let parts = in_order(parts);
         let ahead = Ahead::new(*parts.allocator());

@@ -2,8 +2,9 @@
 //
 // A `RowSource` gives the rows below a front of one partition, a day and a packet name, or of several in a range of times. A `Cursor`
 // goes over the partitions that it was given, day after day, and hands their rows on piece by piece: what the calls of `next` gave is the
-// replay (`replay_of`, specs/Replay.antt), whatever was added to the source in the meantime. Contracts see it as a `CursorView`
-// (specs/Cursor.antt), and `rest_of` is what it has still to give.
+// replay, whatever was added to the source in the meantime. Contracts see it as a `CursorView` (specs/Cursor.antt), and `rest_of` is what
+// it has still to give. What the replay of a request is stands here alone (`replay_of`, specs/Replay.antt): the store and the plain machine
+// both say it by that.
 // Callers: the store is a source, and opens and continues replays; ssql_select asks a source for the rows of a day.
 //
 // The one idea of the proof: days in order, because a key begins with its time, so that the rows of a day's partitions come before

@@ -1,6 +1,6 @@
 //! The key of a packet.
 
-ghost use Rattle.std.specs.Prelude.{◌≡◌, ◌+◌, ◌<◌, ◌≤◌, length};
+ghost use Rattle.std.specs.Prelude.{◌≡◌, ◌+◌, ◌^◌, ◌<◌, ◌≤◌, length};
 ghost use Rattle.arch_types.specs.Packet.{IsPacket};
 ghost use Rattle.arch_types.specs.GenerationTime.{number_of_2, number_of_4, key_of};
 
@@ -28,7 +28,7 @@ pub fn key_of(packet: &[u8], rectime: i64) -> Key
 fn read_u16(octets: &[u8], at: usize) -> u32
     requires { at + 2 ≤ length octets.now }
     ensures value { result ≡ number_of_2 octets.now at }
-    ensures range { result < 65536 }
+    ensures range { result < 2 ^ 16 }
 {
     256 * u32::from(octets[at]) + u32::from(octets[at + 1])
 }
