@@ -7,10 +7,14 @@ use Rattle.arch_types.specs.declared.row.Row.{Row}
 use Rattle.arch_types.proofs.Histories.{only_adds}
 use Rattle.arch_types.specs.declared.inserted.Inserted.{Inserted}
 use Rattle.arch_types.specs.declared.inserted.Inserted.TheVariants.{New, Duplicate}
-use Rattle.history_items.specs.Items.{Item, after_row, after_rows, has_key_of}
+use Rattle.history_items.specs.declared.items.Item.{Item}
+use Rattle.arch_types.specs.History.{ingested, is_duplicate_of, with_row}
+use Rattle.history_items.specs.Items.{after_row, items_of}
 use Rattle.history_items.specs.Outcomes.{outcome_of, outcome_at, outcomes_of}
 use Rattle.history_items.specs.Places.{first_place}
-use Rattle.history_items.proofs.Outcomes.{kept_same, kept_new}
+use Rattle.history_items.proofs.ItemLists.{items_with_row}
+use Rattle.history_items.proofs.Places.{first_some, first_none as none_first}
+use Rattle.archive_core.proofs.OfRows.{as_long, first_item}
 
 -- ---- the first place, counted on
 
@@ -67,29 +71,33 @@ first_none test xs i all = sym (ap (first_from test i) (none_from xs i all))
 -- ---- one row
 
 -- a row whose table and key are there
-pub row_there : (history : List Item) (row : Row) (place : ℕ) → first_place (has_key_of row) history ≡ Some place → (outcome_of history row ≡ Duplicate place) × (after_row history row ≡ history)
-row_there history row place is = (ap (λ (o : Option ℕ). outcome_at o (length history)) is, kept_same history row place is)
+pub row_there : (rows : List Row) (row : Row) (place : ℕ) → first_place (is_duplicate_of row) rows ≡ Some place → (outcome_of (items_of rows) row ≡ Duplicate place) × (with_row rows row ≡ rows)
+row_there rows row place is =
+    (ap (λ (o : Option ℕ). outcome_at o (length (items_of rows))) (first_item row rows ∙ is), rw (first_some (is_duplicate_of row) rows place is) refl)
 
 -- and one whose table and key aren't
-pub row_new : (history : List Item) (row : Row) → first_place (has_key_of row) history ≡ None → (outcome_of history row ≡ New (length history)) × (after_row history row ≡ history ++ row ∷ [])
-row_new history row is = (ap (λ (o : Option ℕ). outcome_at o (length history)) is, kept_new history row is)
+pub row_new : (rows : List Row) (row : Row) → first_place (is_duplicate_of row) rows ≡ None → (outcome_of (items_of rows) row ≡ New (length rows)) × (with_row rows row ≡ rows ++ row ∷ [])
+row_new rows row is = (
+  ap (λ (o : Option ℕ). outcome_at o (length (items_of rows))) (first_item row rows ∙ is) ∙ ap New (as_long rows),
+  rw (none_first (is_duplicate_of row) rows is) refl,
+)
 
 -- ---- one row more of a batch
 
-pub outcomes_more : (before now : List Inserted) (rows grown : List Item) (batch : List Row) (i : ℕ) (row : Row) (outcome : Inserted) → slice_get batch i ≡ Some row → outcome ≡ outcome_of rows row
-    → grown ≡ after_row rows row → now ≡ before ++ outcome ∷ [] → now ++ outcomes_of grown (drop (i + 1) batch) ≡ before ++ outcomes_of rows (drop i batch)
+pub outcomes_more : (before now : List Inserted) (rows grown batch : List Row) (i : ℕ) (row : Row) (outcome : Inserted) → slice_get batch i ≡ Some row → outcome ≡ outcome_of (items_of rows) row
+    → grown ≡ with_row rows row → now ≡ before ++ outcome ∷ [] → now ++ outcomes_of (items_of grown) (drop (i + 1) batch) ≡ before ++ outcomes_of (items_of rows) (drop i batch)
 outcomes_more before now rows grown batch i row outcome at is grows pushed =
-    ap (λ (l : List Inserted). l ++ outcomes_of grown (drop (i + 1) batch)) pushed
-    ∙ append_assoc before (outcome ∷ []) (outcomes_of grown (drop (i + 1) batch))
-    ∙ ap (λ (l : List Item). before ++ (outcome ∷ outcomes_of l (drop (i + 1) batch))) grows
-    ∙ ap (λ (o : Inserted). before ++ (o ∷ outcomes_of (after_row rows row) (drop (i + 1) batch))) is
-    ∙ ap (λ (l : List Row). before ++ outcomes_of rows l) (sym (cut_at batch i row at))
+    ap (λ (l : List Inserted). l ++ outcomes_of (items_of grown) (drop (i + 1) batch)) pushed
+    ∙ append_assoc before (outcome ∷ []) (outcomes_of (items_of grown) (drop (i + 1) batch))
+    ∙ ap (λ (l : List Item). before ++ (outcome ∷ outcomes_of l (drop (i + 1) batch))) (ap items_of grows ∙ items_with_row rows row)
+    ∙ ap (λ (o : Inserted). before ++ (o ∷ outcomes_of (after_row (items_of rows) row) (drop (i + 1) batch))) is
+    ∙ ap (λ (l : List Row). before ++ outcomes_of (items_of rows) l) (sym (cut_at batch i row at))
 
-pub rows_more : (rows grown : List Item) (batch : List Row) (i : ℕ) (row : Row) → slice_get batch i ≡ Some row → grown ≡ after_row rows row → after_rows grown (drop (i + 1) batch) ≡ after_rows rows (drop i batch)
+pub rows_more : (rows grown batch : List Row) (i : ℕ) (row : Row) → slice_get batch i ≡ Some row → grown ≡ with_row rows row → ingested grown (drop (i + 1) batch) ≡ ingested rows (drop i batch)
 rows_more rows grown batch i row at grows =
-    ap (λ (l : List Item). after_rows l (drop (i + 1) batch)) grows ∙ ap (after_rows rows) (sym (cut_at batch i row at))
+    ap (λ (l : List Row). ingested l (drop (i + 1) batch)) grows ∙ ap (ingested rows) (sym (cut_at batch i row at))
 
-pub longer : (now : List Item) (row : Row) → length now ≤ length (after_row now row)
+pub longer : (now : List Row) (row : Row) → length now ≤ length (with_row now row)
 longer now row =
     let more = only_adds now (row ∷ []) in
     omega (arith, ap length more.1, length-append now more.0)
@@ -97,7 +105,7 @@ longer now row =
 -- ---- the rows that were there
 
 -- rows that begin with some begin with these once one more came
-pub still_first : (first now : List Item) (row : Row) → take (length first) now ≡ first → length first ≤ length now → take (length first) (after_row now row) ≡ first
+pub still_first : (first now : List Row) (row : Row) → take (length first) now ≡ first → length first ≤ length now → take (length first) (with_row now row) ≡ first
 still_first first now row is within =
     let more = only_adds now (row ∷ []) in
     ap (take (length first)) more.1 ∙ take-append-le (length first) now more.0 within ∙ is

@@ -1,3 +1,4 @@
+pub mod OfRows
 pub mod Cells
 pub mod Runs
 pub mod OneReply

@@ -1,5 +1,5 @@
 -- Each event has one reply.
-use Rattle.std.proofs.Common.{◌≡◌, ℕ, ℤ, ◌≤ℤ◌, ◌<ℤ◌, List, [], ◌∷◌, ◌++◌, Bool, true, false, Option, Some, None, refl, sym, ◌∙◌, ap, subst, arith}
+use Rattle.std.proofs.Common.{◌≡◌, ℕ, ℤ, ◌≤ℤ◌, ◌<ℤ◌, List, [], ◌∷◌, ◌++◌, length, Bool, true, false, Option, Some, None, refl, sym, ◌∙◌, ap, subst, arith}
 use Rattle.std.specs.Prelude.{int_lt, if◌then◌else◌}
 use Rattle.std.specs.Option.{option_map_or}
 use Rattle.std.proofs.lemmas.Int.{ints}
@@ -13,8 +13,12 @@ use Rattle.asks.specs.declared.refusal.AskRefusal.TheVariants.{UnknownParameter,
 use Rattle.asks.specs.Refusals.{range_refusal, replay_refusal, request_refusal}
 use Rattle.arch_types.specs.declared.row.Row.{Row}
 use Rattle.history_items.specs.declared.fills.Fill.TheVariants.{Begun}
-use Rattle.history_items.specs.Items.{Item, rows_in}
-use Rattle.archive_core.specs.Asks.{IsAnswered, IsReplayed, answer_of, replayed_rows}
+use Rattle.history_items.specs.declared.items.Item.{Item}
+use Rattle.history_items.specs.Items.{rows_in}
+use Rattle.history_items.specs.Databases.{database_in}
+use Rattle.container_extract.specs.Answer.{answer_of}
+use Rattle.replay_merge.specs.Replay.{replay_of}
+use Rattle.archive_core.specs.Asks.{IsAnswered, IsReplayed}
 use Rattle.archive_core.specs.Machine.{MachineStep, MachineRun}
 use Rattle.archive_core.specs.Replies.{RepliesToBegin, RepliesToInstall, RepliesToRequest, RepliesToReplay}
 use Rattle.archive_core.specs.declared.event.Event.{Event}
@@ -96,22 +100,22 @@ no_range_refused from to s range refused = either (int_lt to from) refl refused
 
 -- ---- values
 
-module _ (db : Database) (history : List Item) (request : Request) where
-  answer_is_one : (a b : Answer) → IsAnswered db history request a → IsAnswered db history request b → a ≡ b
+module _ (db : Database) (front : ℕ) (rows : List Row) (request : Request) where
+  answer_is_one : (a b : Answer) → IsAnswered db front rows request a → IsAnswered db front rows request b → a ≡ b
   answer_is_one a b x y =
       let number : x.number ≡ y.number = some_is x.number y.number (sym x.named ∙ y.named) in
-      let front : a.front ≡ b.front = x.front ∙ sym y.front in
-      let cells : a.cells ≡ b.cells = x.cells ∙ ap (λ (n : ℕ). answer_of db n request (rows_in history)) number ∙ sym y.cells in
-      ap (λ (n : ℕ). let r : Answer = record { front = n; cells = a.cells } in r) front
+      let fronts : a.front ≡ b.front = x.front_is ∙ sym y.front_is in
+      let cells : a.cells ≡ b.cells = x.cells ∙ ap (λ (n : ℕ). answer_of db n request rows) number ∙ sym y.cells in
+      ap (λ (n : ℕ). let r : Answer = record { front = n; cells = a.cells } in r) fronts
       ∙ ap (λ (l : List _). let r : Answer = record { front = b.front; cells = l } in r) cells
 
   -- what has an answer isn't refused
-  answered_or_refused : (a : Answer) (s : AskRefusal) → IsAnswered db history request a → request_refusal db request ≡ Some s → ⊥
+  answered_or_refused : (a : Answer) (s : AskRefusal) → IsAnswered db front rows request a → request_refusal db request ≡ Some s → ⊥
   answered_or_refused a s x y =
       no_range_refused request.from request.to s x.range
       (ap (λ (o : Option ℕ). option_map_or (λ number. range_refusal request.from request.to) o (Some UnknownParameter)) (sym x.named) ∙ y)
 
-  request_is_one : (r s : Reply) → RepliesToRequest db history request r → RepliesToRequest db history request s → r ≡ s
+  request_is_one : (r s : Reply) → RepliesToRequest db front rows request r → RepliesToRequest db front rows request s → r ≡ s
   request_is_one (Answered a) (Answered b) x y = ap Answered (answer_is_one a b x y)
   request_is_one (Answered a) (Refused s) x y = absurd (answered_or_refused a s x y)
   request_is_one (Answered a) _ x y = absurd y
@@ -122,20 +126,20 @@ module _ (db : Database) (history : List Item) (request : Request) where
 
 -- ---- rows
 
-module _ (tables : List (List ℕ)) (db : Database) (history : List Item) (request : ReplayRequest) where
-  rows_are_one : (n m : ℕ) (xs ys : List Row) → IsReplayed tables db history request n xs → IsReplayed tables db history request m ys → Replayed n xs ≡ Replayed m ys
+module _ (tables : List (List ℕ)) (db : Database) (front : ℕ) (history : List Row) (request : ReplayRequest) where
+  rows_are_one : (n m : ℕ) (xs ys : List Row) → IsReplayed tables db front history request n xs → IsReplayed tables db front history request m ys → Replayed n xs ≡ Replayed m ys
   rows_are_one n m xs ys x y =
       let table : x.table ≡ y.table = some_is x.table y.table (sym x.named ∙ y.named) in
-      let rows : xs ≡ ys = x.rows_are ∙ ap (λ (t : ℕ). replayed_rows db request t (rows_in history)) table ∙ sym y.rows_are in
+      let rows : xs ≡ ys = x.rows_are ∙ ap (λ (t : ℕ). replay_of db t request history) table ∙ sym y.rows_are in
       ap (λ (k : ℕ). Replayed k xs) (x.front_is ∙ sym y.front_is) ∙ ap (Replayed m) rows
 
   -- what has rows isn't refused
-  replayed_or_refused : (n : ℕ) (xs : List Row) (s : AskRefusal) → IsReplayed tables db history request n xs → replay_refusal tables request ≡ Some s → ⊥
+  replayed_or_refused : (n : ℕ) (xs : List Row) (s : AskRefusal) → IsReplayed tables db front history request n xs → replay_refusal tables request ≡ Some s → ⊥
   replayed_or_refused n xs s x y =
       no_range_refused request.from request.to s x.range
       (ap (λ (o : Option ℕ). option_map_or (λ table. range_refusal request.from request.to) o (Some (UnknownTable request.table))) (sym x.named) ∙ y)
 
-  replay_is_one : (r s : Reply) → RepliesToReplay tables db history request r → RepliesToReplay tables db history request s → r ≡ s
+  replay_is_one : (r s : Reply) → RepliesToReplay tables db front history request r → RepliesToReplay tables db front history request s → r ≡ s
   replay_is_one (Replayed n xs) (Replayed m ys) x y = rows_are_one n m xs ys x y
   replay_is_one (Replayed n xs) (Refused s) x y = absurd (replayed_or_refused n xs s x y)
   replay_is_one (Replayed n xs) _ x y = absurd y
@@ -156,8 +160,8 @@ module _ (e : ℕ) (tables : List (List ℕ)) (db : Database) where
   one old new other (Abandon caller interval) Abandoned Abandoned x y = (refl, x ∙ sym y)
   one old new other (Abandon caller interval) Abandoned _ x y = absurd y
   one old new other (Abandon caller interval) _ s x y = absurd x
-  one old new other (Retrieve caller request) r s x y = (request_is_one db old.history request r s x.0 y.0, x.1 ∙ sym y.1)
-  one old new other (Replay caller request) r s x y = (replay_is_one tables db old.history request r s x.0 y.0, x.1 ∙ sym y.1)
+  one old new other (Retrieve caller request) r s x y = (request_is_one (database_in db old.history) (length old.history) (rows_in old.history) request r s x.0 y.0, x.1 ∙ sym y.1)
+  one old new other (Replay caller request) r s x y = (replay_is_one tables (database_in db old.history) (length old.history) (rows_in old.history) request r s x.0 y.0, x.1 ∙ sym y.1)
 
   pub all_one : (old new other : MachineState) (events : List Event) (rs ss : List Reply) → MachineRun e tables db old events rs new → MachineRun e tables db old events ss other → (rs ≡ ss) × (new ≡ other)
   all_one old new other [] [] [] x y = (refl, x ∙ sym y)

@@ -3,14 +3,16 @@ use Rattle.std.proofs.Common.{◌≡◌, ℕ, List, [], ◌∷◌, ◌++◌, len
 use Rattle.std.specs.Prelude.{◌↔◌, fold, map, slice_get, if◌then◌else◌}
 use Rattle.std.specs.Option.{is_some}
 use mathlib.Core.List.{IsPrefix}
-use Rattle.arch_types.proofs.Histories.{only_adds}
 use Rattle.arch_types.specs.declared.inserted.Installed.TheVariants as became
 use Rattle.intervals.specs.declared.interval.Interval.{Interval}
 use Rattle.history_items.specs.declared.fills.Fill.{Fill}
 use Rattle.history_items.specs.declared.fills.Fill.TheVariants.{Begun, Done, Freed}
 use Rattle.history_items.specs.FillList.{flights_of}
 use Rattle.history_items.specs.Fills.{in_flight}
-use Rattle.history_items.specs.Items.{Item}
+use Rattle.history_items.specs.declared.items.Item.{Item}
+use Rattle.history_items.specs.Items.{items_of}
+use Rattle.history_items.specs.Outcomes.{fresh_of}
+use Rattle.history_items.proofs.Outcomes.{fresh_added}
 use Rattle.archive_core.specs.declared.event.Event.{Event}
 use Rattle.archive_core.specs.declared.event.Event.TheVariants.{Ingest, Begin, Install, Abandon, Retrieve, Replay}
 use Rattle.archive_core.specs.declared.reply.Reply.{Reply}
@@ -61,8 +63,7 @@ module _ (e : ℕ) (tables : List (List ℕ)) (db : Database) where
 
   pub adds : (old new : MachineState) (event : Event) (reply : Reply) → MachineStep e tables db old event reply new → Adds old new
   adds old new (Ingest caller rows) (Ingested outcomes) is =
-      let more = only_adds old.history rows in
-      ((more.0, sym (is.history ∙ more.1)), stays old.fills new.fills is.fills)
+      ((items_of (fresh_of old.history rows), sym (is.history ∙ fresh_added old.history rows)), stays old.fills new.fills is.fills)
   adds old new (Ingest caller rows) _ is = absurd is
   adds old new (Begin caller) NoTask is = same_adds old new is.1
   adds old new (Begin caller) (Task interval base rows) is = (stays old.history new.history is.history, (Begun interval base ∷ [], sym is.fills))

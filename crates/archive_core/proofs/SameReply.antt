@@ -8,8 +8,8 @@ use Rattle.history_items.specs.declared.fills.Addition.{Addition}
 use Rattle.history_items.specs.declared.fills.Fill.{Fill}
 use Rattle.history_items.specs.declared.fills.Fill.TheVariants.{Begun, Done, Freed, Fault}
 use Rattle.history_items.specs.Fills.{base_in, base_after, in_flight, flight_after, reopened}
-use Rattle.history_items.specs.Items.{Item}
-use Rattle.history_items.specs.Late.{IsLate}
+use Rattle.history_items.specs.declared.items.Item.{Item}
+use Rattle.history_items.specs.Late.{IsChangedSince, IsLate}
 use Rattle.history_items.proofs.FillLists.{base_after_item, flight_after_item, base_in-reopened, in_flight-reopened}
 use Rattle.archive_core.specs.Alike.{AreAlike}
 use Rattle.archive_core.specs.Machine.{MachineStep}
@@ -23,11 +23,7 @@ use Rattle.mdb_items.specs.Database.{Database}
 -- ---- lateness is by the base, and freedom by the flight
 
 late_too : (e : ℕ) (i : Interval) (h : List Item) (f g : List Fill) → base_in i f ≡ base_in i g → IsLate e i h f → IsLate e i h g
-late_too e i h f g base late = record {
-  position = late.position;
-  stands = late.stands;
-  unseen = subst (λ (o : Option ℕ). MatchOption o ⊤ (λ b. b ≤ late.position)) base late.unseen;
-}
+late_too e i h f g base late = record { row = late.row; unseen = subst (λ (o : Option ℕ). MatchOption o ⊤ (λ b. IsChangedSince e i b h)) base late.unseen }
 
 free_too : (e : ℕ) (i : Interval) (h : List Item) (f g : List Fill) → base_in i f ≡ base_in i g → in_flight i f ≡ in_flight i g → IsLateFree e i (state_of h f) → IsLateFree e i (state_of h g)
 free_too e i h f g base flight x = record { late = late_too e i h f g base x.late; free = sym flight ∙ x.free }

@@ -5,7 +5,9 @@ use Rattle.std.specs.List.{filter_map}
 use Rattle.intervals.specs.declared.interval.Interval.{Interval}
 use Rattle.history_items.specs.declared.fills.Addition.{Addition}
 use Rattle.history_items.specs.declared.fills.Fill.TheVariants.{Fault}
-use Rattle.history_items.specs.Items.{Item, prefix}
+use Rattle.history_items.specs.declared.items.Item.{Item}
+use Rattle.history_items.specs.Items.{prefix}
+use Rattle.history_items.specs.Databases.{database_in}
 use Rattle.history_items.specs.FillList.{flights_of}
 use Rattle.history_items.specs.Fills.{base_in, reopened}
 use Rattle.history_items.specs.Late.{IsLate}
@@ -17,7 +19,7 @@ use Rattle.archive_core.specs.Alike.{AreAlike}
 use Rattle.archive_core.specs.Cells.{values_of_interval}
 use Rattle.archive_core.specs.Machine.{MachineStep, MachineRun}
 use Rattle.container_extract.specs.Extraction.{cell_of}
-use Rattle.interval_fills.specs.Intervals.{rows_of_interval, NoRowSince}
+use Rattle.interval_fills.specs.Intervals.{rows_of_interval, NoneSince}
 use Rattle.interval_fills.specs.Invariant.{MachineInvariant}
 use Rattle.interval_fills.specs.Steps.{MachineState, first_state, state_of, all_freed}
 use Rattle.mdb_items.specs.Database.{Database}
@@ -26,24 +28,24 @@ use Rattle.mdb_items.specs.Database.{Database}
 
 -- an interval's cells are those of its rows
 abbrev pub CellsAreOfRows : Type 0
-CellsAreOfRows = (db : Database) (q exponent : ℕ) (interval : Interval) (history : List Item) →
-    values_of_interval db q exponent interval history
-    ≡ filter_map (cell_of db q) (rows_of_interval exponent interval history)
+CellsAreOfRows = (first : Database) (q exponent : ℕ) (interval : Interval) (history : List Item) →
+    values_of_interval first q exponent interval history
+    ≡ filter_map (cell_of (database_in first history) q) (rows_of_interval exponent interval history)
 
--- where no row of an interval stands at or after a front, its cells are those of the rows below the front, whatever the
--- parameter
+-- where nothing that changes an interval stands at or after a front, its cells are those of the items below the front,
+-- whatever the parameter
 abbrev pub CellsAreThoseBelow : Type 0
-CellsAreThoseBelow = (db : Database) (q exponent : ℕ) (interval : Interval) (front : ℕ) (history : List Item) →
-    NoRowSince exponent interval front history →
-    values_of_interval db q exponent interval history
-    ≡ values_of_interval db q exponent interval (prefix front history)
+CellsAreThoseBelow = (first : Database) (q exponent : ℕ) (interval : Interval) (front : ℕ) (history : List Item) →
+    NoneSince exponent interval front history →
+    values_of_interval first q exponent interval history
+    ≡ values_of_interval first q exponent interval (prefix front history)
 
 -- an interval that was filled and isn't late has the cells that its last fill had
 abbrev pub FilledCellsStay : Type 0
-FilledCellsStay = (db : Database) (q exponent : ℕ) (interval : Interval) (base : ℕ) (s : MachineState) →
+FilledCellsStay = (first : Database) (q exponent : ℕ) (interval : Interval) (base : ℕ) (s : MachineState) →
     base_in interval s.fills ≡ Some base → (IsLate exponent interval s.history s.fills → ⊥) →
-    values_of_interval db q exponent interval s.history
-    ≡ values_of_interval db q exponent interval (prefix base s.history)
+    values_of_interval first q exponent interval s.history
+    ≡ values_of_interval first q exponent interval (prefix base s.history)
 
 -- ---- replies
 

@@ -4,7 +4,6 @@ use Rattle.asks.specs.declared.ask.ReplayRequest.{ReplayRequest}
 use Rattle.asks.specs.declared.ask.Request.{Request}
 use Rattle.intervals.specs.declared.interval.Interval.{Interval}
 use Rattle.arch_types.specs.declared.row.Row.{Row}
-use Rattle.history_items.specs.Items.{Item}
 use Rattle.archive_core.specs.declared.reply.Reply.{Reply}
 use Rattle.archive_core.specs.declared.reply.Reply.TheVariants.{Ingested, NoTask, Task, Void, Installed, Abandoned, Answered, Replayed, Refused}
 use Rattle.archive_core.specs.Asks.{IsAnswered, IsReplayed}
@@ -36,13 +35,14 @@ RepliesToAbandon old interval Abandoned new = new ≡ given_up interval old
 RepliesToAbandon old interval _ new = ⊥
 
 -- to who asks for values
-abbrev pub RepliesToRequest : Database → List Item → Request → Reply → Type 0
-RepliesToRequest db history request (Answered answer) = IsAnswered db history request answer
-RepliesToRequest db history request (Refused refusal) = request_refusal db request ≡ Some refusal
-RepliesToRequest db history request _ = ⊥
+abbrev pub RepliesToRequest : Database → ℕ → List Row → Request → Reply → Type 0
+RepliesToRequest db front rows request (Answered answer) = IsAnswered db front rows request answer
+RepliesToRequest db front rows request (Refused refusal) = request_refusal db request ≡ Some refusal
+RepliesToRequest db front rows request _ = ⊥
 
 -- to who asks for rows
-abbrev pub RepliesToReplay : List (List ℕ) → Database → List Item → ReplayRequest → Reply → Type 0
-RepliesToReplay tables db history request (Replayed front rows) = IsReplayed tables db history request front rows
-RepliesToReplay tables db history request (Refused refusal) = replay_refusal tables request ≡ Some refusal
-RepliesToReplay tables db history request _ = ⊥
+abbrev pub RepliesToReplay : List (List ℕ) → Database → ℕ → List Row → ReplayRequest → Reply → Type 0
+RepliesToReplay tables db front history request (Replayed told rows) =
+    IsReplayed tables db front history request told rows
+RepliesToReplay tables db front history request (Refused refusal) = replay_refusal tables request ≡ Some refusal
+RepliesToReplay tables db front history request _ = ⊥

@@ -7,7 +7,6 @@ use Rattle.arch_types.specs.declared.row.Row.{Row}
 use Rattle.arch_types.specs.History.{is_in_table}
 use Rattle.arch_types.specs.Table.{is_in_time_range}
 use Rattle.history_items.specs.declared.fills.Fill.{Fill}
-use Rattle.history_items.specs.Items.{Item}
 use Rattle.history_items.specs.Fills.{base_in, in_flight}
 use Rattle.late_marks.specs.Mark.{is_late_by}
 
@@ -15,16 +14,16 @@ use Rattle.late_marks.specs.Mark.{is_late_by}
 abbrev pub is_row_of_range : ℕ → ℤ → ℤ → Row → Bool
 is_row_of_range table low high row = is_in_table table row && is_in_time_range low high row
 
--- the interval of an item's time
-abbrev pub interval_at : ℕ → Item → Interval
-interval_at exponent item = record { 0 = interval_of exponent item.key.time }
+-- the interval of a row's time
+abbrev pub interval_at : ℕ → Row → Interval
+interval_at exponent row = record { 0 = interval_of exponent row.key.time }
 
 -- whether a row of `tm` at this position shows that its interval is late, and the interval is free
-abbrev pub shows_late_free : ℕ → List Fill → ℕ → Item → Bool
-shows_late_free exponent fills position item =
-    (item.table == 0)
-    && is_late_by position (base_in (interval_at exponent item) fills)
-    && not (is_some (in_flight (interval_at exponent item) fills))
+abbrev pub shows_late_free : ℕ → List Fill → ℕ → Row → Bool
+shows_late_free exponent fills position row =
+    (row.table == 0)
+    && is_late_by position (base_in (interval_at exponent row) fills)
+    && not (is_some (in_flight (interval_at exponent row) fills))
 
 -- whether an interval is below the least so far
 abbrev pub is_below_least : Option Interval → Interval → Bool

@@ -1,11 +1,10 @@
 //! Values of a parameter.
 
-ghost use Rattle.std.specs.Prelude.{◌≡◌, ◌+◌, ◌<◌, IfOk};
+ghost use Rattle.std.specs.Prelude.{◌≡◌, ◌+◌, ◌<◌, length, IfOk};
 ghost use Rattle.std.specs.List.{filter_map};
-ghost use Rattle.arch_types.specs.Directions.{in_direction};
+ghost use Rattle.arch_types.specs.Directions.{in_direction, truncated};
 ghost use Rattle.container_extract.specs.Extraction.{cell_of};
-ghost use Rattle.archive_core.specs.Asks.{answer_of};
-ghost use Rattle.replay_merge.specs.Replay.{truncated};
+ghost use Rattle.container_extract.specs.Answer.{answer_of};
 ghost use Rattle.archive_core.specs.Replies.{RepliesToRequest};
 
 use crate::ordered::{TM, range_of};
@@ -113,7 +112,7 @@ pub(crate) fn answered(
     rows: &[Row],
     request: &Request,
 ) -> Result<Reply, AllocError>
-    ensures { IfOk result (RepliesToRequest mdb.now rows.now request.now) }
+    ensures { IfOk result (RepliesToRequest mdb.now (length rows.now) rows.now request.now) }
 {
     let Some(number) = mdb.parameter_number(request.parameter.as_str()) else {
         return Ok(Reply::Refused(AskRefusal::UnknownParameter));

@@ -2,10 +2,11 @@
 
 ghost use Rattle.std.specs.Prelude.{◌≡◌, ◌≤◌, ◌↔◌, ◌++◌, ◌∷◌, [], List, length, take, Some, IfOk, IfSome, IfNone, OnOk, OnErr, IsTrue};
 ghost use Rattle.std.specs.List.{list_any};
-ghost use Rattle.history_items.specs.Items.{Item, is_row_of_interval};
+ghost use Rattle.history_items.specs.declared.items.Item.{Item};
+ghost use Rattle.history_items.specs.Items.{is_of_interval, items_of};
 ghost use Rattle.history_items.specs.Late.{last_in};
 ghost use Rattle.archive_core.specs.Replies.{RepliesToAbandon, RepliesToBegin, RepliesToInstall};
-ghost use Rattle.interval_fills.specs.Intervals.{NoRowSince};
+ghost use Rattle.interval_fills.specs.Intervals.{NoneSince};
 ghost use Rattle.interval_fills.specs.Steps.{InstallsFill, IsFillBase, freed, state_of};
 
 use crate::lateness::{in_flight, last_in, next_to_fill};
@@ -38,6 +39,7 @@ fn free(fills: &mut Vec<Fill>, interval: Interval) -> Result<(), AllocError>
 }
 
 /// The next task, where some late interval is free. Refused for want of memory, the list is as it was.
+#[tactic(auto, using(crate::proofs::OfRows::as_long))]
 pub(crate) fn begin(
     alloc: Global,
     rows: &[Row],
@@ -45,7 +47,7 @@ pub(crate) fn begin(
     exponent: Exponent,
 ) -> Result<Reply, AllocError>
     ensures reply { IfOk result (λ reply.
-        RepliesToBegin exponent (state_of rows.now fills.old.items) reply (state_of rows.now fills.new.items)) }
+        RepliesToBegin exponent (state_of (items_of rows.now) fills.old.items) reply (state_of (items_of rows.now) fills.new.items)) }
     ensures err { OnErr result (fills.new.items ≡ fills.old.items) }
 {
     let Some(interval) = next_to_fill(rows, fills.as_slice(), exponent) else {
@@ -63,7 +65,7 @@ pub(crate) fn begin(
 
 /// Whether a row of an interval is among these.
 fn has_row(rows: &[Row], interval: Interval, exponent: Exponent) -> bool
-    ensures { result ≡ list_any (is_row_of_interval exponent interval) rows.now }
+    ensures { result ≡ list_any (is_of_interval exponent interval) rows.now }
 {
     rows.iter()
         .any(|row| is_row_of_interval(row, interval, exponent))
@@ -72,7 +74,7 @@ fn has_row(rows: &[Row], interval: Interval, exponent: Exponent) -> bool
 /// Whether a row of an interval is among the first so many.
 fn has_row_below(rows: &[Row], interval: Interval, front: usize, exponent: Exponent) -> bool
     requires { front ≤ length rows.now }
-    ensures { result ≡ list_any (is_row_of_interval exponent interval) (take front rows.now) }
+    ensures { result ≡ list_any (is_of_interval exponent interval) (take front rows.now) }
 {
     let (first, _) = rows.split_at(front);
     has_row(first, interval, exponent)
@@ -80,16 +82,16 @@ fn has_row_below(rows: &[Row], interval: Interval, front: usize, exponent: Expon
 
 /// Whether a fill of an interval may have a base: it isn't above the history's length, and a row of the interval stands below it.
 fn is_fill_base(rows: &[Row], interval: Interval, base: u64, exponent: Exponent) -> bool
-    ensures { IsTrue result ↔ IsFillBase exponent interval base rows.now }
+    ensures { IsTrue result ↔ IsFillBase exponent interval base (items_of rows.now) }
 {
     let base = base as usize;
     base <= rows.len() && has_row_below(rows, interval, base, exponent)
 }
 
-/// The position of an interval's last row, where it stands at or after a base.
+/// The position of an interval's last change, where it stands at or after a base.
 fn last_since(rows: &[Row], interval: Interval, base: u64, exponent: Exponent) -> Option<u64>
-    ensures some { IfSome result (λ last. (base ≤ last) × (last_in exponent interval rows.now ≡ Some last)) }
-    ensures none { IfNone result (NoRowSince exponent interval base rows.now) }
+    ensures some { IfSome result (λ last. (base ≤ last) × (last_in exponent interval (items_of rows.now) ≡ Some last)) }
+    ensures none { IfNone result (NoneSince exponent interval base (items_of rows.now)) }
 {
     match last_in(rows, interval, exponent) {
         None => None,
@@ -106,7 +108,7 @@ fn install(
     exponent: Exponent,
 ) -> Result<Installed, AllocError>
     ensures became { IfOk result (λ became.
-        InstallsFill exponent (state_of rows.now fills.old.items) interval base became (state_of rows.now fills.new.items)) }
+        InstallsFill exponent (state_of (items_of rows.now) fills.old.items) interval base became (state_of (items_of rows.now) fills.new.items)) }
     ensures err { OnErr result (fills.new.items ≡ fills.old.items) }
 {
     match last_since(rows, interval, base, exponent) {
@@ -130,8 +132,8 @@ pub(crate) fn installed(
     exponent: Exponent,
 ) -> Result<Reply, AllocError>
     ensures reply { IfOk result (λ reply.
-        RepliesToInstall exponent (state_of rows.now fills.old.items) interval base reply
-        (state_of rows.now fills.new.items)) }
+        RepliesToInstall exponent (state_of (items_of rows.now) fills.old.items) interval base reply
+        (state_of (items_of rows.now) fills.new.items)) }
     ensures err { OnErr result (fills.new.items ≡ fills.old.items) }
 {
     if !is_fill_base(rows, interval, base, exponent) {

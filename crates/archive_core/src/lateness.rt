@@ -2,6 +2,7 @@
 
 ghost use Rattle.std.specs.Prelude.{◌≡◌, ◌&&◌, Some, if◌then◌else◌};
 ghost use Rattle.history_items.specs.Fills.{base_after, base_in, flight_after, in_flight};
+ghost use Rattle.history_items.specs.Items.{items_of};
 ghost use Rattle.history_items.specs.Late.{last_in};
 ghost use Rattle.late_marks.specs.Mark.{is_late_by};
 ghost use Rattle.interval_fills.specs.Steps.{IsNextToFill, state_of};
@@ -84,7 +85,7 @@ fn last_after(last: Option<u64>, position: u64, passes: bool) -> Option<u64>
 
 /// The position of an interval's last row.
 pub(crate) fn last_in(rows: &[Row], interval: Interval, exponent: Exponent) -> Option<u64>
-    ensures { result ≡ last_in exponent interval rows.now }
+    ensures { result ≡ last_in exponent interval (items_of rows.now) }
 {
     let mut last = None;
     for (i, row) in rows.iter().enumerate() {
@@ -133,7 +134,7 @@ fn least_after(
 
 /// The least interval that is late and free.
 pub(crate) fn next_to_fill(rows: &[Row], fills: &[Fill], exponent: Exponent) -> Option<Interval>
-    ensures { IsNextToFill exponent (state_of rows.now fills.now) result }
+    ensures { IsNextToFill exponent (state_of (items_of rows.now) fills.now) result }
 {
     let mut least = None;
     for (i, row) in rows.iter().enumerate() {

@@ -36,6 +36,7 @@ pub struct Core {
 
 impl Model for Core {
     ghost use Rattle.archive_core.specs.Core.{CoreView};
+    ghost use Rattle.history_items.specs.Items.{items_of};
     ghost use Rattle.interval_fills.specs.Invariant.{MachineInvariant};
     ghost use Rattle.interval_fills.specs.Steps.{state_of};
 
@@ -45,11 +46,10 @@ impl Model for Core {
       tables = c.tables;
       mdb = c.mdb;
       exponent = c.exponent;
-      state = state_of c.rows.items
-          c.fills.items;
+      state = state_of (items_of c.rows.items) c.fills.items;
     } };
 
-    ghost invariant = { λ c. MachineInvariant c.exponent (state_of c.rows.items c.fills.items) };
+    ghost invariant = { λ c. MachineInvariant c.exponent (state_of (items_of c.rows.items) c.fills.items) };
 }
 
 impl Core {
@@ -67,6 +67,7 @@ impl Core {
     }
 
     /// One event and its reply. The one error is want of memory, and then all is as before.
+    #[tactic(auto, using(crate::proofs::OfRows::answered_by, crate::proofs::OfRows::replayed_by))]
     pub fn step(&mut self, alloc: Global, event: &Event) -> Result<Reply, AllocError>
         ensures step { IfOk result (λ reply.
             MachineStep self.old.exponent self.old.tables self.old.mdb self.old.state event.now reply self.new.state) }
@@ -112,6 +113,7 @@ impl Core {
     }
 
     /// Events one after the other, and their replies. The one error is want of memory, and then all is as before the first.
+    #[tactic(auto, using(crate::proofs::OfRows::taken_back))]
     pub fn run(&mut self, alloc: Global, events: &[Event]) -> Result<Replies, AllocError>
         ensures run { IfOk result (λ replies.
             MachineRun self.old.exponent self.old.tables self.old.mdb self.old.state events.now replies self.new.state) }

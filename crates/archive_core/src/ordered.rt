@@ -4,7 +4,7 @@ ghost use Rattle.std.specs.Prelude.{◌≡◌, filter, IfOk, OnOk};
 ghost use Rattle.intervals.specs.Interval.{interval_of};
 ghost use Rattle.arch_types.specs.Order.{is_before, order_by};
 ghost use Rattle.arch_types.specs.Table.{range_of};
-ghost use Rattle.history_items.specs.Items.{is_row_of_interval};
+ghost use Rattle.history_items.specs.Items.{is_of_interval, items_of};
 ghost use Rattle.interval_fills.specs.Intervals.{rows_of_interval};
 ghost use Rattle.archive_core.specs.RowTests.{interval_at, is_row_of_range};
 
@@ -74,7 +74,7 @@ pub(crate) fn interval_of_row(row: &Row, exponent: Exponent) -> Interval
 
 /// Whether a row is of table `tm`, with its time in an interval.
 pub(crate) fn is_row_of_interval(row: &Row, interval: Interval, exponent: Exponent) -> bool
-    ensures { result ≡ is_row_of_interval exponent interval row.now }
+    ensures { result ≡ is_of_interval exponent interval row.now }
 {
     row.table == TM && interval_of_row(row, exponent) == interval
 }
@@ -86,7 +86,7 @@ fn rows_in_interval(
     interval: Interval,
     exponent: Exponent,
 ) -> Result<Vec<Row>, AllocError>
-    ensures { IfOk result (λ found. found.items ≡ filter (is_row_of_interval exponent interval) rows.now) }
+    ensures { IfOk result (λ found. found.items ≡ filter (is_of_interval exponent interval) rows.now) }
 {
     let mut found = Vec::new(alloc);
     for row in rows {
@@ -104,7 +104,7 @@ pub(crate) fn rows_of_interval(
     interval: Interval,
     exponent: Exponent,
 ) -> Result<Rows, AllocError>
-    ensures { IfOk result (λ found. found ≡ rows_of_interval exponent interval rows.now) }
+    ensures { IfOk result (λ found. found ≡ rows_of_interval exponent interval (items_of rows.now)) }
 {
     let mut found = rows_in_interval(alloc, rows, interval, exponent)?;
     put_in_order(&mut found)?;

@@ -1,10 +1,10 @@
 //! Rows of a table.
 
-ghost use Rattle.std.specs.Prelude.{◌≡◌, IfOk, filter, nat_eq};
+ghost use Rattle.std.specs.Prelude.{◌≡◌, IfOk, filter, nat_eq, length};
 ghost use Rattle.std.specs.List.{filter_map, list_any};
 ghost use Rattle.asks.specs.Names.{packet_name_number, packet_name_numbers};
-ghost use Rattle.replay_merge.specs.Replay.{has_listed_name, is_listed_name, truncated};
-ghost use Rattle.archive_core.specs.Asks.{replayed_rows};
+ghost use Rattle.arch_types.specs.Directions.{truncated};
+ghost use Rattle.replay_merge.specs.Replay.{has_listed_name, is_listed_name, replay_of};
 ghost use Rattle.archive_core.specs.Replies.{RepliesToReplay};
 
 use crate::ordered::range_of;
@@ -85,7 +85,7 @@ fn replayed_rows(
     rows: &[Row],
     request: &ReplayRequest,
 ) -> Result<Rows, AllocError>
-    ensures { IfOk result (λ found. found ≡ replayed_rows mdb.now request.now table rows.now) }
+    ensures { IfOk result (λ found. found ≡ replay_of mdb.now table request.now rows.now) }
 {
     let names = names_asked(alloc, mdb, &request.names)?;
     let mut found = range_of(alloc, rows, table, request.from, request.to)?;
@@ -102,7 +102,7 @@ pub(crate) fn replayed(
     rows: &[Row],
     request: &ReplayRequest,
 ) -> Result<Reply, AllocError>
-    ensures { IfOk result (RepliesToReplay tables.now mdb.now rows.now request.now) }
+    ensures { IfOk result (RepliesToReplay tables.now mdb.now (length rows.now) rows.now request.now) }
 {
     let Some(table) = table_number(tables, &request.table) else {
         let name = request.table.copy()?;

@@ -11,7 +11,7 @@ use Rattle.archive_history.specs.declared.row_limit.RowLimit.TheVariants as limi
 use Rattle.arch_types.specs.declared.row.Row.{Row}
 use Rattle.intervals.specs.Interval.{interval_of}
 use Rattle.archive_history.specs.RowLimits.{row_limit}
-use Rattle.history_items.specs.Items.{Item, is_row_of_interval}
+use Rattle.history_items.specs.Items.{is_of_interval}
 use Rattle.archive_history.specs.Limits.{octets_of, interval_rows, IsWithin}
 use Rattle.archive_history.proofs.Sums.{octets-append, interval_rows-append, interval_rows-one}
 
@@ -25,15 +25,15 @@ take_more rows i d within =
 pub octets_more : (rows : List Row) (i : ℕ) (d : Row) → i < length rows → octets_of (take (i + 1) rows) ≡ octets_of (take i rows) + length (get_or rows i d).packet
 octets_more rows i d within = omega (arith, ap octets_of (take_more rows i d within), octets-append (take i rows) (get_or rows i d ∷ []))
 
-pub interval_more : (e : ℕ) (interval : Interval) (rows : List Row) (i : ℕ) (d : Row) → i < length rows → interval_rows e interval (take (i + 1) rows) ≡ interval_rows e interval (take i rows) + (if is_row_of_interval e interval (get_or rows i d) then 1 else 0)
+pub interval_more : (e : ℕ) (interval : Interval) (rows : List Row) (i : ℕ) (d : Row) → i < length rows → interval_rows e interval (take (i + 1) rows) ≡ interval_rows e interval (take i rows) + (if is_of_interval e interval (get_or rows i d) then 1 else 0)
 interval_more e interval rows i d within =
     omega (arith, ap (interval_rows e interval) (take_more rows i d within), interval_rows-append e interval (take i rows) (get_or rows i d ∷ []), interval_rows-one e interval (get_or rows i d))
 
 -- ---- each interval of the rows
 
 -- the interval of a row of table `tm` has no more rows than it may
-abbrev pub IsCounted : ℕ → List Item → List Row → Row → Type 0
-IsCounted e items rows row = row.table ≡ 0 → (interval : Interval) → interval.0 ≡ interval_of e row.key.time → interval_rows e interval (items ++ rows) ≤ row_limit limits.IntervalRows
+abbrev pub IsCounted : ℕ → List Row → List Row → Row → Type 0
+IsCounted e before rows row = row.table ≡ 0 → (interval : Interval) → interval.0 ≡ interval_of e row.key.time → interval_rows e interval (before ++ rows) ≤ row_limit limits.IntervalRows
 
 pub not_more : (a b : ℕ) → (a < b → ⊥) → b ≤ a
 not_more a b few = omega (arith, few)
@@ -43,18 +43,18 @@ and_true true b e = (refl, e)
 and_true false b e = absurd cc
 
 -- an interval has none of these rows, or not too many
-none_or_few : (e : ℕ) (interval : Interval) (items : List Item) (all rows : List Row) → AllByRecursion (IsCounted e items all) rows → (interval_rows e interval rows ≡ 0) ⊎ (interval_rows e interval (items ++ all) ≤ row_limit limits.IntervalRows)
-none_or_few e interval items all [] each = inl refl
-none_or_few e interval items all (row ∷ rows) each = go (is_row_of_interval e interval row) refl (none_or_few e interval items all rows each.1)
+none_or_few : (e : ℕ) (interval : Interval) (before : List Row) (all rows : List Row) → AllByRecursion (IsCounted e before all) rows → (interval_rows e interval rows ≡ 0) ⊎ (interval_rows e interval (before ++ all) ≤ row_limit limits.IntervalRows)
+none_or_few e interval before all [] each = inl refl
+none_or_few e interval before all (row ∷ rows) each = go (is_of_interval e interval row) refl (none_or_few e interval before all rows each.1)
   where
-    go : (b : Bool) → is_row_of_interval e interval row ≡ b → (interval_rows e interval rows ≡ 0) ⊎ (interval_rows e interval (items ++ all) ≤ row_limit limits.IntervalRows)
-        → (length (if b then row ∷ filter (is_row_of_interval e interval) rows else filter (is_row_of_interval e interval) rows) ≡ 0) ⊎ (interval_rows e interval (items ++ all) ≤ row_limit limits.IntervalRows)
+    go : (b : Bool) → is_of_interval e interval row ≡ b → (interval_rows e interval rows ≡ 0) ⊎ (interval_rows e interval (before ++ all) ≤ row_limit limits.IntervalRows)
+        → (length (if b then row ∷ filter (is_of_interval e interval) rows else filter (is_of_interval e interval) rows) ≡ 0) ⊎ (interval_rows e interval (before ++ all) ≤ row_limit limits.IntervalRows)
     go true is rest =
         let p = and_true (eqb row.table 0) (int_eq (interval_of e row.key.time) interval.0) is in
         inr (each.0 (eqb-true row.table 0 p.0) interval (sym ((Decides-int_eq (interval_of e row.key.time) interval.0).0 p.1)))
     go false is rest = rest
 
 -- no interval has too many rows after rows whose intervals have not
-pub intervals_within : (e : ℕ) (items : List Item) (rows : List Row) → IsWithin e items → AllByRecursion (IsCounted e items rows) rows → (interval : Interval) → interval_rows e interval (items ++ rows) ≤ row_limit limits.IntervalRows
-intervals_within e items rows within each interval =
-    ⊎_elim (λ none. omega (arith, none, interval_rows-append e interval items rows, within.intervals interval)) (λ few. few) (none_or_few e interval items rows rows each)
+pub intervals_within : (e : ℕ) (before : List Row) (rows : List Row) → IsWithin e before → AllByRecursion (IsCounted e before rows) rows → (interval : Interval) → interval_rows e interval (before ++ rows) ≤ row_limit limits.IntervalRows
+intervals_within e before rows within each interval =
+    ⊎_elim (λ none. omega (arith, none, interval_rows-append e interval before rows, within.intervals interval)) (λ few. few) (none_or_few e interval before rows rows each)

@@ -1,8 +1,8 @@
 -- A table with its partitions, as it grows.
-use Rattle.std.proofs.Common.{◌≡◌, ℕ, ℤ, ◌+◌, ◌<◌, ◌≤◌, List, [], ◌∷◌, ◌++◌, length, map, take, get_or, Bool, true, false, cond, sym, ◌∙◌, ap, refl, arith}
+use Rattle.std.proofs.Common.{◌≡◌, ℕ, ℤ, ◌+◌, ◌<◌, ◌≤◌, List, [], ◌∷◌, ◌++◌, length, map, take, get_or, append_assoc, Bool, true, false, cond, sym, ◌∙◌, ap, refl, arith}
 use Rattle.std.specs.Prelude.{◌==◌, filter, IsSortedByKey}
 use Rattle.std.specs.Fn.{Called, ComputesKey}
-use Rattle.std.specs.List.{list_any, enumerate_from, IsDistinct}
+use Rattle.std.specs.List.{list_any, IsDistinct}
 use Rattle.std.proofs.lemmas.Fn.{always_returns_same}
 use Rattle.std.proofs.lemmas.List.{map-append, take_more}
 use denote.Param.Members.{Mut}
@@ -12,13 +12,15 @@ use Rattle.arch_types.specs.declared.row.Row.{Row}
 use Rattle.arch_types.specs.History.{has_key, is_in_table}
 use Rattle.arch_types.specs.Order.{key_cmp}
 use Rattle.histogram.specs.declared.histogram.NamedTime.{NamedTime}
-use Rattle.histogram.specs.Times.{times_of}
+use Rattle.histogram.specs.Times.{times_of, HistogramView, IsHistogramOf}
+use Rattle.histogram.proofs.Times.{times_of-append}
 use Rattle.partitions.specs.declared.partition.Partition.{Partition}
 use Rattle.partitions.specs.Partition.{partition_of}
 use Rattle.partitions.specs.Partitions.{PartitionsView}
 use Rattle.yarch_table.specs.declared.table.Stored.{Stored}
 use Rattle.yarch_table.specs.Stored.{TableView, rows_of}
-use Rattle.yarch_table.specs.Placed.{placed, at_position}
+use Rattle.yarch_table.specs.Placed.{placed}
+use Rattle.yarch_table.proofs.ByKey.{rows-stored_rest}
 use Rattle.partitions.specs.Rows.{partitions_of}
 use Rattle.archive_history.specs.PartitionedTable.{HaveOwnKeys, IsPartitioned, named_times_of}
 use Rattle.archive_history.proofs.KeyOrder.{own-push}
@@ -33,14 +35,14 @@ unfolding IsDistinct
 none_own = tt
 
 -- no rows
-pub partitioned_none : (table : TableView) (partitions : PartitionsView) → table ≡ record { stored = []; room = 0 } → partitions ≡ record { noted = []; room = 0 } → IsPartitioned table partitions
-partitioned_none table partitions empty none = rw (empty, none) (record { own_keys = none_own; noted = refl; has_room = omega arith })
+pub partitioned_none : (table : TableView) (partitions : PartitionsView) (gone : HistogramView) → table ≡ record { stored = []; room = 0 } → partitions ≡ record { noted = []; room = 0 } → IsHistogramOf gone [] → IsPartitioned [] table partitions gone
+partitioned_none table partitions gone empty none kept = rw (empty, none) (record { own_keys = none_own; noted = refl; has_room = omega arith; kept = kept })
 
 -- a row more, of a key that none has
-pub partitioned_push : (old new : TableView) (partitions noting : PartitionsView) (row : Row) (position : ℕ) → IsPartitioned old partitions →
+pub partitioned_push : (old new : TableView) (partitions noting : PartitionsView) (past : List NamedTime) (gone : HistogramView) (row : Row) (position : ℕ) → IsPartitioned past old partitions gone →
     list_any (has_key row.key) (rows_of old.stored) ≡ false → new.stored ≡ old.stored ++ record { row = row; position = position } ∷ [] → new.room + 1 ≡ old.room →
-    noting.noted ≡ partitions.noted ++ partition_of row.key.time row.pname ∷ [] → partitions.room ≤ noting.room + 1 → IsPartitioned new noting
-partitioned_push old new partitions noting row position was fresh stored left noted left_noted =
+    noting.noted ≡ partitions.noted ++ partition_of row.key.time row.pname ∷ [] → partitions.room ≤ noting.room + 1 → IsPartitioned past new noting gone
+partitioned_push old new partitions noting past gone row position was fresh stored left noted left_noted =
     let s : Stored = record { row = row; position = position } in
     let rows : rows_of new.stored ≡ rows_of old.stored ++ row ∷ [] = ap rows_of stored ∙ map-append (λ (t : Stored). t.row) old.stored (s ∷ []) in
     record {
@@ -49,6 +51,7 @@ partitioned_push old new partitions noting row position was fresh stored left no
           noted ∙ ap (λ (l : List Partition). l ++ partition_of row.key.time row.pname ∷ []) was.noted
           ∙ sym (map-append (λ (r : Row). partition_of r.key.time r.pname) (rows_of old.stored) (row ∷ [])) ∙ ap partitions_of (sym rows);
       has_room = omega (arith, left, left_noted, was.has_room);
+      kept = was.kept;
     }
 
 -- ---- the times of a packet name
@@ -72,15 +75,17 @@ module _ (pname : ℕ) where
   times_more stored i s b within is of =
       ap (λ (l : List Stored). times_of pname (named_times_of (rows_of l))) (take_more stored i s within ∙ ap (λ (t : Stored). take i stored ++ t ∷ []) (sym is)) ∙ times_push (take i stored) s b of
 
+  -- and behind others
+  pub times_with_more : (past : List NamedTime) (stored : List Stored) (i : ℕ) (s : Stored) (b : Bool) → i < length stored → s ≡ get_or stored i s → (s.row.pname == pname) ≡ b →
+      times_of pname (past ++ named_times_of (rows_of (take (i + 1) stored))) ≡ times_of pname (past ++ named_times_of (rows_of (take i stored))) ++ cond b (s.row.key.time ∷ []) []
+  times_with_more past stored i s b within is of =
+      let so_far = named_times_of (rows_of (take i stored)) in
+      let more : List ℤ = cond b (s.row.key.time ∷ []) [] in
+      times_of-append pname past (named_times_of (rows_of (take (i + 1) stored)))
+      ∙ ap (λ (l : List ℤ). times_of pname past ++ l) (times_more stored i s b within is of)
+      ∙ sym (append_assoc (times_of pname past) (times_of pname so_far) more)
+      ∙ ap (λ (l : List ℤ). l ++ more) (sym (times_of-append pname past so_far))
+
 -- the rows of a table that has those of a history at their positions
 pub rows_of-placed : (table : ℕ) (history : List Row) → rows_of (placed table history) ≡ filter (is_in_table table) history
-rows_of-placed table history = from 0 history
-  where
-    from : (n : ℕ) (rows : List Row) → rows_of (map at_position (filter (λ p. is_in_table table p.1) (enumerate_from n rows))) ≡ filter (is_in_table table) rows
-    from n [] = refl
-    from n (row ∷ rows) = by (is_in_table table row) (from (n + 1) rows)
-      where
-        by : (b : Bool) → rows_of (map at_position (filter (λ p. is_in_table table p.1) (enumerate_from (n + 1) rows))) ≡ filter (is_in_table table) rows →
-            rows_of (map at_position (cond b ((n, row) ∷ filter (λ p. is_in_table table p.1) (enumerate_from (n + 1) rows)) (filter (λ p. is_in_table table p.1) (enumerate_from (n + 1) rows)))) ≡ cond b (row ∷ filter (is_in_table table) rows) (filter (is_in_table table) rows)
-        by true later = ap (λ (l : List Row). row ∷ l) later
-        by false later = later
+rows_of-placed table history = rows-stored_rest 0 table history

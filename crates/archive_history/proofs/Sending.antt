@@ -4,6 +4,7 @@ use Rattle.std.proofs.Crossing.{crosses}
 use Rattle.archive_history.specs.contracts.history.History as History
 use Rattle.archive_history.specs.contracts.limit_counts.LimitCounts as LimitCounts
 use Rattle.archive_history.specs.contracts.partitioned_table.PartitionedTable as PartitionedTable
+use Rattle.histogram.specs.contracts.histogram.Histogram as Histogram
 use Rattle.partitions.specs.contracts.links.Link as Link
 use Rattle.partitions.specs.contracts.partitions.Partitions as Partitions
 use Rattle.yarch_table.specs.contracts.table.Stored as Stored
@@ -21,8 +22,11 @@ link_send = search (crosses, sendable) depth 60
 partitions_send : IsSend Partitions.the_row
 partitions_send = search (crosses, link_send, sendable) depth 60 fits 10000
 
+histogram_send : IsSend Histogram.the_row
+histogram_send = search (crosses, sendable) depth 60 fits 10000
+
 partitioned_table_send : IsSend PartitionedTable.the_row
-partitioned_table_send = search (crosses, table_send, partitions_send, sendable) depth 60
+partitioned_table_send = search (crosses, table_send, partitions_send, histogram_send, sendable) depth 60 fits 10000
 
 counts_send : IsSend LimitCounts.the_row
 counts_send = search (crosses, sendable) depth 60

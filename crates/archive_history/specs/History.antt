@@ -8,7 +8,8 @@ use Rattle.arch_types.specs.declared.key.Key.{Key}
 use Rattle.arch_types.specs.declared.row.Row.{Row}
 use Rattle.arch_types.specs.History.{IsHistory, is_in_table}
 use Rattle.arch_types.specs.Order.{key_cmp}
-use Rattle.history_items.specs.Items.{Item, rows_in}
+use Rattle.history_items.specs.declared.items.Item.{Item}
+use Rattle.history_items.specs.Items.{is_row_with, rows_in}
 use Rattle.yarch_table.specs.Stored.{TableView}
 use Rattle.archive_history.specs.Limits.{octets_of, interval_rows, IsWithin}
 use Rattle.archive_history.specs.LimitCounts.{LimitCountsView, interval_row_count}
@@ -24,7 +25,7 @@ pub record HistoryView : Type 0 where
 
 -- whether an item is the row of that table and key
 abbrev pub is_at_key : ℕ → Key → Item → Bool
-is_at_key table key item = (table == item.table) && is_eq (key_cmp key item.key)
+is_at_key table key = is_row_with (λ row. (table == row.table) && is_eq (key_cmp key row.key))
 
 -- the rows of a table, in the order of the history
 abbrev pub rows_in_table : ℕ → List Item → List Row
@@ -33,14 +34,14 @@ rows_in_table table items = filter (is_in_table table) (rows_in items)
 -- the rows are a history that passes no limit, and the counts are theirs, with room for more
 pub record AreCounted (exponent : ℕ) (items : List Item) (room : ℕ) (limit_counts : LimitCountsView) : Type 0 where
   pub history : IsHistory (rows_in items)
-  pub within : IsWithin exponent items
+  pub within : IsWithin exponent (rows_in items)
   pub octets : limit_counts.octets ≡ octets_of (rows_in items)
   pub rows : (interval : Interval) →
-      interval_row_count limit_counts.rows interval ≡ interval_rows exponent interval items
+      interval_row_count limit_counts.rows interval ≡ interval_rows exponent interval (rows_in items)
   pub has_room : room ≤ limit_counts.room
 
--- the tables hold the rows in their order, and the counts are those of these rows
+-- the tables hold all rows in their order, and the counts are those of these rows
 pub record HistoryInvariant (tables : List TableView) (order : Vec (Snapshot Row)) (room exponent : ℕ)
     (limit_counts : LimitCountsView) : Type 0 where
-  pub tables_hold : AreRowTables tables order room
+  pub tables_hold : AreRowTables 0 tables order room
   pub counted : AreCounted exponent (items_in order.items) room limit_counts

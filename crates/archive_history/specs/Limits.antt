@@ -2,7 +2,7 @@
 use Rattle.std.specs.Prelude.{ℕ, ◌+◌, ◌<◌, ◌≤◌, List, [], ◌∷◌, length, filter}
 use Rattle.arch_types.specs.declared.row.Row.{Row}
 use Rattle.intervals.specs.declared.interval.Interval.{Interval}
-use Rattle.history_items.specs.Items.{Item, rows_in, is_row_of_interval}
+use Rattle.history_items.specs.Items.{is_of_interval}
 use Rattle.archive_history.specs.RowLimits.{row_limit}
 use Rattle.archive_history.specs.declared.row_limit.RowLimit.{RowLimit}
 use Rattle.archive_history.specs.declared.row_limit.RowLimit.TheVariants.{Rows, HistoryOctets, IntervalRows}
@@ -13,20 +13,20 @@ octets_of [] = 0
 octets_of (row ∷ rows) = length row.packet + octets_of rows
 
 -- how many rows of table `tm` have their time in the interval
-abbrev pub interval_rows : ℕ → Interval → List Item → ℕ
-interval_rows exponent interval items = length (filter (is_row_of_interval exponent interval) items)
+abbrev pub interval_rows : ℕ → Interval → List Row → ℕ
+interval_rows exponent interval rows = length (filter (is_of_interval exponent interval) rows)
 
--- a history passes none of the limits
-pub record IsWithin (exponent : ℕ) (items : List Item) : Type 0 where
-  pub rows : length (rows_in items) ≤ row_limit Rows
-  pub octets : octets_of (rows_in items) ≤ row_limit HistoryOctets
-  pub intervals : (interval : Interval) → interval_rows exponent interval items ≤ row_limit IntervalRows
+-- the rows of a history pass none of the limits
+pub record IsWithin (exponent : ℕ) (rows : List Row) : Type 0 where
+  pub few : length rows ≤ row_limit Rows
+  pub octets : octets_of rows ≤ row_limit HistoryOctets
+  pub intervals : (interval : Interval) → interval_rows exponent interval rows ≤ row_limit IntervalRows
 
--- this is the first limit that a history passes
-abbrev pub PassesFirst : ℕ → RowLimit → List Item → Type 0
-PassesFirst exponent Rows items = row_limit Rows < length (rows_in items)
-PassesFirst exponent HistoryOctets items =
-    (length (rows_in items) ≤ row_limit Rows) × (row_limit HistoryOctets < octets_of (rows_in items))
-PassesFirst exponent IntervalRows items =
-    (length (rows_in items) ≤ row_limit Rows) × (octets_of (rows_in items) ≤ row_limit HistoryOctets)
-    × (interval : Interval) × (row_limit IntervalRows < interval_rows exponent interval items)
+-- this is the first limit that the rows of a history pass
+abbrev pub PassesFirst : ℕ → RowLimit → List Row → Type 0
+PassesFirst exponent Rows rows = row_limit Rows < length rows
+PassesFirst exponent HistoryOctets rows =
+    (length rows ≤ row_limit Rows) × (row_limit HistoryOctets < octets_of rows)
+PassesFirst exponent IntervalRows rows =
+    (length rows ≤ row_limit Rows) × (octets_of rows ≤ row_limit HistoryOctets)
+    × (interval : Interval) × (row_limit IntervalRows < interval_rows exponent interval rows)

@@ -6,7 +6,8 @@ ghost use Rattle.intervals.specs.declared.interval.Interval.{Interval as AnInter
 ghost use Rattle.arch_types.specs.History.{IsHistory};
 ghost use Rattle.intervals.specs.Interval.{interval_of};
 ghost use Rattle.arch_types.specs.Table.{range_of};
-ghost use Rattle.history_items.specs.Items.{Item, after_row, after_rows, items_of, row_item, rows_in};
+ghost use Rattle.history_items.specs.declared.items.Item.{Item};
+ghost use Rattle.history_items.specs.Items.{after_row, after_rows, items_of, row_item, rows_in};
 ghost use Rattle.archive_history.specs.PartitionedTable.{named_times_of};
 ghost use Rattle.archive_history.specs.History.{is_at_key, rows_in_table};
 ghost use Rattle.histogram.specs.Times.{spans_of_times, times_of};
@@ -85,7 +86,7 @@ fn octets_in(rows: &[Row]) -> u64
 
 /// How many rows of table `tm` have their time in the interval.
 fn interval_rows_in(rows: &[Row], exponent: Exponent, interval: Interval) -> u64
-    ensures { result ≡ interval_rows exponent interval (items_of rows.now) }
+    ensures { result ≡ interval_rows exponent interval rows.now }
 {
     let mut count = 0;
     for row in rows {
@@ -106,7 +107,7 @@ fn are_too_many(
     requires few { length rows.now ≤ row_limit limits.Rows }
     requires counted { interval_row_count limit_counts.now.rows interval ≤ row_limit limits.IntervalRows }
     ensures { IsTrue result ↔ (row_limit limits.IntervalRows <
-        interval_row_count limit_counts.now.rows interval + interval_rows exponent interval (items_of rows.now)) }
+        interval_row_count limit_counts.now.rows interval + interval_rows exponent interval rows.now) }
 {
     let known = limit_counts.rows_of(interval);
     if known + rows.len() as u64 <= RowLimit::IntervalRows.limit() {
@@ -129,10 +130,11 @@ impl History {
         })
     }
 
-    /// The length of the history.
+    /// The length of the history, which has rows alone.
     pub fn len(&self) -> usize
         ensures len { result ≡ length self.now.items }
-        ensures within { IsWithin self.now.exponent self.now.items }
+        ensures rows { result ≡ length (rows_in self.now.items) }
+        ensures within { IsWithin self.now.exponent (rows_in self.now.items) }
         ensures history { IsHistory (rows_in self.now.items) }
     {
         self.order.len()
@@ -180,7 +182,7 @@ impl History {
     fn passes_interval(&self, rows: &[Row]) -> bool
         requires { length rows.now ≤ row_limit limits.Rows }
         ensures { IsTrue result ↔ ((i : AnInterval) × (row_limit limits.IntervalRows <
-            interval_rows self.now.exponent i (self.now.items ++ items_of rows.now))) }
+            interval_rows self.now.exponent i (rows_in self.now.items ++ rows.now))) }
     {
         let limit_counts = &self.limit_counts;
         let exponent = self.exponent;
@@ -202,8 +204,8 @@ impl History {
 
     /// The first limit that the history would pass with these rows.
     pub fn limit_passed(&self, rows: &[Row]) -> Option<RowLimit>
-        ensures none { IfNone result (IsWithin self.now.exponent (self.now.items ++ items_of rows.now)) }
-        ensures first { IfSome result (λ limit. PassesFirst self.now.exponent limit (self.now.items ++ items_of rows.now)) }
+        ensures none { IfNone result (IsWithin self.now.exponent (rows_in self.now.items ++ rows.now)) }
+        ensures first { IfSome result (λ limit. PassesFirst self.now.exponent limit (rows_in self.now.items ++ rows.now)) }
     {
         if rows.len() as u64 > RowLimit::Rows.limit() - self.len() as u64 {
             return Some(RowLimit::Rows);
@@ -221,7 +223,7 @@ impl History {
     fn add(&mut self, row: Row) -> bool
         requires room { 0 < self.old.room }
         requires table { row.table < self.old.tables }
-        requires within { IsWithin self.old.exponent (self.old.items ++ row_item row ∷ []) }
+        requires within { IsWithin self.old.exponent (rows_in self.old.items ++ row ∷ []) }
         ensures items { self.new.items ≡ after_row self.old.items row }
         ensures fresh { result ≡ true → self.new.items ≡ self.old.items ++ row_item row ∷ [] }
         ensures known { result ≡ false → self.new.items ≡ self.old.items }
@@ -247,7 +249,7 @@ impl History {
     pub fn add_all(&mut self, rows: Rows) -> bool
         requires room { length rows ≤ self.old.room }
         requires tables { AllByRecursion (λ row. row.table < self.old.tables) rows }
-        requires within { IsWithin self.old.exponent (self.old.items ++ items_of rows) }
+        requires within { IsWithin self.old.exponent (rows_in self.old.items ++ rows) }
         ensures all { IsTrue result ↔ (after_rows self.old.items rows ≡ self.old.items ++ items_of rows) }
         ensures items { IsTrue result → self.new.items ≡ self.old.items ++ items_of rows }
         ensures tables { self.new.tables ≡ self.old.tables }

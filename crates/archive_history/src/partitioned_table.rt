@@ -4,13 +4,13 @@ ghost use Rattle.std.specs.Prelude.{◌≡◌, ℕ, ◌+◌, ◌<◌, ◌≤◌,
 ghost use Rattle.std.specs.List.{list_any, AllByRecursion};
 ghost use Rattle.arch_types.specs.History.{has_key};
 ghost use Rattle.arch_types.specs.Order.{key_cmp};
-ghost use Rattle.histogram.specs.Times.{spans_of, spans_of_times, times_of};
+ghost use Rattle.histogram.specs.Times.{spans_of_times, times_of};
 ghost use Rattle.partitions.specs.declared.partition.Partition.{Partition as APartition};
 ghost use Rattle.partitions.specs.Bounds.{MayHold};
 ghost use Rattle.partitions.specs.Partitions.{AreRising};
 ghost use Rattle.partitions.specs.Rows.{is_of_partition, is_of_parts, partitions_of};
 ghost use Rattle.yarch_table.specs.Stored.{seen_at, seen_between, rows_of, IsInserted, IsKeptAt};
-ghost use Rattle.archive_history.specs.PartitionedTable.{named_times_of, rows_at_places};
+ghost use Rattle.archive_history.specs.PartitionedTable.{named_times_of, rows_at_places, IsHistogramWith};
 
 use crate::ranged::{rows_all_of_parts, rows_in_steps};
 use arch_types::inserted::Inserted;
@@ -32,13 +32,15 @@ use yarch_table::table::{Stored, Table};
 /// The rows of one table, and which of them each partition has.
 #[derive(Drop)]
 pub struct PartitionedTable {
-    alloc: Global,
     table: Table,
     /// The partition of each row, noted in the order of the rows.
     partitions: Partitions,
+    /// The records of rows that are in memory no longer, of which there are none yet.
+    gone: Histogram,
 }
 
 impl Model for PartitionedTable {
+    ghost use Rattle.std.specs.Prelude.{[]};
     ghost use Rattle.yarch_table.specs.Stored.{TableView};
     ghost use Rattle.archive_history.specs.PartitionedTable.{IsPartitioned};
 
@@ -46,7 +48,7 @@ impl Model for PartitionedTable {
 
     ghost view = { λ t. t.table };
 
-    ghost invariant = { λ t. IsPartitioned t.table t.partitions };
+    ghost invariant = { λ t. IsPartitioned [] t.table t.partitions t.gone };
 }
 
 /// The rows at places with a position below a front, in the order of the places: so many at most are expected.
@@ -70,12 +72,17 @@ fn rows_of_places(
     Ok(rows)
 }
 
-/// A histogram with the times of those rows that have a packet name. The one error is want of memory.
-fn histogram_of_name(alloc: Global, stored: &[Stored], pname: u16) -> Result<Histogram, AllocError>
-    ensures { IfOk result (λ histogram. spans_of pname histogram
-        ≡ spans_of_times (times_of pname (named_times_of (rows_of stored.now)))) }
+/// The records of a packet name among those of rows that are in memory no longer, with the times of those rows that are there and
+/// have it. The one error is want of memory.
+fn histogram_of_name(
+    gone: &Histogram,
+    stored: &[Stored],
+    pname: u16,
+) -> Result<Histogram, AllocError>
+    ensures { IfOk result (λ histogram.
+        IsHistogramWith gone.now pname histogram (named_times_of (rows_of stored.now))) }
 {
-    let mut histogram = Histogram::new(alloc);
+    let mut histogram = gone.of_name(pname)?;
     for kept in stored {
         if kept.row.pname == pname {
             histogram.reserve(1)?;
@@ -100,9 +107,9 @@ impl PartitionedTable {
         ensures { IfOk result (λ t. t ≡ record { stored = []; room = 0 }) }
     {
         Ok(PartitionedTable {
-            alloc,
             table: Table::new(alloc)?,
             partitions: Partitions::new(alloc),
+            gone: Histogram::new(alloc),
         })
     }
 
@@ -245,13 +252,13 @@ impl PartitionedTable {
         self.partitions.pruned(bounds)
     }
 
-    /// The spans of time in which a packet name has rows, counted in one pass over all rows. The one error is want of
-    /// memory.
+    /// The spans of time in which a packet name has rows, counted in one pass over all rows in memory, behind what is kept
+    /// of the others. The one error is want of memory.
     pub fn spans(&self, pname: u16) -> Result<Spans, AllocError>
         ensures { IfOk result (λ spans. spans
             ≡ spans_of_times (times_of pname (named_times_of (rows_of self.now.stored)))) }
     {
-        let histogram = histogram_of_name(self.alloc, self.table.stored(), pname)?;
+        let histogram = histogram_of_name(&self.gone, self.table.stored(), pname)?;
         histogram.records(pname)
     }
 }

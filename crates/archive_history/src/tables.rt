@@ -45,12 +45,12 @@ pub(crate) fn insert_row(
     row: Row,
 ) -> bool
     requires table { row.table < length tables.old.items }
-    requires hold { (room : ℕ) × AreRowTables tables.old.items order.old (room + 1) }
+    requires hold { (room : ℕ) × AreRowTables 0 tables.old.items order.old (room + 1) }
     ensures items { items_in order.new.items ≡ after_row (items_in order.old.items) row }
     ensures fresh { result ≡ true → items_in order.new.items ≡ items_in order.old.items ++ row_item row ∷ [] }
     ensures known { result ≡ false → items_in order.new.items ≡ items_in order.old.items }
-    ensures hold { (room : ℕ) → AreRowTables tables.old.items order.old (room + 1) →
-        AreRowTables tables.new.items order.new room }
+    ensures hold { (room : ℕ) → AreRowTables 0 tables.old.items order.old (room + 1) →
+        AreRowTables 0 tables.new.items order.new room }
     ensures len { length tables.new.items ≡ length tables.old.items }
 {
     let table = row.table;

@@ -1,5 +1,5 @@
 -- Marks that are those of a history and a fill list.
-use Rattle.std.proofs.Common.{◌≡◌, ℕ, ◌+◌, ◌<◌, ◌≤◌, List, [], ◌∷◌, ◌++◌, length, take, drop, Bool, true, false, true≢false, eqb, Option, Some, None, refl, sym, ap, subst, ◌∙◌, arith}
+use Rattle.std.proofs.Common.{◌≡◌, inl, inr, ℕ, ◌+◌, ◌<◌, ◌≤◌, List, [], ◌∷◌, ◌++◌, length, take, drop, Bool, true, false, true≢false, eqb, Option, Some, None, refl, sym, ap, subst, ◌∙◌, arith}
 use Rattle.std.specs.Prelude.{◌≢◌, ◌&&◌, ◌↔◌, ◌≤ℤ◌, max, IfSome, IsSome}
 use Rattle.std.specs.Option.{is_some, option_map_or, option_map}
 use Rattle.std.specs.Ordering.{int_eq}
@@ -14,9 +14,10 @@ use Rattle.intervals.specs.Interval.{interval_of}
 use Rattle.history_items.specs.declared.fills.Addition.{Addition}
 use Rattle.history_items.specs.declared.fills.Fill.{Fill}
 use Rattle.history_items.specs.declared.fills.Fill.TheVariants.{Begun, Done, Freed, Fault}
-use Rattle.history_items.specs.Items.{Item, is_row_of_interval}
+use Rattle.history_items.specs.declared.items.Item.{Item}
+use Rattle.history_items.specs.Items.{database_item, is_of_interval, items_of, row_item}
 use Rattle.history_items.specs.Fills.{is_same, base_in, base_after, in_flight, flight_after, reopened, cleared as fill_cleared}
-use Rattle.history_items.specs.Late.{IsLate, IsLastIn, last_in, is_late_in}
+use Rattle.history_items.specs.Late.{ChangesAt, IsLate, IsLastIn, last_in, is_late_in}
 use Rattle.history_items.proofs.FillLists.{base_after_item, flight_after_item, base_in-reopened, in_flight-reopened}
 use Rattle.history_items.proofs.Late.{last_is_greatest, late_by_last}
 use Rattle.fill_tracker.specs.FillTracker.{AreMarksOf, AreOfOneInterval, mark_by}
@@ -70,12 +71,16 @@ pub mapped_is_some : (m : Option Mark) → is_some (option_map (λ (k : Mark). k
 mapped_is_some None = refl
 mapped_is_some (Some m) = refl
 
--- ---- the last row
+-- ---- the last change
 
 last_below : (e : ℕ) (i : Interval) (history : List Item) (last : ℕ) → last_in e i history ≡ Some last → last < length history
 last_below e i history last is =
     let p = subst (IsLastIn e i history) is (last_is_greatest e i history) in
-    slice_get_within history last p.0.row p.0.there
+    within p.1
+  where
+    within : ChangesAt e i last history → last < length history
+    within (inl s) = slice_get_within history last (row_item s.row) s.there
+    within (inr d) = slice_get_within history last (database_item d.0) d.1
 
 module _ (e : ℕ) (history : List Item) (fills : List Fill) (marks : Marks) (are : AreMarksOf e history fills marks) where
   late_free : (i : Interval) → is_late_free marks i ≡ true → IsLateFree e i (state_of history fills)
@@ -244,36 +249,36 @@ in_first : (table : ℕ) → table ≡ 0 → eqb table 0 ≡ true
 in_first table is = rw is refl
 
 pub untouched : (e : ℕ) (history : List Item) (fills : List Fill) (marks : Marks) (first : Row) (rest : List Row) → AreOfOneInterval e (first ∷ rest) → (first.table ≡ 0 → ⊥) → AreMarksOf e history fills marks
-    → AreMarksOf e (history ++ first ∷ rest) fills marks
+    → AreMarksOf e (history ++ items_of (first ∷ rest)) fills marks
 untouched e history fills marks first rest run other are = record {
   each = λ j. are.each j ∙ ap (λ (o : Option ℕ). mark_by o (base_in j fills) (is_some (in_flight j fills))) (sym (same j));
   known = λ j none. are.known j (sym (same j) ∙ none);
 }
   where
-    same : (j : Interval) → last_in e j (history ++ first ∷ rest) ≡ last_in e j history
+    same : (j : Interval) → last_in e j (history ++ items_of (first ∷ rest)) ≡ last_in e j history
     same j = last_behind e j history first rest (like_first e j first rest run) ∙ (let not_tm = elsewhere first.table other in rw not_tm refl)
 
 pub touches : (e : ℕ) (history : List Item) (fills : List Fill) (old new : Marks) (first : Row) (rest : List Row) (i : Interval) (last : ℕ) → last ≡ length history + length rest → AreOfOneInterval e (first ∷ rest)
-    → first.table ≡ 0 → i.0 ≡ interval_of e first.key.time → AreMarksOf e history fills old → Marked old new i (touched (mark_of old i) last) → AreMarksOf e (history ++ first ∷ rest) fills new
+    → first.table ≡ 0 → i.0 ≡ interval_of e first.key.time → AreMarksOf e history fills old → Marked old new i (touched (mark_of old i) last) → AreMarksOf e (history ++ items_of (first ∷ rest)) fills new
 touches e history fills old new first rest i last end run table time are marked = record { each = λ j. at j (is_same j i) refl; known = λ j none. known_at j (is_same j i) refl none }
   where
     in_tm : eqb first.table 0 ≡ true
     in_tm = in_first first.table table
 
-    passes : is_row_of_interval e i first ≡ true
+    passes : is_of_interval e i first ≡ true
     passes = let same : int_eq (interval_of e first.key.time) i.0 ≡ true = (Decides-int_eq (interval_of e first.key.time) i.0).1 (sym time) in rw (in_tm, same) refl
 
-    last_here : last_in e i (history ++ first ∷ rest) ≡ Some last
+    last_here : last_in e i (history ++ items_of (first ∷ rest)) ≡ Some last
     last_here = last_behind e i history first rest (like_first e i first rest run) ∙ (rw passes (ap Some (sym end)))
 
-    fails : (j : Interval) → is_same j i ≡ false → is_row_of_interval e j first ≡ false
+    fails : (j : Interval) → is_same j i ≡ false → is_of_interval e j first ≡ false
     fails j same = go (int_eq (interval_of e first.key.time) j.0) refl
       where
-        go : (b : Bool) → int_eq (interval_of e first.key.time) j.0 ≡ b → is_row_of_interval e j first ≡ false
+        go : (b : Bool) → int_eq (interval_of e first.key.time) j.0 ≡ b → is_of_interval e j first ≡ false
         go true is = absurd (true≢false (sym ((Decides-int_eq j.0 i.0).1 (sym ((Decides-int_eq (interval_of e first.key.time) j.0).0 is) ∙ sym time)) ∙ same))
         go false is = rw (in_tm, is) refl
 
-    last_there : (j : Interval) → is_same j i ≡ false → last_in e j (history ++ first ∷ rest) ≡ last_in e j history
+    last_there : (j : Interval) → is_same j i ≡ false → last_in e j (history ++ items_of (first ∷ rest)) ≡ last_in e j history
     last_there j same = last_behind e j history first rest (like_first e j first rest run) ∙ (let is = fails j same in rw is refl)
 
     marked_as : (o b f : Option ℕ) → (o ≡ None → (b ≡ None) × (f ≡ None)) → ((before : ℕ) → o ≡ Some before → before < length history) → Some (touched (mark_by o b (is_some f)) last) ≡ mark_by (Some last) b (is_some f)
@@ -284,16 +289,16 @@ touches e history fills old new first rest i last end run table time are marked 
         let most : max before last ≡ last = omega (arith, below before refl, end) in
         ap (λ (n : ℕ). Some (mark n b (is_some f))) most
 
-    here : mark_of new i ≡ mark_by (last_in e i (history ++ first ∷ rest)) (base_in i fills) (is_some (in_flight i fills))
+    here : mark_of new i ≡ mark_by (last_in e i (history ++ items_of (first ∷ rest))) (base_in i fills) (is_some (in_flight i fills))
     here =
         marked.set ∙ ap (λ (m : Option Mark). Some (touched m last)) (are.each i)
         ∙ marked_as (last_in e i history) (base_in i fills) (in_flight i fills) (are.known i) (λ before is. last_below e i history before is)
         ∙ ap (λ (o : Option ℕ). mark_by o (base_in i fills) (is_some (in_flight i fills))) (sym last_here)
 
-    at : (j : Interval) (b : Bool) → is_same j i ≡ b → mark_of new j ≡ mark_by (last_in e j (history ++ first ∷ rest)) (base_in j fills) (is_some (in_flight j fills))
-    at j true same = subst (λ (k : Interval). mark_of new k ≡ mark_by (last_in e k (history ++ first ∷ rest)) (base_in k fills) (is_some (in_flight k fills))) (sym (same_interval j i same)) here
+    at : (j : Interval) (b : Bool) → is_same j i ≡ b → mark_of new j ≡ mark_by (last_in e j (history ++ items_of (first ∷ rest))) (base_in j fills) (is_some (in_flight j fills))
+    at j true same = subst (λ (k : Interval). mark_of new k ≡ mark_by (last_in e k (history ++ items_of (first ∷ rest))) (base_in k fills) (is_some (in_flight k fills))) (sym (same_interval j i same)) here
     at j false same = marked.others j (apart j i same) ∙ are.each j ∙ ap (λ (o : Option ℕ). mark_by o (base_in j fills) (is_some (in_flight j fills))) (sym (last_there j same))
 
-    known_at : (j : Interval) (b : Bool) → is_same j i ≡ b → last_in e j (history ++ first ∷ rest) ≡ None → (base_in j fills ≡ None) × (in_flight j fills ≡ None)
-    known_at j true same none = absurd (let no : Some last ≡ None = sym last_here ∙ subst (λ (k : Interval). last_in e k (history ++ first ∷ rest) ≡ None) (same_interval j i same) none in cc)
+    known_at : (j : Interval) (b : Bool) → is_same j i ≡ b → last_in e j (history ++ items_of (first ∷ rest)) ≡ None → (base_in j fills ≡ None) × (in_flight j fills ≡ None)
+    known_at j true same none = absurd (let no : Some last ≡ None = sym last_here ∙ subst (λ (k : Interval). last_in e k (history ++ items_of (first ∷ rest)) ≡ None) (same_interval j i same) none in cc)
     known_at j false same none = are.known j (sym (last_there j same) ∙ none)

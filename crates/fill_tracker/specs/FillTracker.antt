@@ -8,7 +8,7 @@ use Rattle.intervals.specs.declared.interval.Interval.{Interval}
 use Rattle.arch_types.specs.declared.row.Row.{Row}
 use Rattle.intervals.specs.Interval.{interval_of}
 use Rattle.history_items.specs.declared.fills.Fill.{Fill}
-use Rattle.history_items.specs.Items.{Item}
+use Rattle.history_items.specs.declared.items.Item.{Item}
 use Rattle.history_items.specs.Fills.{base_in, in_flight}
 use Rattle.history_items.specs.Late.{last_in}
 use Rattle.late_marks.specs.declared.mark.Mark.{Mark}
@@ -31,7 +31,7 @@ tracker_of items marks flights = record {
   flight_room = vec_capacity flights - vec_len flights;
 }
 
--- the mark of an interval by its last row, the base of its last fill, and whether it is in flight
+-- the mark of an interval by its last change, the base of its last fill, and whether it is in flight
 abbrev pub mark_by : Option ℕ → Option ℕ → Bool → Option Mark
 mark_by None base taken = None
 mark_by (Some last) base taken = Some (record { last = last; base = base; taken = taken })

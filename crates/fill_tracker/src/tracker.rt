@@ -7,7 +7,8 @@ ghost use Rattle.std.specs.Option.{is_some};
 ghost use Rattle.intervals.specs.Interval.{interval_of};
 ghost use Rattle.history_items.specs.declared.fills.Fill.{Fill as FillItem};
 ghost use Rattle.history_items.specs.declared.fills.Fill.TheVariants as noted;
-ghost use Rattle.history_items.specs.Items.{Item, items_of};
+ghost use Rattle.history_items.specs.declared.items.Item.{Item};
+ghost use Rattle.history_items.specs.Items.{items_of};
 ghost use Rattle.history_items.specs.FillList.{flights_of};
 ghost use Rattle.history_items.specs.Fills.{reopened};
 ghost use Rattle.history_items.specs.Late.{IsLate, last_in};
@@ -104,7 +105,7 @@ impl FillTracker {
         self.marks.least_late_free()
     }
 
-    /// Whether an interval has rows that no fill has seen.
+    /// Whether an interval has a row, and a change that no fill has seen.
     pub fn is_late(&self, interval: Interval) -> bool
         ensures { (exponent : ℕ) (history : List Item) → AreMarksOf exponent history self.now.fills self.now.marks →
             IsTrue result ↔ IsLate exponent interval history self.now.fills }
@@ -112,7 +113,7 @@ impl FillTracker {
         self.marks.is_late(interval)
     }
 
-    /// The position of an interval's last row, where it has one.
+    /// The position of what changed an interval last, where it has a row.
     pub fn last(&self, interval: Interval) -> Option<u64>
         ensures last { (exponent : ℕ) (history : List Item) → AreMarksOf exponent history self.now.fills self.now.marks →
             result ≡ last_in exponent interval history }

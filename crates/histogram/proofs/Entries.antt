@@ -137,6 +137,22 @@ module _ (at : NamedTime) where
       by true same rest = (later (ranked_as k e.0 Less below.0) (eqb-true e.0.pname at.pname same), rest)
       by false other rest = rest
 
+  -- where each record of the name has ended more than 60,000 ms before the time, none is near it
+  pub none_near : (es : List (NamedTime × SpanStart)) → AllByRecursion (λ s. is_apart s.last at.time ≡ true) (spans_in at.pname es) → near_span at (entries_from (named_time_cmp (earliest_key at)) es) ≡ None
+  none_near [] all = refl
+  none_near (e ∷ es) all = by (eqb e.0.pname at.pname) refl all (named_time_cmp (earliest_key at) e.0) refl (none_near es)
+    where
+      by : (b : Bool) → eqb e.0.pname at.pname ≡ b → AllByRecursion (λ s. is_apart s.last at.time ≡ true) (cond b (span_at e ∷ spans_in at.pname es) (spans_in at.pname es)) →
+          (r : Ordering) → named_time_cmp (earliest_key at) e.0 ≡ r →
+          (AllByRecursion (λ s. is_apart s.last at.time ≡ true) (spans_in at.pname es) → near_span at (entries_from (named_time_cmp (earliest_key at)) es) ≡ None) →
+          near_span at (cond (is_le r) (e ∷ entries_from (named_time_cmp (earliest_key at)) es) (entries_from (named_time_cmp (earliest_key at)) es)) ≡ None
+      by true same ended Greater is later = later ended.1
+      by false other ended Greater is later = later ended
+      by true same ended Less is later = absurd (is_true_false ended.0 (from_earliest e (ap is_le is) (eqb-true e.0.pname at.pname same)))
+      by true same ended Equal is later = absurd (is_true_false ended.0 (from_earliest e (ap is_le is) (eqb-true e.0.pname at.pname same)))
+      by false other ended Less is later = rw other refl
+      by false other ended Equal is later = rw other refl
+
   -- ---- a record that is taken out
 
   module _ (span s : Span) where

@@ -4,3 +4,4 @@ pub mod Addition
 pub mod Entries
 pub mod Ahead
 pub mod Added
+pub mod OneName

@@ -66,7 +66,7 @@ order-push times t = fold-append (place_by int_lt) [] times (t ∷ [])
 abbrev is_of : ℕ → NamedTime → Bool
 is_of pname at = eqb at.pname pname
 
-times_of-append : (pname : ℕ) (xs ys : List NamedTime) → times_of pname (xs ++ ys) ≡ times_of pname xs ++ times_of pname ys
+pub times_of-append : (pname : ℕ) (xs ys : List NamedTime) → times_of pname (xs ++ ys) ≡ times_of pname xs ++ times_of pname ys
 times_of-append pname xs ys =
     ap (map (λ (at : NamedTime). at.time)) (filter-append (is_of pname) xs ys) ∙ map-append (λ (at : NamedTime). at.time) (filter (is_of pname) xs) (filter (is_of pname) ys)
 

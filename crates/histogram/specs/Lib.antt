@@ -4,3 +4,4 @@ pub mod Histogram
 pub mod Near
 pub mod SpanEntries
 pub mod Walk
+pub mod OneName

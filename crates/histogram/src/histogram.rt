@@ -4,6 +4,7 @@ ghost use Rattle.std.specs.Prelude.{◌≡◌, ◌≢◌, ℕ, ℤ, ◌+◌, ◌
 ghost use Rattle.histogram.specs.Times.{spans_of, spans_of_times, IsHistogramOf, HasTimes};
 
 use crate::near::{SpanStart, take_near};
+use crate::one_name::put_behind;
 use crate::walk::next_of;
 use arch_types::spans::Spans;
 use block_map::index::Index;
@@ -24,7 +25,7 @@ pub struct Histogram {
     alloc: Global,
     /// The records, each under its packet name and its last time.
     index: Index<NamedTime, SpanStart>,
-    /// How many additions there were.
+    /// No fewer than the times that all records have.
     rows: u64,
     /// How many more take no memory.
     room: u64,
@@ -96,6 +97,29 @@ impl Histogram {
             count: span.count,
         };
         self.index.insert(last, start);
+    }
+
+    /// The records of one packet name alone, to which more times may be added. The one error is want of memory.
+    pub fn of_name(&self, pname: u16) -> Result<Histogram, AllocError>
+        ensures same { IfOk result (λ histogram. spans_of pname histogram ≡ spans_of pname self.now) }
+        ensures alone { IfOk result (λ histogram. (other : ℕ) → other ≢ pname → spans_of other histogram ≡ []) }
+    {
+        let least = NamedTime {
+            pname,
+            time: i64::MIN,
+        };
+        let mut entries = self.index.from_key(least);
+        let mut index = Index::new(self.alloc);
+        while let Some(span) = next_of(&mut entries, pname) {
+            index.reserve(1)?;
+            put_behind(&mut index, pname, span);
+        }
+        Ok(Histogram {
+            alloc: self.alloc,
+            index,
+            rows: self.rows,
+            room: 0,
+        })
     }
 
     /// The records of a packet name, in the order of their times. The one error is want of memory.

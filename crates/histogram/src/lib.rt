@@ -4,7 +4,9 @@
 // sorted times, cut between neighbours that differ by more than 60,000 ms, each piece as its first and last time and their number
 // (`histogram_of`, specs/Spans.antt). A caller that knows which times it added keeps `IsHistogramOf` of them (specs/Times.antt): a new
 // histogram is that of no time, and an addition makes that of any list of times that of the list with one more.
-// Callers: the history, which makes the histogram of a packet name from a table's rows where one is asked.
+// `of_name` gives the records of one packet name as a histogram of their own, to which more times are added: those that are kept of
+// rows that are no longer there, and then those of the rows that are.
+// Callers: the history, which makes the histogram of a packet name where one is asked, of what it keeps and of a table's rows.
 //
 // Memory holds the records and not the times: an ordered index has each record under its name and its last time. An addition takes
 // out the records that are near its time, at most two, joins them with it, and puts the one record in.
@@ -17,4 +19,5 @@
 pub mod histogram;
 pub mod laws;
 mod near;
+mod one_name;
 mod walk;

@@ -1,4 +1,6 @@
 pub mod Places
+pub mod ItemLists
+pub mod Databases
 pub mod Outcomes
 pub mod Late
 pub mod FillLists

@@ -6,7 +6,8 @@ use Rattle.history_items.specs.declared.fills.Addition.{Addition}
 use Rattle.history_items.specs.declared.fills.Addition.TheVariants as additions
 use Rattle.history_items.specs.declared.fills.Fill.{Fill}
 use Rattle.history_items.specs.declared.fills.Fill.TheVariants.{Begun, Done, Freed, Fault}
-use Rattle.history_items.specs.Items.{Item, items_of}
+use Rattle.history_items.specs.declared.items.Item.{Item}
+use Rattle.history_items.specs.Items.{items_of}
 
 -- whether two are one interval
 abbrev pub is_same : Interval → Interval → Bool

@@ -1,19 +1,65 @@
--- What holds of outcomes, late intervals and fill lists.
+-- What holds of items, outcomes, late intervals and fill lists.
 use mathlib.Core.List.{Sublist}
-use Rattle.std.specs.Prelude.{◌≡◌, ◌↔◌, ℕ, ◌≤◌, List, [], ◌∷◌, ◌++◌, length, take, slice_get, Some, None, IsTrue, if◌then◌else◌}
+use Rattle.std.specs.Prelude.{◌≡◌, ◌↔◌, ℕ, ◌+◌, ◌≤◌, List, [], ◌∷◌, ◌++◌, filter, length, map, nat_lt, option_map, take, slice_get, Some, None, IsTrue, if◌then◌else◌}
 use Rattle.std.specs.List.{list_any}
 use Rattle.std.specs.Option.{option_or, is_some}
 use Rattle.intervals.specs.declared.interval.Interval.{Interval}
 use Rattle.arch_types.specs.declared.inserted.Inserted.{Inserted}
 use Rattle.arch_types.specs.declared.row.Row.{Row}
-use Rattle.arch_types.specs.History.{IsHistory}
+use Rattle.arch_types.specs.History.{IsHistory, ingested}
+use Rattle.mdb_items.specs.Database.{Database}
+use Rattle.mdb_items.specs.Texts.{Text}
+use Rattle.history_items.specs.declared.items.Item.{Item}
 use Rattle.history_items.specs.declared.fills.Fill.{Fill}
 use Rattle.history_items.specs.declared.fills.Fill.TheVariants.{Done}
-use Rattle.history_items.specs.Items.{Item, after_rows, is_row_of_interval, items_of, rows_in}
+use Rattle.history_items.specs.Items.{after_rows, database_item, databases_in, is_of_interval, items_of, placed_from, prefix, row_item, rows_in}
+use Rattle.history_items.specs.Databases.{database_in, names_in, places_in}
 use Rattle.history_items.specs.Outcomes.{outcomes_of, fresh_of, Says}
 use Rattle.history_items.specs.FillList.{flights_of}
 use Rattle.history_items.specs.Fills.{is_same, base_in, base_after, in_flight, flight_after, IsLastDone, IsBegunLast, rows_of_faults, pending_fault_of, reopened, above, Rising}
 use Rattle.history_items.specs.Late.{IsLate, IsLastIn, last_in, is_late_in}
+
+-- ---- items
+
+-- the rows and databases of items in two parts are those of the parts
+abbrev pub PartsHaveTheirOwn : Type 0
+PartsHaveTheirOwn = (before after : List Item) →
+    (rows_in (before ++ after) ≡ rows_in before ++ rows_in after)
+    × (databases_in (before ++ after) ≡ databases_in before ++ databases_in after)
+
+-- items of rows are these rows, and no database
+abbrev pub RowsAreRows : Type 0
+RowsAreRows = (rows : List Row) → (rows_in (items_of rows) ≡ rows) × (databases_in (items_of rows) ≡ [])
+
+-- rows that come to a history come to its rows, whatever databases stand between
+abbrev pub RowsComeToRows : Type 0
+RowsComeToRows = (history : List Item) (rows : List Row) → rows_in (after_rows history rows) ≡ ingested (rows_in history) rows
+
+-- the placed rows of items in two parts are those of the parts
+abbrev pub PlacesGoOn : Type 0
+PlacesGoOn = (first : ℕ) (before after : List Item) →
+    placed_from first (before ++ after) ≡ placed_from first before ++ placed_from (first + length before) after
+
+-- the rows below a front are those of the first items
+abbrev pub RowsBelowFront : Type 0
+RowsBelowFront = (front : ℕ) (history : List Item) →
+    map (λ placed. placed.1) (filter (λ placed. nat_lt placed.0 front) (placed_from 0 history)) ≡ rows_in (prefix front history)
+
+-- rows change neither the database in force nor the packet names
+abbrev pub RowsKeepDatabase : Type 0
+RowsKeepDatabase = (first : Database) (history : List Item) (rows : List Row) →
+    (database_in first (history ++ items_of rows) ≡ database_in first history)
+    × (names_in first (history ++ items_of rows) ≡ names_in first history)
+
+-- the packet names of more items come behind those that were there, so each keeps its place
+abbrev pub NamesKeepPlaces : Type 0
+NamesKeepPlaces = (first : Database) (history later : List Item) →
+    (more : List Text) × (names_in first (history ++ later) ≡ names_in first history ++ more)
+
+-- each name of the database in force has a place
+abbrev pub EachNameHasPlace : Type 0
+EachNameHasPlace = (first : Database) (history : List Item) →
+    length (places_in first history) ≡ length (database_in first history).containers
 
 -- ---- outcomes
 
@@ -49,16 +95,21 @@ NewInTurn = (history : List Item) (first second : List Row) →
 
 -- ---- late intervals
 
--- the position of the last row is that of a row of `tm` in the interval, and the greatest
+-- where an interval has a row, the position of its last change is that of what changes it, and the greatest
 abbrev pub LastIsGreatest : Type 0
 LastIsGreatest = (exponent : ℕ) (interval : Interval) (history : List Item) → IsLastIn exponent interval history (last_in exponent interval history)
 
--- one item more
-abbrev pub LastAfterItem : Type 0
-LastAfterItem = (exponent : ℕ) (interval : Interval) (history : List Item) (item : Item) →
-    last_in exponent interval (history ++ item ∷ []) ≡ (if is_row_of_interval exponent interval item then Some (length history) else last_in exponent interval history)
+-- one row more
+abbrev pub LastAfterRow : Type 0
+LastAfterRow = (exponent : ℕ) (interval : Interval) (history : List Item) (row : Row) →
+    last_in exponent interval (history ++ row_item row ∷ []) ≡ (if is_of_interval exponent interval row then Some (length history) else last_in exponent interval history)
 
--- the last row decides whether an interval is late
+-- one database more
+abbrev pub LastAfterDatabase : Type 0
+LastAfterDatabase = (exponent : ℕ) (interval : Interval) (history : List Item) (database : Database) →
+    last_in exponent interval (history ++ database_item database ∷ []) ≡ option_map (λ last. length history) (last_in exponent interval history)
+
+-- the last change decides whether an interval is late
 abbrev pub LateByLast : Type 0
 LateByLast = (exponent : ℕ) (interval : Interval) (history : List Item) (fills : List Fill) → IsTrue (is_late_in exponent interval history fills) ↔ IsLate exponent interval history fills
 

@@ -1,5 +1,6 @@
 pub mod Places
 pub mod Items
+pub mod Databases
 pub mod Outcomes
 pub mod Fills
 pub mod FillList

@@ -3,7 +3,8 @@ use Rattle.std.specs.Prelude.{◌≡◌, ℕ, List, [], ◌∷◌, ◌++◌, len
 use Rattle.arch_types.specs.declared.row.Row.{Row}
 use Rattle.arch_types.specs.declared.inserted.Inserted.{Inserted}
 use Rattle.arch_types.specs.declared.inserted.Inserted.TheVariants.{New, Duplicate}
-use Rattle.history_items.specs.Items.{Item, after_row, has_key_of, row_item}
+use Rattle.history_items.specs.declared.items.Item.{Item}
+use Rattle.history_items.specs.Items.{after_row, has_key_of, row_item}
 use Rattle.history_items.specs.Places.{first_place}
 
 -- by the position of the row that has its table and key, or by the length of the history

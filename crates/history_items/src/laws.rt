@@ -1,6 +1,49 @@
 //! Laws of the definitions, carried by functions that do nothing.
 
-ghost use Rattle.history_items.specs.Laws.{OneOutcomePerRow, OutcomesSay, FreshRowsAreAdded, IngestAddsRowsInOrder, FreshRowsAreNew, NewInTurn, LastIsGreatest, LastAfterItem, LateByLast, BaseIsOfLastDone, FlightIsBegunLast, FlightsAreInFlight, BasesAfterItem, FaultsAfterItems, CountsGoOn, ReopenSettles};
+ghost use Rattle.history_items.specs.Laws.{PartsHaveTheirOwn, RowsAreRows, RowsComeToRows, PlacesGoOn, RowsBelowFront, RowsKeepDatabase, NamesKeepPlaces, EachNameHasPlace};
+ghost use Rattle.history_items.specs.Laws.{OneOutcomePerRow, OutcomesSay, FreshRowsAreAdded, IngestAddsRowsInOrder, FreshRowsAreNew, NewInTurn};
+ghost use Rattle.history_items.specs.Laws.{LastIsGreatest, LastAfterRow, LastAfterDatabase, LateByLast};
+ghost use Rattle.history_items.specs.Laws.{BaseIsOfLastDone, FlightIsBegunLast, FlightsAreInFlight, BasesAfterItem, FaultsAfterItems, CountsGoOn, ReopenSettles};
+
+/// The rows and databases of items in two parts are those of the parts.
+pub fn parts_have_their_own()
+    ensures { PartsHaveTheirOwn }
+{}
+
+/// Items of rows are these rows, and no database.
+pub fn rows_are_rows()
+    ensures { RowsAreRows }
+{}
+
+/// Rows that come to a history come to its rows.
+pub fn rows_come_to_rows()
+    ensures { RowsComeToRows }
+{}
+
+/// The placed rows of items in two parts are those of the parts.
+pub fn places_go_on()
+    ensures { PlacesGoOn }
+{}
+
+/// The rows below a front are those of the first items.
+pub fn rows_below_front()
+    ensures { RowsBelowFront }
+{}
+
+/// Rows change neither the database in force nor the packet names.
+pub fn rows_keep_database()
+    ensures { RowsKeepDatabase }
+{}
+
+/// The packet names that are there keep their places.
+pub fn names_keep_places()
+    ensures { NamesKeepPlaces }
+{}
+
+/// Each name of the database in force has a place.
+pub fn each_name_has_place()
+    ensures { EachNameHasPlace }
+{}
 
 /// A batch has one outcome per row.
 pub fn one_outcome_per_row()
@@ -33,17 +76,22 @@ pub fn new_in_turn()
     ensures { NewInTurn }
 {}
 
-/// The last row of an interval has the greatest position.
+/// The last change of an interval has the greatest position.
 pub fn last_is_greatest()
     ensures { LastIsGreatest }
 {}
 
-/// The last row of an interval after one more item.
-pub fn last_after_item()
-    ensures { LastAfterItem }
+/// The last change of an interval after one more row.
+pub fn last_after_row()
+    ensures { LastAfterRow }
 {}
 
-/// The last row of an interval decides whether it is late.
+/// The last change of an interval after one more database.
+pub fn last_after_database()
+    ensures { LastAfterDatabase }
+{}
+
+/// The last change of an interval decides whether it is late.
 pub fn late_by_last()
     ensures { LateByLast }
 {}

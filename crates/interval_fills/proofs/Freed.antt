@@ -13,7 +13,7 @@ use Rattle.history_items.specs.FillList.{flights_of}
 use Rattle.history_items.specs.Late.{IsLate}
 use Rattle.history_items.proofs.FillLists.{base_after_item, flight_after_item}
 use Rattle.history_items.proofs.Flights.{flights_are_in_flight}
-use Rattle.interval_fills.specs.Intervals.{NoRowSince}
+use Rattle.interval_fills.specs.Intervals.{NoneSince}
 use Rattle.interval_fills.specs.Steps.{MachineState, freed, all_freed, filled}
 use Rattle.interval_fills.proofs.Growing.{punctual}
 use Rattle.interval_fills.proofs.Steps.{same_interval}
@@ -101,7 +101,7 @@ all_free i fills = go (list_any (is_same i) (flights_of fills)) refl
 
 -- ---- a fill that was installed
 
-pub installed : (e : ℕ) (i : Interval) (base : ℕ) (s : MachineState) → NoRowSince e i base s.history
+pub installed : (e : ℕ) (i : Interval) (base : ℕ) (s : MachineState) → NoneSince e i base s.history
     → (IsLate e i s.history (filled i base s).fills → ⊥) × (in_flight i (filled i base s).fills ≡ None) × (base_in i (filled i base s).fills ≡ Some base)
 installed e i base s none =
     let same = is_itself i in

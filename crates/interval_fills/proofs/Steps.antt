@@ -3,7 +3,6 @@ use Rattle.std.proofs.Common.{◌≡◌, ℕ, ◌≤◌, arith, List, [], ◌∷
 use Rattle.std.specs.Prelude.{if◌then◌else◌, ℤ, fold}
 use Rattle.std.specs.Option.{is_some}
 use Rattle.std.proofs.lemmas.Bool.Decides.{Decides-int_eq}
-use Rattle.arch_types.proofs.Histories.{only_adds, keeps_history}
 use Rattle.intervals.specs.declared.interval.Interval.{Interval}
 use Rattle.arch_types.specs.declared.inserted.Inserted.{Inserted}
 use Rattle.arch_types.specs.declared.inserted.Installed.{Installed}
@@ -13,13 +12,17 @@ use Rattle.arch_types.specs.History.{IsHistory}
 use Rattle.history_items.specs.declared.fills.Addition.{Addition}
 use Rattle.history_items.specs.declared.fills.Fill.{Fill}
 use Rattle.history_items.specs.declared.fills.Fill.TheVariants.{Begun, Done, Freed, Fault}
-use Rattle.history_items.specs.Items.{Item}
+use Rattle.history_items.specs.declared.items.Item.{Item}
+use Rattle.history_items.specs.Items.{items_of, rows_in}
+use Rattle.history_items.specs.Outcomes.{fresh_of}
 use Rattle.history_items.specs.Fills.{is_same, base_in, base_after, in_flight, flight_after, reopened}
 use Rattle.history_items.specs.FillList.{flights_of}
 use Rattle.history_items.proofs.FillLists.{base_after_item, flight_after_item, base_in-reopened, in_flight-reopened}
+use Rattle.history_items.proofs.ItemLists.{keeps_rows}
 use Rattle.history_items.proofs.Late.{last_is_greatest}
+use Rattle.history_items.proofs.Outcomes.{fresh_added}
 use Rattle.history_items.specs.Late.{IsLastIn, last_in}
-use Rattle.interval_fills.specs.Intervals.{NoRowSince}
+use Rattle.interval_fills.specs.Intervals.{NoneSince}
 use Rattle.interval_fills.specs.Steps.{MachineState, first_state, state_of, Ingests, BeginsFill, InstallsFill, IsFillBase, IsStoredBase, filled, freed, all_freed, given_up}
 use Rattle.interval_fills.specs.Invariant.{MachineInvariant}
 use Rattle.interval_fills.proofs.Growing.{base_grows, late_base, stored_base, stored_grows}
@@ -92,11 +95,11 @@ first e = record { history = tt; bases = λ i b is. absurd cc; flights = λ i b 
 
 pub ingests : (e : ℕ) (old new : MachineState) (rows : List Row) (outcomes : List Inserted) → MachineInvariant e old → Ingests old rows outcomes new → MachineInvariant e new
 ingests e old new rows outcomes s step =
-    let more = only_adds old.history rows in
-    let grown : new.history ≡ old.history ++ more.0 = step.history ∙ more.1 in record {
-      history = subst IsHistory (sym step.history) (keeps_history old.history rows s.history);
-      bases = λ i b is. subst (IsStoredBase e i b) (sym grown) (stored_grows e i b old.history more.0 (s.bases i b (ap (base_in i) (sym step.fills) ∙ is)));
-      flights = λ i b is. subst (IsFillBase e i b) (sym grown) (base_grows e i b old.history more.0 (s.flights i b (ap (in_flight i) (sym step.fills) ∙ is)));
+    let more = items_of (fresh_of old.history rows) in
+    let grown : new.history ≡ old.history ++ more = step.history ∙ fresh_added old.history rows in record {
+      history = subst (λ (h : List Item). IsHistory (rows_in h)) (sym step.history) (keeps_rows old.history rows s.history);
+      bases = λ i b is. subst (IsStoredBase e i b) (sym grown) (stored_grows e i b old.history more (s.bases i b (ap (base_in i) (sym step.fills) ∙ is)));
+      flights = λ i b is. subst (IsFillBase e i b) (sym grown) (base_grows e i b old.history more (s.flights i b (ap (in_flight i) (sym step.fills) ∙ is)));
     }
 
 moved : (e : ℕ) (old new : MachineState) (fills : List Fill) → new.history ≡ old.history → new.fills ≡ fills → MachineInvariant e (state_of old.history fills) → MachineInvariant e new
@@ -135,10 +138,10 @@ reopens e old s = record {
 -- ---- one outcome
 
 -- a fill that is there isn't stale
-not_both : (e : ℕ) (i : Interval) (base position : ℕ) (history : List Item) → NoRowSince e i base history → base ≤ position → last_in e i history ≡ Some position → ⊥
+not_both : (e : ℕ) (i : Interval) (base position : ℕ) (history : List Item) → NoneSince e i base history → base ≤ position → last_in e i history ≡ Some position → ⊥
 not_both e i base position history none since is =
     let last = subst (IsLastIn e i history) is (last_is_greatest e i history) in
-    omega (arith, since, none position last.0)
+    omega (arith, since, none position last.1)
 
 pub one_outcome : (e : ℕ) (old new other : MachineState) (interval : Interval) (base : ℕ) (became otherwise : Installed) → InstallsFill e old interval base became new → InstallsFill e old interval base otherwise other
     → (became ≡ otherwise) × (new ≡ other)

@@ -4,8 +4,9 @@ use Rattle.intervals.specs.declared.interval.Interval.{Interval}
 use Rattle.intervals.specs.Interval.{interval_end, interval_start}
 use Rattle.arch_types.specs.declared.row.Row.{Row}
 use Rattle.arch_types.specs.Table.{range_of}
-use Rattle.history_items.specs.Items.{Item, rows_in}
-use Rattle.history_items.specs.Late.{StandsIn}
+use Rattle.history_items.specs.declared.items.Item.{Item}
+use Rattle.history_items.specs.Items.{rows_in}
+use Rattle.history_items.specs.Late.{ChangesAt, StandsIn}
 
 -- the rows of table `tm`, the first table, with their time in an interval, in the order of their keys
 abbrev pub rows_of_interval : ℕ → Interval → List Item → List Row
@@ -18,7 +19,7 @@ pub record HasRowBelow (exponent : ℕ) (interval : Interval) (front : ℕ) (his
   pub stands : StandsIn exponent interval position history
   pub below : position < front
 
--- no row of `tm` with its time in the interval stands at or after this front
-abbrev pub NoRowSince : ℕ → Interval → ℕ → List Item → Type 0
-NoRowSince exponent interval front history =
-    (position : ℕ) → StandsIn exponent interval position history → position < front
+-- nothing that changes the interval stands at or after this front: no row of it, and no database
+abbrev pub NoneSince : ℕ → Interval → ℕ → List Item → Type 0
+NoneSince exponent interval front history =
+    (position : ℕ) → ChangesAt exponent interval position history → position < front

@@ -10,10 +10,13 @@ use Rattle.arch_types.specs.Table.{table_of}
 use Rattle.history_items.specs.declared.fills.Addition.{Addition}
 use Rattle.history_items.specs.declared.fills.Fill.{Fill}
 use Rattle.history_items.specs.declared.fills.Fill.TheVariants.{Fault}
-use Rattle.history_items.specs.Items.{Item, prefix, rows_in}
+use Rattle.mdb_items.specs.Database.{Database}
+use Rattle.history_items.specs.declared.items.Item.{Item}
+use Rattle.history_items.specs.Items.{prefix, rows_in}
+use Rattle.history_items.specs.Databases.{database_in}
 use Rattle.history_items.specs.Fills.{base_in, in_flight, reopened}
 use Rattle.history_items.specs.Late.{IsLate}
-use Rattle.interval_fills.specs.Intervals.{rows_of_interval, NoRowSince}
+use Rattle.interval_fills.specs.Intervals.{rows_of_interval, NoneSince}
 use Rattle.interval_fills.specs.Steps.{MachineState, first_state, state_of, Ingests, BeginsFill, InstallsFill, IsFillBase, IsStoredBase, filled, given_up, freed, all_freed}
 use Rattle.interval_fills.specs.Invariant.{MachineInvariant}
 
@@ -25,11 +28,17 @@ RangeIsInterval = (exponent : ℕ) (interval : Interval) (history : List Item) �
     rows_of_interval exponent interval history
     ≡ filter (λ row. int_eq (interval_of exponent row.key.time) interval.0) (table_of 0 (rows_in history))
 
--- where no row of an interval stands at or after a front, its rows are those below the front
+-- where nothing that changes an interval stands at or after a front, its rows are those below the front
 abbrev pub RowsAreThoseBelow : Type 0
 RowsAreThoseBelow = (exponent : ℕ) (interval : Interval) (front : ℕ) (history : List Item) →
-    NoRowSince exponent interval front history →
+    NoneSince exponent interval front history →
     rows_of_interval exponent interval history ≡ rows_of_interval exponent interval (prefix front history)
+
+-- and the database in force is the one below it
+abbrev pub DatabaseIsThatBelow : Type 0
+DatabaseIsThatBelow = (first : Database) (exponent : ℕ) (interval : Interval) (front : ℕ) (history : List Item) →
+    NoneSince exponent interval front history →
+    database_in first history ≡ database_in first (prefix front history)
 
 -- an interval that was filled and isn't late has the rows that its last fill had
 abbrev pub FilledRowsStay : Type 0
@@ -73,7 +82,7 @@ InstallHasOneOutcome = (exponent : ℕ) (old new other : MachineState) (interval
 -- an interval whose fill was installed is neither late nor in flight, and its base is that of the fill
 abbrev pub InstalledIsNotLate : Type 0
 InstalledIsNotLate = (exponent : ℕ) (interval : Interval) (base : ℕ) (s : MachineState) →
-    NoRowSince exponent interval base s.history →
+    NoneSince exponent interval base s.history →
     (IsLate exponent interval s.history (filled interval base s).fills → ⊥)
     × (in_flight interval (filled interval base s).fills ≡ None)
     × (base_in interval (filled interval base s).fills ≡ Some base)

@@ -8,12 +8,13 @@ use Rattle.arch_types.specs.declared.inserted.Installed.TheVariants as became
 use Rattle.arch_types.specs.declared.row.Row.{Row}
 use Rattle.history_items.specs.declared.fills.Fill.{Fill}
 use Rattle.history_items.specs.declared.fills.Fill.TheVariants.{Begun, Done, Freed}
-use Rattle.history_items.specs.Items.{Item, after_rows}
+use Rattle.history_items.specs.declared.items.Item.{Item}
+use Rattle.history_items.specs.Items.{after_rows}
 use Rattle.history_items.specs.Outcomes.{outcomes_of}
 use Rattle.history_items.specs.Fills.{in_flight}
 use Rattle.history_items.specs.FillList.{flights_of}
 use Rattle.history_items.specs.Late.{IsLate, last_in}
-use Rattle.interval_fills.specs.Intervals.{rows_of_interval, HasRowBelow, NoRowSince}
+use Rattle.interval_fills.specs.Intervals.{rows_of_interval, HasRowBelow, NoneSince}
 
 -- the history, and what happened to fills
 pub record MachineState : Type 0 where
@@ -93,10 +94,10 @@ pub record BeginsFill (exponent : ℕ) (old : MachineState) (interval : Interval
   pub history : new.history ≡ old.history
   pub fills : new.fills ≡ old.fills ++ Begun interval base ∷ []
 
--- What became of a fill: it is there, where no row of the interval stands at or after its base. Else it is stale by the
--- last such row, and given up.
+-- What became of a fill: it is there, where nothing that changes the interval stands at or after its base. Else it is
+-- stale by the last such change, and given up.
 abbrev pub InstallsFill : ℕ → MachineState → Interval → ℕ → Installed → MachineState → Type 0
 InstallsFill exponent old interval base became.Done new =
-    NoRowSince exponent interval base old.history × (new ≡ filled interval base old)
+    NoneSince exponent interval base old.history × (new ≡ filled interval base old)
 InstallsFill exponent old interval base (became.Stale position) new =
     (base ≤ position) × (last_in exponent interval old.history ≡ Some position) × (new ≡ given_up interval old)

@@ -1,6 +1,6 @@
 //! Laws of the definitions, carried by functions that do nothing.
 
-ghost use Rattle.interval_fills.specs.Laws.{RangeIsInterval, RowsAreThoseBelow, FilledRowsStay};
+ghost use Rattle.interval_fills.specs.Laws.{RangeIsInterval, RowsAreThoseBelow, DatabaseIsThatBelow, FilledRowsStay};
 ghost use Rattle.interval_fills.specs.Laws.{StepsKeepInvariant, InstallHasOneOutcome, InstalledIsNotLate};
 ghost use Rattle.interval_fills.specs.Laws.{FreedIsFree, FreedLeavesRest, AllFreedLeavesBases, NoneIsInFlight};
 
@@ -9,9 +9,14 @@ pub fn range_is_interval()
     ensures { RangeIsInterval }
 {}
 
-/// Where no row of an interval stands at or after a front, its rows are those below the front.
+/// Where nothing that changes an interval stands at or after a front, its rows are those below the front.
 pub fn rows_are_those_below()
     ensures { RowsAreThoseBelow }
+{}
+
+/// And the database in force is the one below it.
+pub fn database_is_that_below()
+    ensures { DatabaseIsThatBelow }
 {}
 
 /// An interval that was filled and isn't late has the rows that its last fill had.

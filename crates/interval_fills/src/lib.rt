@@ -6,7 +6,7 @@
 //! puts the steps in a row; the store says of its calls which they are (`IsFillBegun`, `IsStoreInstalled`). That a fill's base is one that it may have
 //! (`IsFillBase`) is asked beside `InstallsFill`, by who installs.
 //!
-//! The one law under all (`RowsAreThoseBelow`): where no row of an interval stands at or after a front, the interval's
+//! The one law under all (`RowsAreThoseBelow`): where nothing that changes an interval stands at or after a front, the interval's
 //! rows, in the order of their keys, are those below the front. So what was built of the rows below a fill's base stays
 //! right for as long as the interval isn't late. The idea of its proof: a row whose time is outside the interval leaves
 //! the interval's rows as they are, wherever the order of keys puts it. What holds of every state that steps reach is

@@ -9,16 +9,19 @@ use Rattle.std.proofs.lemmas.List.Folds.{list_any-append}
 use Rattle.intervals.specs.declared.interval.Interval.{Interval}
 use Rattle.history_items.specs.declared.fills.Fill.{Fill}
 use Rattle.history_items.specs.declared.fills.Fill.TheVariants.{Done}
-use Rattle.history_items.specs.Items.{Item}
+use Rattle.arch_types.specs.declared.row.Row.{Row}
+use Rattle.history_items.specs.declared.items.Item.{Item}
+use Rattle.history_items.specs.declared.items.Item.TheVariants as items
+use Rattle.history_items.specs.Items.{rows_in}
 use Rattle.history_items.specs.Fills.{is_same, base_in}
 use Rattle.history_items.specs.Late.{StandsIn, IsLate, IsLastIn, last_in, is_late_in}
 use Rattle.history_items.proofs.FillLists.{base_after_item}
 use Rattle.history_items.proofs.Late.{last_is_greatest, late_by_last}
-use Rattle.interval_fills.specs.Intervals.{NoRowSince}
+use Rattle.interval_fills.specs.Intervals.{NoneSince}
 use Rattle.interval_fills.proofs.Freed.{is_itself}
 use Rattle.interval_fills.proofs.Steps.{same_interval}
 use Rattle.late_marks.specs.Mark.{is_late_by}
-use Rattle.interval_walks.specs.Counts.{AreApart, item_interval, with_interval, intervals_in, late_intervals}
+use Rattle.interval_walks.specs.Counts.{AreApart, row_interval, with_interval, intervals_in, late_intervals}
 
 other_way : (a b : Interval) → is_same a b ≡ false → is_same b a ≡ false
 other_way a b e = false_from_ne_true _ (λ t. true≢false (sym (subst (λ (k : Interval). is_same a k ≡ true) (sym (same_interval b a t)) (is_itself a)) ∙ e))
@@ -45,19 +48,19 @@ not_true true e = absurd cc
 not_true false e = refl
 
 module _ (ex : ℕ) where
-  apart_with : (is : List Interval) (item : Item) → AreApart is → AreApart (with_interval ex is item)
-  apart_with is item apart = go ((eqb item.table 0) && not (list_any (is_same (item_interval ex item)) is)) refl
+  apart_with : (is : List Interval) (row : Row) → AreApart is → AreApart (with_interval ex is row)
+  apart_with is row apart = go ((eqb row.table 0) && not (list_any (is_same (row_interval ex row)) is)) refl
     where
-      go : (b : Bool) → ((eqb item.table 0) && not (list_any (is_same (item_interval ex item)) is)) ≡ b → AreApart (if b then is ++ item_interval ex item ∷ [] else is)
-      go true e = apart_push is (item_interval ex item) apart (not_true (list_any (is_same (item_interval ex item)) is) (and_parts (eqb item.table 0) (not (list_any (is_same (item_interval ex item)) is)) e).1)
+      go : (b : Bool) → ((eqb row.table 0) && not (list_any (is_same (row_interval ex row)) is)) ≡ b → AreApart (if b then is ++ row_interval ex row ∷ [] else is)
+      go true e = apart_push is (row_interval ex row) apart (not_true (list_any (is_same (row_interval ex row)) is) (and_parts (eqb row.table 0) (not (list_any (is_same (row_interval ex row)) is)) e).1)
       go false e = apart
 
-  apart_fold : (history : List Item) (is : List Interval) → AreApart is → AreApart (fold (with_interval ex) is history)
+  apart_fold : (rows : List Row) (is : List Interval) → AreApart is → AreApart (fold (with_interval ex) is rows)
   apart_fold [] is apart = apart
-  apart_fold (item ∷ history) is apart = apart_fold history (with_interval ex is item) (apart_with is item apart)
+  apart_fold (row ∷ rows) is apart = apart_fold rows (with_interval ex is row) (apart_with is row apart)
 
   pub intervals_apart : (history : List Item) → AreApart (intervals_in ex history)
-  intervals_apart history = apart_fold history [] tt
+  intervals_apart history = apart_fold (rows_in history) [] tt
 
 -- ---- each interval that has rows is there
 
@@ -73,37 +76,39 @@ or_last true = refl
 or_last false = refl
 
 module _ (ex : ℕ) where
-  any_stays : (i : Interval) (is : List Interval) (item : Item) → list_any (is_same i) is ≡ true → list_any (is_same i) (with_interval ex is item) ≡ true
-  any_stays i is item e = go ((eqb item.table 0) && not (list_any (is_same (item_interval ex item)) is))
+  any_stays : (i : Interval) (is : List Interval) (row : Row) → list_any (is_same i) is ≡ true → list_any (is_same i) (with_interval ex is row) ≡ true
+  any_stays i is row e = go ((eqb row.table 0) && not (list_any (is_same (row_interval ex row)) is))
     where
-      go : (b : Bool) → list_any (is_same i) (if b then is ++ item_interval ex item ∷ [] else is) ≡ true
-      go true = any_push i (item_interval ex item) is e
+      go : (b : Bool) → list_any (is_same i) (if b then is ++ row_interval ex row ∷ [] else is) ≡ true
+      go true = any_push i (row_interval ex row) is e
       go false = e
 
-  any_fold : (i : Interval) (history : List Item) (is : List Interval) → list_any (is_same i) is ≡ true → list_any (is_same i) (fold (with_interval ex) is history) ≡ true
+  any_fold : (i : Interval) (rows : List Row) (is : List Interval) → list_any (is_same i) is ≡ true → list_any (is_same i) (fold (with_interval ex) is rows) ≡ true
   any_fold i [] is e = e
-  any_fold i (item ∷ history) is e = any_fold i history (with_interval ex is item) (any_stays i is item e)
+  any_fold i (row ∷ rows) is e = any_fold i rows (with_interval ex is row) (any_stays i is row e)
 
-  any_comes : (is : List Interval) (item : Item) → item.table ≡ 0 → list_any (is_same (item_interval ex item)) (with_interval ex is item) ≡ true
-  any_comes is item table = go (list_any (is_same (item_interval ex item)) is) refl
+  any_comes : (is : List Interval) (row : Row) → row.table ≡ 0 → list_any (is_same (row_interval ex row)) (with_interval ex is row) ≡ true
+  any_comes is row table = go (list_any (is_same (row_interval ex row)) is) refl
     where
-      in_tm : eqb item.table 0 ≡ true
+      in_tm : eqb row.table 0 ≡ true
       in_tm = grind (arith, nat_tests, table)
 
-      go : (b : Bool) → list_any (is_same (item_interval ex item)) is ≡ b → list_any (is_same (item_interval ex item)) (with_interval ex is item) ≡ true
-      go true e = any_stays (item_interval ex item) is item e
+      go : (b : Bool) → list_any (is_same (row_interval ex row)) is ≡ b → list_any (is_same (row_interval ex row)) (with_interval ex is row) ≡ true
+      go true e = any_stays (row_interval ex row) is row e
       go false e =
-          let self : is_same (item_interval ex item) (item_interval ex item) ≡ true = is_itself (item_interval ex item) in
-          let pushed : with_interval ex is item ≡ is ++ item_interval ex item ∷ [] = rw (in_tm, e) refl in
-          ap (list_any (is_same (item_interval ex item))) pushed ∙ list_any-append (is_same (item_interval ex item)) is (item_interval ex item ∷ []) ∙ (rw self (or_last (list_any (is_same (item_interval ex item)) is)))
+          let self : is_same (row_interval ex row) (row_interval ex row) ≡ true = is_itself (row_interval ex row) in
+          let pushed : with_interval ex is row ≡ is ++ row_interval ex row ∷ [] = rw (in_tm, e) refl in
+          ap (list_any (is_same (row_interval ex row))) pushed ∙ list_any-append (is_same (row_interval ex row)) is (row_interval ex row ∷ []) ∙ (rw self (or_last (list_any (is_same (row_interval ex row)) is)))
 
-  stands_any : (i : Interval) (history : List Item) (is : List Interval) (p : ℕ) → StandsIn ex i p history → list_any (is_same i) (fold (with_interval ex) is history) ≡ true
+  stands_any : (i : Interval) (history : List Item) (is : List Interval) (p : ℕ) → StandsIn ex i p history → list_any (is_same i) (fold (with_interval ex) is (rows_in history)) ≡ true
   stands_any i [] is p s = let at = s.there in absurd cc
-  stands_any i (item ∷ history) is zero s =
-      let same : item ≡ s.row = cc (s.there) in
-      let number : i ≡ item_interval ex item = ap (λ (n : ℤ). let k : Interval = record { 0 = n } in k) (sym s.time) ∙ ap (item_interval ex) (sym same) in
-      any_fold i history (with_interval ex is item) (subst (λ (k : Interval). list_any (is_same k) (with_interval ex is item) ≡ true) (sym number) (any_comes is item (ap (λ (r : Item). r.table) same ∙ s.table)))
-  stands_any i (item ∷ history) is (suc p) s = stands_any i history (with_interval ex is item) p (record { row = s.row; there = s.there; table = s.table; time = s.time })
+  stands_any i (items.Mdb database ∷ history) is zero s = let at = s.there in absurd cc
+  stands_any i (items.Mdb database ∷ history) is (suc p) s = stands_any i history is p (record { row = s.row; there = s.there; table = s.table; time = s.time })
+  stands_any i (items.Row row ∷ history) is zero s =
+      let same : row ≡ s.row = cc (s.there) in
+      let number : i ≡ row_interval ex row = ap (λ (n : ℤ). let k : Interval = record { 0 = n } in k) (sym s.time) ∙ ap (row_interval ex) (sym same) in
+      any_fold i (rows_in history) (with_interval ex is row) (subst (λ (k : Interval). list_any (is_same k) (with_interval ex is row) ≡ true) (sym number) (any_comes is row (ap (λ (r : Row). r.table) same ∙ s.table)))
+  stands_any i (items.Row row ∷ history) is (suc p) s = stands_any i history (with_interval ex is row) p (record { row = s.row; there = s.there; table = s.table; time = s.time })
 
 pub interval_there : (ex : ℕ) (i : Interval) (p : ℕ) (history : List Item) → StandsIn ex i p history → list_any (is_same i) (intervals_in ex history) ≡ true
 interval_there ex i p history s = stands_any ex i history [] p s
@@ -136,7 +141,7 @@ module _ (was is : Interval → Bool) (i : Interval) (late : was i ≡ true) (pu
           step false e = e
 
 module _ (ex : ℕ) where
-  late_false : (i : Interval) (history : List Item) (fills : List Fill) (base : ℕ) → NoRowSince ex i base history → is_late_in ex i history (fills ++ Done i base ∷ []) ≡ false
+  late_false : (i : Interval) (history : List Item) (fills : List Fill) (base : ℕ) → NoneSince ex i base history → is_late_in ex i history (fills ++ Done i base ∷ []) ≡ false
   late_false i history fills base none =
       let self = is_itself i in
       let filled : base_in i (fills ++ Done i base ∷ []) ≡ Some base = rw (base_after_item i fills (Done i base), self) refl in
@@ -145,7 +150,7 @@ module _ (ex : ℕ) where
     where
       go : (o : Option ℕ) → IsLastIn ex i history o → option_map_or (λ l. is_late_by l (Some base)) o false ≡ false
       go None p = refl
-      go (Some last) p = let below : last < base = none last p.0 in grind (arith, nat_tests, below)
+      go (Some last) p = let below : last < base = none last p.1 in grind (arith, nat_tests, below)
 
   late_same : (i j : Interval) (history : List Item) (fills : List Fill) (base : ℕ) → is_same i j ≡ false → is_late_in ex j history (fills ++ Done i base ∷ []) ≡ is_late_in ex j history fills
   late_same i j history fills base apart =
@@ -153,11 +158,11 @@ module _ (ex : ℕ) where
       let same : base_in j (fills ++ Done i base ∷ []) ≡ base_in j fills = rw (base_after_item j fills (Done i base), other) refl in
       ap (λ (b : Option ℕ). option_map_or (λ l. is_late_by l b) (last_in ex j history) false) same
 
-  pub one_late_less : (history : List Item) (fills : List Fill) (i : Interval) (base : ℕ) → IsLate ex i history fills → NoRowSince ex i base history
+  pub one_late_less : (history : List Item) (fills : List Fill) (i : Interval) (base : ℕ) → IsLate ex i history fills → NoneSince ex i base history
       → length (late_intervals ex history (fills ++ Done i base ∷ [])) + 1 ≡ length (late_intervals ex history fills)
   one_late_less history fills i base late none =
       one_less (λ j. is_late_in ex j history fills) (λ j. is_late_in ex j history (fills ++ Done i base ∷ [])) i ((late_by_last ex i history fills).1 late) (late_false i history fills base none)
-      (λ j apart. late_same i j history fills base apart) (intervals_in ex history) (intervals_apart ex history) (interval_there ex i late.position history late.stands)
+      (λ j apart. late_same i j history fills base apart) (intervals_in ex history) (intervals_apart ex history) (interval_there ex i late.row.position history late.row.stands)
 
 -- ---- none
 

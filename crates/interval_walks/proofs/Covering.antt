@@ -14,9 +14,9 @@ use Rattle.std.proofs.Math.Pow.{pow_mono}
 use Rattle.intervals.specs.declared.interval.Interval.{Interval}
 use Rattle.intervals.specs.Interval.{interval_of}
 use Rattle.history_items.specs.declared.fills.Fill.{Fill}
-use Rattle.history_items.specs.Items.{Item}
+use Rattle.history_items.specs.declared.items.Item.{Item}
 use Rattle.history_items.specs.Fills.{is_same, base_in, in_flight}
-use Rattle.history_items.specs.Late.{StandsIn, IsLastIn, last_in}
+use Rattle.history_items.specs.Late.{HasRow, StandsIn, IsLastIn, last_in}
 use Rattle.history_items.proofs.Late.{last_is_greatest}
 use Rattle.late_marks.specs.Marks.{Marks, has_rows}
 use Rattle.fill_tracker.specs.FillTracker.{AreMarksOf, mark_by}
@@ -189,7 +189,7 @@ pub stands_marked : (exponent : ℕ) (marks : Marks) (fills : List Fill) (histor
 stands_marked exponent marks fills history i p book stands = go (last_in exponent i history) refl (last_is_greatest exponent i history)
   where
     go : (o : Option ℕ) → last_in exponent i history ≡ o → IsLastIn exponent i history o → has_rows marks i ≡ true
-    go None is last = absurd (last p stands)
+    go None is last = let row : HasRow exponent i history = record { position = p; stands = stands } in absurd (last row)
     go (Some l) is last = ap is_some (book.each i ∙ ap (λ (o : Option ℕ). mark_by o (base_in i fills) (is_some (in_flight i fills))) is)
 
 pub covers_all : (exponent : ℕ) (marks : Marks) (low high : ℤ) (at : ℤ) (is : List Interval) → CoversTo marks (interval_of exponent low) at is → ((j : Interval) → has_rows marks j ≡ true → at ≤ℤ j.0 → interval_of exponent (high -ℤ pos 1) <ℤ j.0)

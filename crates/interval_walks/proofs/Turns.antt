@@ -13,12 +13,14 @@ use Rattle.arch_types.specs.Order.{is_before, place_by}
 use Rattle.arch_types.specs.History.{is_in_table}
 use Rattle.arch_types.specs.Table.{range_of, is_in_time_range, table_of}
 use Rattle.arch_types.proofs.Ordered.{IsAscending}
-use Rattle.history_items.specs.Items.{Item, rows_in}
+use Rattle.history_items.specs.declared.items.Item.{Item}
+use Rattle.history_items.specs.declared.items.Item.TheVariants as items
+use Rattle.history_items.specs.Items.{row_item, rows_in}
 use Rattle.history_items.specs.Fills.{is_same}
 use Rattle.interval_fills.proofs.Intervals.{range_is_interval}
 use Rattle.interval_fills.proofs.Steps.{same_interval}
 use Rattle.interval_fills.proofs.Times.{around}
-use Rattle.interval_walks.specs.Counts.{item_interval}
+use Rattle.interval_walks.specs.Counts.{row_interval}
 use Rattle.interval_walks.specs.Turns.{IntervalsRise, MeetsRange, CoverRange, rows_in_turn}
 use Rattle.interval_walks.proofs.Rising.{after_low, before_high, interval_rises, later_not, less_later, not_before, range_is, table_ascending}
 
@@ -124,15 +126,16 @@ any_one ex i (j ∷ is) row inside there = go (is_same i j) refl there (any_one 
 
 -- a row of the history stands somewhere
 abbrev IsStanding : List Item → Row → Type 0
-IsStanding history row = (p : ℕ) × (slice_get history p ≡ Some row)
+IsStanding history row = (p : ℕ) × (slice_get history p ≡ Some (row_item row))
 
-standing_all : (xs : List Item) → AllByRecursion (IsStanding xs) xs
+standing_behind : (x : Item) (xs : List Item) (rows : List Row) → AllByRecursion (IsStanding xs) rows → AllByRecursion (IsStanding (x ∷ xs)) rows
+standing_behind x xs [] all = tt
+standing_behind x xs (row ∷ rows) all = ((suc all.0.0, all.0.1), standing_behind x xs rows all.1)
+
+standing_all : (xs : List Item) → AllByRecursion (IsStanding xs) (rows_in xs)
 standing_all [] = tt
-standing_all (x ∷ xs) = ((0, refl), later xs (standing_all xs))
-  where
-    later : (ys : List Item) → AllByRecursion (IsStanding xs) ys → AllByRecursion (IsStanding (x ∷ xs)) ys
-    later [] all = tt
-    later (y ∷ ys) all = ((suc all.0.0, all.0.1), later ys all.1)
+standing_all (items.Mdb database ∷ xs) = standing_behind (items.Mdb database) xs (rows_in xs) (standing_all xs)
+standing_all (items.Row row ∷ xs) = ((0, refl), standing_behind (items.Row row) xs (rows_in xs) (standing_all xs))
 
 module _ (P : Row → Type 0) where
   kept_all : (t : Row → Bool) (xs : List Row) → AllByRecursion P xs → AllByRecursion (λ x. P x × (t x ≡ true)) (filter t xs)
@@ -182,12 +185,12 @@ module _ (ex : ℕ) where
 -- ---- how many rows
 
 module _ (ex : ℕ) (test : Interval → Bool) where
-  in_tested : (is : List Interval) (row : Row) → AllByRecursion (λ i. test i ≡ true) is → in_any ex is row ≡ true → test (item_interval ex row) ≡ true
+  in_tested : (is : List Interval) (row : Row) → AllByRecursion (λ i. test i ≡ true) is → in_any ex is row ≡ true → test (row_interval ex row) ≡ true
   in_tested [] row all e = absurd cc
   in_tested (i ∷ is) row all e = go (in_interval ex i row) refl e (in_tested is row all.1)
     where
-      go : (b : Bool) → in_interval ex i row ≡ b → (b || in_any ex is row) ≡ true → (in_any ex is row ≡ true → test (item_interval ex row) ≡ true) → test (item_interval ex row) ≡ true
-      go true same e deep = subst (λ (k : Interval). test k ≡ true) (sym (same_interval (item_interval ex row) i same)) all.0
+      go : (b : Bool) → in_interval ex i row ≡ b → (b || in_any ex is row) ≡ true → (in_any ex is row ≡ true → test (row_interval ex row) ≡ true) → test (row_interval ex row) ≡ true
+      go true same e deep = subst (λ (k : Interval). test k ≡ true) (sym (same_interval (row_interval ex row) i same)) all.0
       go false same e deep = deep e
 
 fewer : (p q : Row → Bool) (xs : List Row) → ((x : Row) → p x ≡ true → q x ≡ true) → length (filter p xs) ≤ length (filter q xs)
@@ -201,7 +204,7 @@ fewer p q (x ∷ xs) on = go (p x) refl (q x) refl (fewer p q xs on)
     go false is false is2 rest = rest
 
 pub few_in_turn : (ex : ℕ) (test : Interval → Bool) (is : List Interval) (history : List Item) → IntervalsRise is → AllByRecursion (λ i. test i ≡ true) is
-    → length (rows_in_turn ex is history) ≤ length (filter (λ row. test (item_interval ex row)) (table_of 0 (rows_in history)))
+    → length (rows_in_turn ex is history) ≤ length (filter (λ row. test (row_interval ex row)) (table_of 0 (rows_in history)))
 few_in_turn ex test is history rising all =
     let whole = ap length (turn_is ex is history rising) in
-    omega (arith, whole, fewer (in_any ex is) (λ row. test (item_interval ex row)) (table_of 0 (rows_in history)) (λ row e. in_tested ex test is row all e))
+    omega (arith, whole, fewer (in_any ex is) (λ row. test (row_interval ex row)) (table_of 0 (rows_in history)) (λ row e. in_tested ex test is row all e))

@@ -6,10 +6,11 @@ use Rattle.arch_types.specs.Table.{is_in_time_range, range_of, table_of}
 use Rattle.history_items.specs.declared.fills.Fill.{Fill}
 use Rattle.history_items.specs.declared.fills.Fill.TheVariants.{Done}
 use Rattle.history_items.specs.Fills.{is_same}
-use Rattle.history_items.specs.Items.{Item, rows_in}
+use Rattle.history_items.specs.declared.items.Item.{Item}
+use Rattle.history_items.specs.Items.{rows_in}
 use Rattle.history_items.specs.Late.{IsLate, StandsIn}
-use Rattle.interval_fills.specs.Intervals.{NoRowSince}
-use Rattle.interval_walks.specs.Counts.{AreApart, intervals_in, item_interval, late_intervals}
+use Rattle.interval_fills.specs.Intervals.{NoneSince}
+use Rattle.interval_walks.specs.Counts.{AreApart, intervals_in, row_interval, late_intervals}
 use Rattle.interval_walks.specs.Turns.{CoverRange, IntervalsRise, rows_in_turn}
 
 -- of the rows of intervals that cover a range of times, one interval after the other, those in the range are the
@@ -24,7 +25,7 @@ abbrev pub RowsInTurnAreFew : Type 0
 RowsInTurnAreFew = (exponent : ℕ) (test : Interval → Bool) (intervals : List Interval) (history : List Item) →
     IntervalsRise intervals → AllByRecursion (λ interval. test interval ≡ true) intervals →
     length (rows_in_turn exponent intervals history)
-    ≤ length (filter (λ row. test (item_interval exponent row)) (table_of 0 (rows_in history)))
+    ≤ length (filter (λ row. test (row_interval exponent row)) (table_of 0 (rows_in history)))
 
 -- an interval is among those that have rows exactly where a row stands in it, and each is there once
 pub record IntervalsHaveRows : Type 0 where
@@ -35,7 +36,7 @@ pub record IntervalsHaveRows : Type 0 where
 -- a fill of a late interval, after which it isn't late, leaves one late interval less
 abbrev pub FillsLeaveOneLess : Type 0
 FillsLeaveOneLess = (exponent : ℕ) (history : List Item) (fills : List Fill) (interval : Interval) (base : ℕ) →
-    IsLate exponent interval history fills → NoRowSince exponent interval base history →
+    IsLate exponent interval history fills → NoneSince exponent interval base history →
     length (late_intervals exponent history (fills ++ Done interval base ∷ [])) + 1
     ≡ length (late_intervals exponent history fills)
 

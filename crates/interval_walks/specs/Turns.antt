@@ -4,7 +4,7 @@ use Rattle.std.specs.List.{flat_map, list_any, AllByRecursion}
 use Rattle.intervals.specs.declared.interval.Interval.{Interval}
 use Rattle.arch_types.specs.declared.row.Row.{Row}
 use Rattle.history_items.specs.Fills.{is_same}
-use Rattle.history_items.specs.Items.{Item}
+use Rattle.history_items.specs.declared.items.Item.{Item}
 use Rattle.history_items.specs.Late.{StandsIn}
 use Rattle.interval_fills.specs.Intervals.{rows_of_interval}
 use Rattle.intervals.specs.Interval.{interval_end, interval_start}

@@ -4,7 +4,7 @@ ghost use Rattle.std.specs.Prelude.{◌≡◌, ◌<◌, ◌^◌, ◌≤ℤ◌, �
 ghost use Rattle.std.specs.List.{AllByRecursion};
 ghost use Rattle.intervals.specs.declared.interval.Interval.{Interval as AnInterval};
 ghost use Rattle.intervals.specs.Interval.{interval_of};
-ghost use Rattle.history_items.specs.Items.{Item};
+ghost use Rattle.history_items.specs.declared.items.Item.{Item};
 ghost use Rattle.fill_tracker.specs.FillTracker.{AreMarksOf};
 ghost use Rattle.interval_walks.specs.Turns.{CoverRange, IntervalsRise, MeetsRange};
 ghost use Rattle.late_marks.specs.Marks.{has_rows};

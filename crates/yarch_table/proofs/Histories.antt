@@ -1,5 +1,5 @@
 -- The stored rows of a table, where they are the table's rows of a history at their positions.
-use Rattle.std.proofs.Common.{◌≡◌, ℕ, zero, suc, ℤ, ◌+◌, ◌≤◌, ◌<◌, List, [], ◌∷◌, ◌++◌, length, map, take, Bool, true, false, cond, refl, sym, ◌∙◌, ap, subst, arith}
+use Rattle.std.proofs.Common.{◌≡◌, ℕ, zero, suc, ℤ, ◌+◌, ◌≤◌, ◌<◌, List, [], ◌∷◌, ◌++◌, length, map, take, drop, Bool, true, false, cond, refl, sym, ◌∙◌, ap, subst, arith}
 use Rattle.std.specs.Prelude.{filter, ◌&&◌, ◌||◌, ◌==◌, if◌then◌else◌, nat_lt, slice_index_or}
 use Rattle.std.specs.List.{list_any, enumerate_from}
 use Rattle.std.proofs.Math.Seq.{take-length}
@@ -13,11 +13,7 @@ use Rattle.arch_types.specs.History.{is_in_table, has_key, is_duplicate_of, with
 use Rattle.arch_types.specs.Table.{sorted, table_of, table_at_front, range_of, is_in_time_range}
 use Rattle.yarch_table.specs.declared.table.Stored.{Stored}
 use Rattle.yarch_table.specs.Stored.{TableView, rows_of, rows_below, seen_at, seen_between, IsKeptAt, IsInserted}
-use Rattle.yarch_table.specs.Placed.{placed, at_position}
-
--- the rows of a table, where the history is what stands from a position on
-abbrev placed_from : ℕ → ℕ → List Row → List Stored
-placed_from n table rows = map at_position (filter (λ p. is_in_table table p.1) (enumerate_from n rows))
+use Rattle.yarch_table.specs.Placed.{placed, stored_from, stored_rest, at_position}
 
 -- ---- the rows below a front
 
@@ -26,7 +22,7 @@ skip_cases : (front n : ℕ) (b : Bool) (row : Row) (ps : List (ℕ × Row)) →
 skip_cases front n true row ps past more = rw past more
 skip_cases front n false row ps past more = more
 
-none_below : (front n table : ℕ) (rows : List Row) → front ≤ n → rows_below front (placed_from n table rows) ≡ []
+none_below : (front n table : ℕ) (rows : List Row) → front ≤ n → rows_below front (stored_rest n table rows) ≡ []
 none_below front n table [] h = refl
 none_below front n table (row ∷ rows) h =
     let past : nat_lt n front ≡ false = grind (arith, nat_tests, h) in
@@ -37,7 +33,7 @@ take_cases : (front n : ℕ) (b : Bool) (row : Row) (ps : List (ℕ × Row)) (ro
 take_cases front n true row ps rows within more = rw (within, more)
 take_cases front n false row ps rows within more = more
 
-below_from : (front n k table : ℕ) (rows : List Row) → front ≡ n + k → rows_below front (placed_from n table rows) ≡ filter (is_in_table table) (take k rows)
+below_from : (front n k table : ℕ) (rows : List Row) → front ≡ n + k → rows_below front (stored_rest n table rows) ≡ filter (is_in_table table) (take k rows)
 below_from front n zero table rows e = none_below front n table rows (omega (arith, e))
 below_from front n (suc k) table [] e = refl
 below_from front n (suc k) table (row ∷ rows) e =
@@ -73,13 +69,13 @@ cons_cases false p ps = refl
 abbrev one_from : ℕ → ℕ → Row → List Stored
 one_from n table row = map at_position (cond (is_in_table table row) ((n, row) ∷ []) [])
 
-seam_from : (n table : ℕ) (rows : List Row) (row : Row) → placed_from n table (rows ++ row ∷ []) ≡ placed_from n table rows ++ one_from (n + length rows) table row
+seam_from : (n table : ℕ) (rows : List Row) (row : Row) → stored_rest n table (rows ++ row ∷ []) ≡ stored_rest n table rows ++ one_from (n + length rows) table row
 seam_from n table [] row = let same : n + 0 ≡ n = omega arith in rw same
 seam_from n table (r ∷ rows) row =
     let same : n + 1 + length rows ≡ n + suc (length rows) = omega arith in
     let ps = filter (λ p. is_in_table table p.1) (enumerate_from (n + 1) (rows ++ row ∷ [])) in
-    let more : map at_position ps ≡ placed_from (n + 1) table rows ++ one_from (n + suc (length rows)) table row = let seam = seam_from (n + 1) table rows row in rw same at seam in
-    push_cases (is_in_table table r) (n, r) ps (placed_from (n + 1) table rows) (one_from (n + suc (length rows)) table row) more
+    let more : map at_position ps ≡ stored_rest (n + 1) table rows ++ one_from (n + suc (length rows)) table row = let seam = seam_from (n + 1) table rows row in rw same at seam in
+    push_cases (is_in_table table r) (n, r) ps (stored_rest (n + 1) table rows) (one_from (n + suc (length rows)) table row) more
     ∙ ap (λ (l : List Stored). l ++ one_from (n + suc (length rows)) table row) (sym (cons_cases (is_in_table table r) (n, r) (filter (λ p. is_in_table table p.1) (enumerate_from (n + 1) rows))))
 
 one_cases : (b : Bool) (xs : List Stored) (p : ℕ × Row) → b ≡ true → xs ++ map at_position (cond b (p ∷ []) []) ≡ xs ++ at_position p ∷ []
@@ -116,7 +112,7 @@ any_cases : (b c : Bool) (key : Key) (p : ℕ × Row) (ps : List (ℕ × Row)) (
 any_cases true c key p ps rest h more = rw (h, more)
 any_cases false c key p ps rest h more = more
 
-any_from : (n : ℕ) (rows : List Row) (row : Row) → list_any (has_key row.key) (rows_of (placed_from n row.table rows)) ≡ list_any (is_duplicate_of row) rows
+any_from : (n : ℕ) (rows : List Row) (row : Row) → list_any (has_key row.key) (rows_of (stored_rest n row.table rows)) ≡ list_any (is_duplicate_of row) rows
 any_from n [] row = refl
 any_from n (r ∷ rows) row =
     any_cases (is_in_table row.table r) (has_key row.key r) row.key (n, r) (filter (λ p. is_in_table row.table p.1) (enumerate_from (n + 1) rows)) (list_any (is_duplicate_of row) rows) refl (any_from (n + 1) rows row)
@@ -151,7 +147,7 @@ stands_cases n p r rows row ps true true false hb hc he later h = let rest = rw 
 stands_cases n p r rows row ps true false e hb hc he later h = let rest = rw hc at h in stands_later n p r rows row (later rest)
 stands_cases n p r rows row ps false c e hb hc he later h = stands_later n p r rows row (later h)
 
-stands_from : (n p : ℕ) (rows : List Row) (row : Row) → list_any (is_kept_at row.key p) (placed_from n row.table rows) ≡ true → StandsFrom n p rows row
+stands_from : (n p : ℕ) (rows : List Row) (row : Row) → list_any (is_kept_at row.key p) (stored_rest n row.table rows) ≡ true → StandsFrom n p rows row
 stands_from n p [] row h = absurd cc
 stands_from n p (r ∷ rows) row h =
     stands_cases n p r rows row (filter (λ q. is_in_table row.table q.1) (enumerate_from (n + 1) rows)) (is_in_table row.table r) (has_key row.key r) (n == p) refl refl refl (stands_from (n + 1) p rows row) h
@@ -210,3 +206,75 @@ other_cases false table history row h = placed-other table history row h
 -- and leaves the other tables
 pub inserted-other : (table : ℕ) (history : List Row) (row : Row) → is_in_table table row ≡ false → placed table (with_row history row) ≡ placed table history
 inserted-other table history row h = other_cases (list_any (is_duplicate_of row) history) table history row h
+
+-- ---- from a place of the history on
+
+-- what is seen of it at a front
+pub seen_at-from : (n k table : ℕ) (history : List Row) → seen_at (n + k) (stored_from n table history) ≡ table_of table (take k (drop n history))
+seen_at-from n k table history = ap sorted (below_from (n + k) n k table (drop n history) refl)
+
+or_false : (a b : Bool) → (a || b) ≡ false → (a ≡ false) × (b ≡ false)
+or_false true b e = absurd cc
+or_false false b e = (refl, e)
+
+-- what no row before a place has, a row has where one behind it does
+any_behind : (p : Row → Bool) (n : ℕ) (history : List Row) → list_any p (take n history) ≡ false → list_any p history ≡ list_any p (drop n history)
+any_behind p zero history none = refl
+any_behind p (suc n) [] none = refl
+any_behind p (suc n) (row ∷ history) none =
+    let e = or_false (p row) (list_any p (take n history)) none in
+    ap (λ (b : Bool). b || list_any p history) e.0 ∙ any_behind p n history e.1
+
+drop_more : (n : ℕ) (history : List Row) (row : Row) → n ≤ length history → drop n (history ++ row ∷ []) ≡ drop n history ++ row ∷ []
+drop_more zero history row within = refl
+drop_more (suc n) [] row within = absurd (omega (arith, within))
+drop_more (suc n) (r ∷ history) row within = drop_more n history row (omega (arith, within))
+
+length_behind : (n : ℕ) (history : List Row) → n ≤ length history → n + length (drop n history) ≡ length history
+length_behind zero history within = let same : 0 + length history ≡ length history = omega arith in same
+length_behind (suc n) [] within = absurd (omega (arith, within))
+length_behind (suc n) (r ∷ history) within =
+    let less : n ≤ length history = omega (arith, within) in
+    let more : n + length (drop n history) ≡ length history = length_behind n history less in
+    let same : suc n + length (drop n history) ≡ suc (length history) = omega (arith, more) in
+    same
+
+-- a row more at the history's end
+seam_behind : (n table : ℕ) (history : List Row) (row : Row) → n ≤ length history → stored_from n table (history ++ row ∷ []) ≡ stored_from n table history ++ one_from (length history) table row
+seam_behind n table history row within =
+    ap (stored_rest n table) (drop_more n history row within)
+    ∙ seam_from n table (drop n history) row
+    ∙ ap (λ (k : ℕ). stored_from n table history ++ one_from k table row) (length_behind n history within)
+
+any_known_behind : (n : ℕ) (old : TableView) (history : List Row) (row : Row) (b : Bool) → old.stored ≡ stored_from n row.table history →
+    list_any (is_duplicate_of row) (take n history) ≡ false → list_any (has_key row.key) (rows_of old.stored) ≡ b → list_any (is_duplicate_of row) history ≡ b
+any_known_behind n old history row b h none any =
+    any_behind (is_duplicate_of row) n history none
+    ∙ sym (any_from n (drop n history) row)
+    ∙ ap (λ (l : List Stored). list_any (has_key row.key) (rows_of l)) (sym h)
+    ∙ any
+
+-- an insert at the history's end ingests the row, where none before the place has its table and key
+pub inserted-from : (n : ℕ) (old new : TableView) (history : List Row) (row : Row) (result : Inserted) → n ≤ length history → list_any (is_duplicate_of row) (take n history) ≡ false →
+    old.stored ≡ stored_from n row.table history → IsInserted old new row (length history) result → new.stored ≡ stored_from n row.table (with_row history row)
+inserted-from n old new history row (New p) within none h i =
+    let any = any_known_behind n old history row false h none i.0 in
+    let grown : with_row history row ≡ history ++ row ∷ [] = rw any in
+    i.2 ∙ ap (λ (l : List Stored). l ++ record { row = row; position = length history } ∷ []) h
+    ∙ sym (seam_behind n row.table history row within ∙ one_cases (is_in_table row.table row) (stored_from n row.table history) (length history, row) (own_table row.table))
+    ∙ ap (stored_from n row.table) (sym grown)
+inserted-from n old new history row (Duplicate p) within none h i =
+    let any = any_known_behind n old history row true h none i.0 in
+    let same : with_row history row ≡ history = rw any in
+    ap (λ (t : TableView). t.stored) i.2 ∙ h ∙ ap (stored_from n row.table) (sym same)
+
+other_cases_behind : (b : Bool) (n table : ℕ) (history : List Row) (row : Row) → n ≤ length history → is_in_table table row ≡ false → stored_from n table (if b then history else history ++ row ∷ []) ≡ stored_from n table history
+other_cases_behind true n table history row within h = refl
+other_cases_behind false n table history row within h =
+    seam_behind n table history row within
+    ∙ none_cases (is_in_table table row) (stored_from n table history) (length history, row) h
+    ∙ nothing_more (stored_from n table history)
+
+-- and leaves the other tables
+pub other-from : (n table : ℕ) (history : List Row) (row : Row) → n ≤ length history → is_in_table table row ≡ false → stored_from n table (with_row history row) ≡ stored_from n table history
+other-from n table history row within h = other_cases_behind (list_any (is_duplicate_of row) history) n table history row within h

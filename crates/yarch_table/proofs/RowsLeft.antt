@@ -46,7 +46,7 @@ rows-fold acc [] = refl
 rows-fold acc (x ∷ xs) = rw (rows-fold (place_by comes_before acc x) xs, rows-place acc x)
 
 -- the rows of ordered stored rows
-rows-order : (xs : List Stored) → rows_of (order_by comes_before xs) ≡ sorted (rows_of xs)
+pub rows-order : (xs : List Stored) → rows_of (order_by comes_before xs) ≡ sorted (rows_of xs)
 rows-order xs = rows-fold [] xs
 
 two_cases : (q : Row → Bool) (b c : Bool) (s : Stored) (both first : List Stored) → q s.row ≡ c → rows_of both ≡ filter q (rows_of first) →

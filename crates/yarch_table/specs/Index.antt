@@ -13,6 +13,10 @@ use Rattle.yarch_table.specs.declared.table.Stored.{Stored}
 abbrev pub comes_before : Stored → Stored → Bool
 comes_before a b = is_before a.row b.row
 
+-- stored rows, each with its position, in the order of their keys
+abbrev pub by_key : List Stored → List Stored
+by_key stored = order_by comes_before stored
+
 -- the stored row that an entry names
 abbrev pub stored_at : List Stored → Stored → Key × ℕ → Stored
 stored_at stored d entry = slice_index_or stored entry.1 d
@@ -54,3 +58,7 @@ seen_row front end (Some s) = if is_seen front end s then Some s.row else None
 -- the rows that entries name and that are seen, in the order of the entries
 abbrev pub rows_left : List Stored → ℕ → Option ℤ → List (Key × ℕ) → List Row
 rows_left stored front end entries = filter_map (λ e. seen_row front end (slice_get stored e.1)) entries
+
+-- the stored rows that entries name, each with its position, in the order of the entries
+abbrev pub stored_left : List Stored → List (Key × ℕ) → List Stored
+stored_left stored entries = filter_map (λ e. slice_get stored e.1) entries

@@ -1,6 +1,6 @@
 //! Laws of tables whose stored rows are those of a history at their positions, carried by functions that do nothing.
 
-ghost use Rattle.yarch_table.specs.Laws.{SeenIsTable, SeenIsRange, InsertIngests, IngestKeepsOthers, NewComesLast, DuplicateIsKnown};
+ghost use Rattle.yarch_table.specs.Laws.{SeenIsTable, SeenIsRange, WalkHasEach, WalkIsTable, InsertIngests, IngestKeepsOthers, FromFirstIsAll, SeenFromIsTable, InsertFromIngests, IngestFromKeepsOthers, NewComesLast, DuplicateIsKnown};
 
 /// What is seen at a front is the table of the history's prefix.
 pub fn seen_is_table()
@@ -12,6 +12,16 @@ pub fn seen_is_range()
     ensures { SeenIsRange }
 {}
 
+/// The rows in the order of their keys are the stored rows, each once, with its position.
+pub fn walk_has_each()
+    ensures { WalkHasEach }
+{}
+
+/// Without their positions they are the table of the history from a place on.
+pub fn walk_is_table()
+    ensures { WalkIsTable }
+{}
+
 /// An insert at the history's end ingests the row.
 pub fn insert_ingests()
     ensures { InsertIngests }
@@ -20,6 +30,26 @@ pub fn insert_ingests()
 /// A row that is ingested leaves the other tables.
 pub fn ingest_keeps_others()
     ensures { IngestKeepsOthers }
+{}
+
+/// A table of the rows from the first place on has all.
+pub fn from_first_is_all()
+    ensures { FromFirstIsAll }
+{}
+
+/// What is seen at a front of a table of the rows from a place on is the table of those between the two.
+pub fn seen_from_is_table()
+    ensures { SeenFromIsTable }
+{}
+
+/// An insert into it at the history's end ingests the row, where none before the place has its table and key.
+pub fn insert_from_ingests()
+    ensures { InsertFromIngests }
+{}
+
+/// A row that is ingested leaves the other tables of the rows from a place on.
+pub fn ingest_from_keeps_others()
+    ensures { IngestFromKeepsOthers }
 {}
 
 /// A new row comes to the history's end.

@@ -3,10 +3,12 @@
 ghost use Rattle.std.specs.Prelude.{◌≡◌, ◌+◌, ◌<◌, ◌≤◌, [], max, false, IfOk, OnOk, OnErr, IfSome, IfNone, Some, length, slice_get};
 ghost use Rattle.std.specs.List.{list_any};
 ghost use Rattle.arch_types.specs.History.{has_key};
+ghost use Rattle.yarch_table.specs.Index.{by_key};
 ghost use Rattle.yarch_table.specs.Stored.{seen_at, seen_between, rows_of, IsInserted, IsKeptAt};
 
 use crate::packed_key::PackedKey;
 use crate::rows::{TableRows, Window};
+use crate::stored_rows::StoredRows;
 use arch_types::inserted::Inserted;
 use arch_types::key::Key;
 use arch_types::row::Row;
@@ -126,6 +128,13 @@ impl Table {
         ensures { result.now ≡ self.now.stored }
     {
         self.stored.as_slice()
+    }
+
+    /// The rows in the order of their keys, each with its position.
+    pub fn stored_by_key(&self) -> StoredRows<'_>
+        ensures { result ≡ by_key self.now.stored }
+    {
+        StoredRows::new(self.stored.as_slice(), self.index.iter())
     }
 
     /// The row at a place in the order of insertion, with its position.

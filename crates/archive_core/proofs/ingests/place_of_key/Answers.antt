@@ -2,7 +2,7 @@ use Rattle.std.proofs.Common.{◌≡◌, List, Some, length, refl, sym, ◌∙�
 use Rattle.std.specs.Prelude.{slice_get}
 use Rattle.std.proofs.lemmas.Option.{slice_get_read}
 use Rattle.arch_types.specs.declared.row.Row.{Row}
-use Rattle.history_items.specs.Items.{has_key_of}
+use Rattle.arch_types.specs.History.{is_duplicate_of}
 use Rattle.archive_core.proofs.Ingested.{first_is, first_hit, first_none, row_new, row_there}
 use Rattle.archive_core.proofs.ingests.place_of_key.Goals as goal
 
@@ -12,7 +12,7 @@ found c =
     let i = c.loop-i.i in
     let other : Row = c.index-rows-i.result in
     let at : slice_get rows i ≡ Some other = slice_get_read rows (length rows) i other refl (omega (arith, c.loop-i-test.true)) c.index-rows-i.is in
-    first_hit (has_key_of c.args.row.now) rows i other at (sym c.has_key_of.ensures ∙ c.if-has_key_of.true) ∙ c.loop-i.invariant ∙ first_is (has_key_of c.args.row.now) rows
+    first_hit (is_duplicate_of c.args.row.now) rows i other at (sym c.has_key_of.ensures ∙ c.if-has_key_of.true) ∙ c.loop-i.invariant ∙ first_is (is_duplicate_of c.args.row.now) rows
 
 pub returns-then-has_key_of-clause-place : goal.returns-then-has_key_of-clause-place
 returns-then-has_key_of-clause-place c = found c
@@ -23,7 +23,7 @@ returns-then-has_key_of-clause-there c = row_there c.args.rows.now c.args.row.no
 nowhere : goal.returns-clause-place
 nowhere c =
     let rows : List Row = c.args.rows.now in
-    first_none (has_key_of c.args.row.now) rows c.loop-i.i (omega (arith, c.loop-i-test.false)) ∙ c.loop-i.invariant ∙ first_is (has_key_of c.args.row.now) rows
+    first_none (is_duplicate_of c.args.row.now) rows c.loop-i.i (omega (arith, c.loop-i-test.false)) ∙ c.loop-i.invariant ∙ first_is (is_duplicate_of c.args.row.now) rows
 
 pub returns-clause-place : goal.returns-clause-place
 returns-clause-place c = nowhere c

@@ -1,7 +1,8 @@
 use Rattle.std.proofs.Common.{ℕ, List, subst}
 use Rattle.std.specs.Prelude.{IfOk}
 use Rattle.intervals.specs.declared.interval.Interval.{Interval}
-use Rattle.history_items.specs.Items.{Item}
+use Rattle.arch_types.specs.declared.row.Row.{Row}
+use Rattle.history_items.specs.Items.{items_of}
 use Rattle.archive_core.specs.Replies.{RepliesToBegin, RepliesToInstall}
 use Rattle.interval_fills.specs.Steps.{state_of}
 use Rattle.archive_core.proofs.Results.{ingest_kept, begin_kept, install_kept, abandon_kept}
@@ -17,7 +18,7 @@ invariant_of-self-in-Begin c =
     let s = c.self.inside in
     let rows = c.as_slice-in-Begin.ensures.value in
     begin_kept s.exponent s.tables s.mdb s.rows.items s.fills.items c.begin.new.fills.items c.begin.result c.self.invariant
-    (subst (λ (l : List Item). IfOk c.begin.result (λ reply. RepliesToBegin s.exponent (state_of l s.fills.items) reply (state_of l c.begin.new.fills.items))) rows c.begin.ensures.reply)
+    (subst (λ (l : List Row). IfOk c.begin.result (λ reply. RepliesToBegin s.exponent (state_of (items_of l) s.fills.items) reply (state_of (items_of l) c.begin.new.fills.items))) rows c.begin.ensures.reply)
     c.begin.ensures.err
 
 pub invariant_of-self-in-Install : goal.invariant_of-self-in-Install
@@ -27,7 +28,7 @@ invariant_of-self-in-Install c =
     let interval : Interval = c.in-Install.interval in
     let base : ℕ = c.in-Install.base in
     install_kept s.exponent s.tables s.mdb s.rows.items s.fills.items c.installed.new.fills.items interval base c.installed.result c.self.invariant
-    (subst (λ (l : List Item). IfOk c.installed.result (λ reply. RepliesToInstall s.exponent (state_of l s.fills.items) interval base reply (state_of l c.installed.new.fills.items))) rows c.installed.ensures.reply)
+    (subst (λ (l : List Row). IfOk c.installed.result (λ reply. RepliesToInstall s.exponent (state_of (items_of l) s.fills.items) interval base reply (state_of (items_of l) c.installed.new.fills.items))) rows c.installed.ensures.reply)
     c.installed.ensures.err
 
 pub invariant_of-self-in-Abandon : goal.invariant_of-self-in-Abandon
@@ -46,7 +47,7 @@ returns-in-Begin-clause-invariant c =
     let s = c.self.inside in
     let rows = c.as_slice-in-Begin.ensures.value in
     begin_kept s.exponent s.tables s.mdb s.rows.items s.fills.items c.begin.new.fills.items c.begin.result c.self.invariant
-    (subst (λ (l : List Item). IfOk c.begin.result (λ reply. RepliesToBegin s.exponent (state_of l s.fills.items) reply (state_of l c.begin.new.fills.items))) rows c.begin.ensures.reply)
+    (subst (λ (l : List Row). IfOk c.begin.result (λ reply. RepliesToBegin s.exponent (state_of (items_of l) s.fills.items) reply (state_of (items_of l) c.begin.new.fills.items))) rows c.begin.ensures.reply)
     c.begin.ensures.err
 
 pub returns-in-Install-clause-invariant : goal.returns-in-Install-clause-invariant
@@ -56,7 +57,7 @@ returns-in-Install-clause-invariant c =
     let interval : Interval = c.in-Install.interval in
     let base : ℕ = c.in-Install.base in
     install_kept s.exponent s.tables s.mdb s.rows.items s.fills.items c.installed.new.fills.items interval base c.installed.result c.self.invariant
-    (subst (λ (l : List Item). IfOk c.installed.result (λ reply. RepliesToInstall s.exponent (state_of l s.fills.items) interval base reply (state_of l c.installed.new.fills.items))) rows c.installed.ensures.reply)
+    (subst (λ (l : List Row). IfOk c.installed.result (λ reply. RepliesToInstall s.exponent (state_of (items_of l) s.fills.items) interval base reply (state_of (items_of l) c.installed.new.fills.items))) rows c.installed.ensures.reply)
     c.installed.ensures.err
 
 pub returns-in-Abandon-clause-invariant : goal.returns-in-Abandon-clause-invariant

@@ -1,7 +1,8 @@
 use Rattle.std.proofs.Common.{◌≡◌, ℕ, ◌++◌, [], ◌∷◌, List, length, refl, sym, ◌∙◌, ap, subst, arith, append_assoc}
 use Rattle.arch_types.specs.declared.row.Row.{Row}
-use Rattle.arch_types.specs.History.{ingested, with_row}
-use Rattle.history_items.specs.Items.{Item}
+use Rattle.history_items.specs.declared.items.Item.{Item}
+use Rattle.history_items.specs.Items.{after_row, after_rows, items_of, row_item, rows_in}
+use Rattle.history_items.proofs.ItemLists.{items_of-append, rows_behind}
 use Rattle.archive_history.specs.Limits.{IsWithin}
 use Rattle.archive_history.proofs.Growing.{first_within, table_next, not_all, fresh_next}
 use Rattle.std.proofs.lemmas.List.{append-nil}
@@ -39,16 +40,18 @@ pub add-requires-clause-within : goal.add-requires-clause-within
 add-requires-clause-within c =
     let step : c.loop-row.row-iterator.rest.items ≡ c.in-Some.row ∷ c.next.new.self.rest.items = let s = c.in-Some.ensures.steps in cc in
     let left = ap (λ (l : List Row). c.loop-row.yielded ++ l) (sym step) ∙ c.loop-row.invariant.left in
-    subst (λ (e : ℕ). IsWithin e (c.loop-row.self.items ++ c.in-Some.row ∷ [])) (sym c.loop-row.invariant.exponent)
-    (subst (λ (l : List Item). IsWithin c.args.self.now.exponent (l ++ c.in-Some.row ∷ [])) (sym c.loop-row.invariant.items)
-    (first_within c.args.self.now.exponent c.args.self.now.items c.loop-row.yielded c.next.new.self.rest.items c.args.rows c.in-Some.row left c.requires.within))
+    let items = c.args.self.now.items in
+    let done : rows_in c.loop-row.self.items ≡ rows_in items ++ c.loop-row.yielded = ap rows_in c.loop-row.invariant.items ∙ rows_behind items c.loop-row.yielded in
+    subst (λ (e : ℕ). IsWithin e (rows_in c.loop-row.self.items ++ c.in-Some.row ∷ [])) (sym c.loop-row.invariant.exponent)
+    (subst (λ (l : List Row). IsWithin c.args.self.now.exponent (l ++ c.in-Some.row ∷ [])) (sym done)
+    (first_within c.args.self.now.exponent (rows_in items) c.loop-row.yielded c.next.new.self.rest.items c.args.rows c.in-Some.row left c.requires.within))
 
 pub returns-then-not-add-clause-all : goal.returns-then-not-add-clause-all
 returns-then-not-add-clause-all c =
     let step : c.loop-row.row-iterator.rest.items ≡ c.in-Some.row ∷ c.next.new.self.rest.items = let s = c.in-Some.ensures.steps in cc in
     let left = ap (λ (l : List Row). c.loop-row.yielded ++ l) (sym step) ∙ c.loop-row.invariant.left in
-    let known : with_row (c.args.self.now.items ++ c.loop-row.yielded) c.in-Some.row ≡ c.args.self.now.items ++ c.loop-row.yielded =
-    subst (λ (l : List Item). with_row l c.in-Some.row ≡ l) c.loop-row.invariant.items (sym c.add.ensures.items ∙ c.if-not-add.ensures.known refl) in
+    let known : after_row (c.args.self.now.items ++ items_of c.loop-row.yielded) c.in-Some.row ≡ c.args.self.now.items ++ items_of c.loop-row.yielded =
+    subst (λ (l : List Item). after_row l c.in-Some.row ≡ l) c.loop-row.invariant.items (sym c.add.ensures.items ∙ c.if-not-add.ensures.known refl) in
     (λ is. absurd cc, λ all. absurd (not_all c.args.self.now.items c.loop-row.yielded c.next.new.self.rest.items c.args.rows c.in-Some.row left known all))
 
 pub returns-then-not-add-clause-tables : goal.returns-then-not-add-clause-tables
@@ -63,11 +66,13 @@ loop-row-preserved c =
     let row = c.in-Some.row in
     let inv = c.loop-row.invariant in
     let grown = c.if-not-add.ensures.fresh refl in
-    let new : with_row (c.args.self.now.items ++ c.loop-row.yielded) row ≡ (c.args.self.now.items ++ c.loop-row.yielded) ++ row ∷ [] =
-    subst (λ (l : List Item). with_row l row ≡ l ++ row ∷ []) inv.items (sym c.add.ensures.items ∙ grown) in
+    let new : after_row (c.args.self.now.items ++ items_of c.loop-row.yielded) row ≡ (c.args.self.now.items ++ items_of c.loop-row.yielded) ++ row_item row ∷ [] =
+    subst (λ (l : List Item). after_row l row ≡ l ++ row_item row ∷ []) inv.items (sym c.add.ensures.items ∙ grown) in
     record {
       left = append_assoc c.loop-row.yielded (row ∷ []) c.next.new.self.rest.items ∙ ap (λ (l : List Row). c.loop-row.yielded ++ l) (sym step) ∙ inv.left;
-      items = grown ∙ ap (λ (l : List Item). l ++ row ∷ []) inv.items ∙ append_assoc c.args.self.now.items c.loop-row.yielded (row ∷ []);
+      items =
+          grown ∙ ap (λ (l : List Item). l ++ row_item row ∷ []) inv.items ∙ append_assoc c.args.self.now.items (items_of c.loop-row.yielded) (row_item row ∷ [])
+          ∙ ap (λ (l : List Item). c.args.self.now.items ++ l) (sym (items_of-append c.loop-row.yielded (row ∷ [])));
       fresh = fresh_next c.args.self.now.items c.loop-row.yielded row inv.fresh new;
       tables = c.add.ensures.tables ∙ inv.tables;
       exponent = c.add.ensures.exponent ∙ inv.exponent;
@@ -78,13 +83,13 @@ pub returns-clause-all : goal.returns-clause-all
 returns-clause-all c =
     let none : c.loop-row.row-iterator.rest.items ≡ [] = no_items c.loop-row.row-iterator.rest.items (omega (arith, c.in-None.ensures.steps.0, c.loop-row.row-iterator.rest.ok.0)) in
     let all : c.loop-row.yielded ≡ c.args.rows = ended c.loop-row.yielded c.loop-row.row-iterator.rest.items c.args.rows c.loop-row.invariant.left none in
-    (λ is. subst (λ (l : List Row). ingested c.args.self.now.items l ≡ c.args.self.now.items ++ l) all c.loop-row.invariant.fresh, λ new. refl)
+    (λ is. subst (λ (l : List Row). after_rows c.args.self.now.items l ≡ c.args.self.now.items ++ items_of l) all c.loop-row.invariant.fresh, λ new. refl)
 
 pub returns-clause-items : goal.returns-clause-items
 returns-clause-items c is =
     let none : c.loop-row.row-iterator.rest.items ≡ [] = no_items c.loop-row.row-iterator.rest.items (omega (arith, c.in-None.ensures.steps.0, c.loop-row.row-iterator.rest.ok.0)) in
     let all : c.loop-row.yielded ≡ c.args.rows = ended c.loop-row.yielded c.loop-row.row-iterator.rest.items c.args.rows c.loop-row.invariant.left none in
-    c.loop-row.invariant.items ∙ ap (λ (l : List Row). c.args.self.now.items ++ l) all
+    c.loop-row.invariant.items ∙ ap (λ (l : List Row). c.args.self.now.items ++ items_of l) all
 
 pub returns-clause-tables : goal.returns-clause-tables
 returns-clause-tables c = c.loop-row.invariant.tables

@@ -1,6 +1,6 @@
 use Rattle.std.proofs.Common.{ℕ, ◌≡◌, List, true, subst}
 use Rattle.std.specs.Prelude.{◌↔◌}
-use Rattle.history_items.specs.Items.{Item}
+use Rattle.history_items.specs.declared.items.Item.{Item}
 use Rattle.history_items.specs.Late.{IsLate}
 use Rattle.fill_tracker.specs.FillTracker.{FillTrackerView, AreMarksOf}
 use Rattle.fill_tracker.proofs.Marked.{late_true}

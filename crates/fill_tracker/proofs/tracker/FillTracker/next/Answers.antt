@@ -1,5 +1,5 @@
 use Rattle.std.proofs.Common.{ℕ, List, subst}
-use Rattle.history_items.specs.Items.{Item}
+use Rattle.history_items.specs.declared.items.Item.{Item}
 use Rattle.fill_tracker.specs.FillTracker.{FillTrackerView, AreMarksOf}
 use Rattle.fill_tracker.proofs.Marked.{next_is}
 use Rattle.interval_fills.specs.Steps.{IsNextToFill, state_of}

@@ -1,6 +1,6 @@
 use Rattle.std.proofs.Common.{ℕ, ◌≡◌, List, length}
 use Rattle.history_items.specs.FillList.{flights_of}
-use Rattle.history_items.specs.Items.{Item}
+use Rattle.history_items.specs.declared.items.Item.{Item}
 use Rattle.fill_tracker.specs.FillTracker.{AreMarksOf}
 use Rattle.interval_fills.specs.Steps.{all_freed}
 use Rattle.fill_tracker.proofs.tracker.FillTracker.settle.Given as goal
