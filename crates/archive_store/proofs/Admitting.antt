@@ -5,10 +5,10 @@ use Rattle.archive_history.specs.RowLimits.{row_limit}
 use Rattle.archive_history.specs.declared.row_limit.RowLimit.{RowLimit}
 use Rattle.archive_history.specs.declared.row_limit.RowLimit.TheVariants as limits
 use Rattle.arch_types.specs.declared.row.Row.{Row}
-use Rattle.arch_types.specs.History.{ingested}
 use Rattle.octet_fields.specs.Exact.{IsOctets}
 use Rattle.refusals.specs.Limits.{limit_of}
-use Rattle.history_items.specs.Items.{Item, items_of}
+use Rattle.history_items.specs.declared.items.Item.{Item}
+use Rattle.history_items.specs.Items.{after_rows, items_of, rows_in}
 use Rattle.field_codec.specs.declared.entry.Entry.{Entry}
 use Rattle.field_codec.specs.declared.entry.Entry.TheVariants as entries
 use Rattle.field_codec.specs.Entries.{IsArchiveEntry}
@@ -21,11 +21,11 @@ use Rattle.archive_store.specs.Limits.{limit_of_history}
 use Rattle.archive_store.specs.Stands.{Breaks}
 use Rattle.archive_store.proofs.Exact.{takes_entry}
 
--- a history that passes a limit is not within all of them
-pub passed_not_within : (exponent : ℕ) (limit : RowLimit) (items : List Item) → PassesFirst exponent limit items → IsWithin exponent items → ⊥
-passed_not_within exponent limits.Rows items p w = omega (arith, p, w.rows)
-passed_not_within exponent limits.HistoryOctets items p w = omega (arith, p.1, w.octets)
-passed_not_within exponent limits.IntervalRows items p w = omega (arith, p.3, w.intervals p.2)
+-- rows that pass a limit are not within all of them
+pub passed_not_within : (exponent : ℕ) (limit : RowLimit) (rows : List Row) → PassesFirst exponent limit rows → IsWithin exponent rows → ⊥
+passed_not_within exponent limits.Rows rows p w = omega (arith, p, w.few)
+passed_not_within exponent limits.HistoryOctets rows p w = omega (arith, p.1, w.octets)
+passed_not_within exponent limits.IntervalRows rows p w = omega (arith, p.3, w.intervals p.2)
 
 -- the limits of a history are those of the archive
 pub limits_agree : (limit : RowLimit) → row_limit limit ≡ limit_of (limit_of_history limit)
@@ -33,7 +33,7 @@ limits_agree limits.Rows = refl
 limits_agree limits.HistoryOctets = refl
 limits_agree limits.IntervalRows = refl
 
-pub all_admitted : (head : Head) (exponent : ℕ) (items : List Item) (rows : List Row) → IsArchiveEntry (entries.Rows rows) → AllByRecursion (IsPlaced head) rows → AllByRecursion (λ row. IsOctets row.packet) rows → IsWithin exponent (items ++ items_of rows) → ingested items rows ≡ items ++ items_of rows → AreAdmitted (archive head exponent items) rows
+pub all_admitted : (head : Head) (exponent : ℕ) (items : List Item) (rows : List Row) → IsArchiveEntry (entries.Rows rows) → AllByRecursion (IsPlaced head items) rows → AllByRecursion (λ row. IsOctets row.packet) rows → IsWithin exponent (rows_in items ++ rows) → after_rows items rows ≡ items ++ items_of rows → AreAdmitted (archive head exponent items) rows
 all_admitted head exponent items rows spelled placed octets within fresh = record { spelled = spelled; placed = placed; octets = octets; fresh = fresh; within = within }
 
 -- an entry that may not follow, and no entry at all

@@ -7,12 +7,15 @@ use Rattle.arch_types.specs.History.{is_in_table}
 use Rattle.arch_types.specs.Order.{is_before, order_by, place_by}
 use Rattle.arch_types.specs.Table.{is_in_time_range, range_of}
 use Rattle.octet_fields.specs.Exact.{IsOctets}
-use Rattle.history_items.specs.Items.{Item}
+use Rattle.history_items.specs.declared.items.Item.{Item}
+use Rattle.history_items.specs.Items.{items_of, rows_in}
+use Rattle.history_items.proofs.ItemLists.{rows_behind}
 use Rattle.field_codec.specs.Entries.{IsStored}
 use Rattle.field_codec.specs.declared.entry.Entry.{Entry}
 use Rattle.field_codec.specs.declared.entry.Entry.TheVariants as entries
 use Rattle.archive_store.specs.declared.head.Head.{Head}
 use Rattle.archive_store.specs.Entries.{FilledArchive, archive, Applies, AreAdmitted, HasArchivedRows, IsArchivedRow, IsPlaced}
+use Rattle.archive_store.proofs.RowsAlone.{named_more}
 
 module _ {X : Type 0} (P : X → Type 0) where
   pub all_more : (xs ys : List X) → AllByRecursion P xs → AllByRecursion P ys → AllByRecursion P (xs ++ ys)
@@ -40,18 +43,34 @@ module _ {X : Type 0} (P : X → Type 0) where
   all_ordered lt done (x ∷ xs) so_far all = all_ordered lt (place_by lt done x) xs (all_placed lt done x all.0 so_far) all.1
 
 -- a range of a table shows rows of the history
-pub range_archived : (head : Head) (table : ℕ) (low high : ℤ) (history : List Row) → AllByRecursion (IsArchivedRow head) history → AllByRecursion (IsArchivedRow head) (range_of table low high history)
-range_archived head table low high history all =
-    all_filtered (IsArchivedRow head) (is_in_time_range low high) (order_by is_before (filter (is_in_table table) history))
-    (all_ordered (IsArchivedRow head) is_before [] (filter (is_in_table table) history) tt (all_filtered (IsArchivedRow head) (is_in_table table) history all))
+pub range_archived : (head : Head) (history : List Item) (table : ℕ) (low high : ℤ) (rows : List Row) → AllByRecursion (IsArchivedRow head history) rows → AllByRecursion (IsArchivedRow head history) (range_of table low high rows)
+range_archived head history table low high rows all =
+    all_filtered (IsArchivedRow head history) (is_in_time_range low high) (order_by is_before (filter (is_in_table table) rows))
+    (all_ordered (IsArchivedRow head history) is_before [] (filter (is_in_table table) rows) tt (all_filtered (IsArchivedRow head history) (is_in_table table) rows all))
 
-each_archived : (head : Head) (rows : List Row) → AllByRecursion IsStored rows → AllByRecursion (IsPlaced head) rows → AllByRecursion (λ row. IsOctets row.packet) rows → AllByRecursion (IsArchivedRow head) rows
-each_archived head [] stored placed octets = tt
-each_archived head (row ∷ rows) stored placed octets = (record { stored = stored.0; placed = placed.0; octets = octets.0 }, each_archived head rows stored.1 placed.1 octets.1)
+each_archived : (head : Head) (history : List Item) (rows : List Row) → AllByRecursion IsStored rows → AllByRecursion (IsPlaced head history) rows → AllByRecursion (λ row. IsOctets row.packet) rows → AllByRecursion (IsArchivedRow head history) rows
+each_archived head history [] stored placed octets = tt
+each_archived head history (row ∷ rows) stored placed octets = (record { stored = stored.0; placed = placed.0; octets = octets.0 }, each_archived head history rows stored.1 placed.1 octets.1)
+
+-- such rows stay so as the history grows, since packet names keep their numbers
+stays_archived : (head : Head) (history later : List Item) (rows : List Row) → AllByRecursion (IsArchivedRow head history) rows → AllByRecursion (IsArchivedRow head (history ++ later)) rows
+stays_archived head history later [] all = tt
+stays_archived head history later (row ∷ rows) all = (
+  record {
+    stored = all.0.stored;
+    placed = record { table = all.0.placed.table; pname = named_more head.mdb history later row.pname all.0.placed.pname };
+    octets = all.0.octets;
+  },
+  stays_archived head history later rows all.1,
+)
 
 -- rows that are admitted are such rows
-pub more_archived : (head : Head) (exponent : ℕ) (history : List Item) (rows : List Row) → AllByRecursion (IsArchivedRow head) history → AreAdmitted (archive head exponent history) rows → AllByRecursion (IsArchivedRow head) (history ++ rows)
-more_archived head exponent history rows all ok = all_more (IsArchivedRow head) history rows all (each_archived head rows ok.spelled.each ok.placed ok.octets)
+pub more_archived : (head : Head) (exponent : ℕ) (history : List Item) (rows : List Row) → AllByRecursion (IsArchivedRow head history) (rows_in history) → AreAdmitted (archive head exponent history) rows
+    → AllByRecursion (IsArchivedRow head (history ++ items_of rows)) (rows_in (history ++ items_of rows))
+more_archived head exponent history rows all ok =
+    let whole : List Item = history ++ items_of rows in
+    subst (AllByRecursion (IsArchivedRow head whole)) (sym (rows_behind history rows))
+    (stays_archived head history (items_of rows) (rows_in history ++ rows) (all_more (IsArchivedRow head history) (rows_in history) rows all (each_archived head history rows ok.spelled.each ok.placed ok.octets)))
 
 -- and so an entry leaves an archive of such rows
 pub applied_archived : (old : Option FilledArchive) (entry : Entry) (new : FilledArchive) → HasArchivedRows old → Applies old entry new → HasArchivedRows (Some new)

@@ -7,7 +7,7 @@ use Rattle.refusals.specs.declared.refusal.Refusal.{Refusal}
 use Rattle.refusals.specs.declared.refusal.Refusal.TheVariants.{Usage, Missing, ReadFault, WriteFault, BadPacket, BadSheet, BadSql, NoArchive, Exists, Damaged, DiskFault, NeedsReopen, UnknownParameter, BadRange, UnknownTable, Limit, Mismatch, Late, OutOfMemory}
 use Rattle.refusals.specs.declared.refusal.Which.{Which}
 use Rattle.arch_types.specs.declared.row.Row.{Row}
-use Rattle.arch_types.specs.History.{ingested}
+use Rattle.history_items.specs.Items.{after_rows}
 use Rattle.refusals.specs.Limits.{limit_of}
 use Rattle.history_items.specs.declared.fills.Addition.TheVariants.{Rows}
 use Rattle.history_items.specs.Fills.{pending_fault_of}
@@ -93,7 +93,7 @@ module _ {D : Type 0} (device : Device D) where
 
   -- a limit is named rightly, and only where rows are new
   pub ingest_limit : (old new : StoreView D) (rows : List Row) (e : Refusal) (which : Which) (number : ℕ) → IsIngestRefusal device old new rows e → e ≡ Limit which number
-      → (number ≡ limit_of which) × IsLimit old.exponent which old.records (ingested old.history rows)
+      → (number ≡ limit_of which) × IsLimit old.exponent which old.records (after_rows old.history rows)
   ingest_limit old new rows e which number is limit = let passes = (subst (IsIngestRefusal device old new rows) limit is).0 in (passes.number_is, passes.first)
 
   pub ingest_some : (old new : StoreView D) (rows : List Row) (e : Refusal) (which : Which) (number : ℕ) → IsIngestRefusal device old new rows e → e ≡ Limit which number → fresh_of old.history rows ≢ []

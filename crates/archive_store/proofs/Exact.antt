@@ -31,7 +31,7 @@ takes_once (Some old) b c (entries.Fill interval base octets) p q = p.1 ∙ sym 
 takes_once (Some old) b c (entries.Head tables mdb) p q = absurd p
 takes_once (Some old) b c (entries.Rows rows) p q = p.1 ∙ sym q.1
 
-replays_once : (a b c : Option FilledArchive) (es : List Entry) → Replays a es b → Replays a es c → b ≡ c
+pub replays_once : (a b c : Option FilledArchive) (es : List Entry) → Replays a es b → Replays a es c → b ≡ c
 replays_once a b c [] p q = p ∙ sym q
 replays_once a b c (e ∷ es) p q =
     replays_once (Some p.0) b c es p.2 (subst (λ (x : FilledArchive). Replays (Some x) es c) (takes_once a q.0 p.0 e q.1 p.1) q.2)
@@ -43,7 +43,7 @@ same_entry a b c x y p q is = one_spelling x y (takes_entry a x b p) (takes_entr
 same_mid : (a : Option FilledArchive) (b c : FilledArchive) (x y : Entry) → Applies a x b → Applies a y c → x ≡ y → c ≡ b
 same_mid a b c x y p q same = takes_once a c b x (subst (λ (e : Entry). Applies a e c) (sym same) q) p
 
-entries_once : (a b c : Option FilledArchive) (es fs : List Entry) → Replays a es b → Replays a fs c → map entry_octets es ≡ map entry_octets fs → es ≡ fs
+pub entries_once : (a b c : Option FilledArchive) (es fs : List Entry) → Replays a es b → Replays a fs c → map entry_octets es ≡ map entry_octets fs → es ≡ fs
 entries_once a b c [] [] p q is = refl
 entries_once a b c [] (y ∷ fs) p q is = absurd (cc (is))
 entries_once a b c (x ∷ es) [] p q is = absurd (cc (is))
@@ -68,7 +68,7 @@ pub stands_once : (c : Image) (x y : Archive) → StandsFor c x → StandsFor c 
 stands_once c x y p q =
     sym p.plain_is ∙ ap (λ (a : FilledArchive). a.plain) (filled_once c p.filled q.filled p.stands q.stands) ∙ q.plain_is
 
-abbrev IsBad : Option FilledArchive → List ℕ → Type 0
+abbrev pub IsBad : Option FilledArchive → List ℕ → Type 0
 IsBad before rest = IsCutShort rest ⊎ IsWrong before rest
 
 -- a record that is taken is not bad
@@ -90,7 +90,7 @@ some_left w (g ∷ t) shut = omega (arith, length-append w (g ∷ t))
 behind : (x : Entry) (es : List Entry) (p : List ℕ) → drop 1 (written (map entry_octets (x ∷ es)) ++ p) ≡ framed (entry_octets x) ++ (written (map entry_octets es) ++ p)
 behind x es p = append_assoc (framed (entry_octets x)) (written (map entry_octets es)) p
 
-not_both : (a b d : Option FilledArchive) (es fs : List Entry) (p r : List ℕ) → Replays a es b → Replays a fs d → AreSmall (map entry_octets es) → AreSmall (map entry_octets fs) → IsClosed p → IsBad d r → written (map entry_octets es) ++ p ≡ written (map entry_octets fs) ++ 1 ∷ r → ⊥
+pub not_both : (a b d : Option FilledArchive) (es fs : List Entry) (p r : List ℕ) → Replays a es b → Replays a fs d → AreSmall (map entry_octets es) → AreSmall (map entry_octets fs) → IsClosed p → IsBad d r → written (map entry_octets es) ++ p ≡ written (map entry_octets fs) ++ 1 ∷ r → ⊥
 not_both a b d [] [] p r replays replays' small small' shut bad is = not_open p r shut is
 not_both a b d [] (y ∷ fs) p r replays replays' small small' shut bad is = not_open p (framed (entry_octets y) ++ written (map entry_octets fs) ++ 1 ∷ r) shut is
 not_both a b d (x ∷ es) [] p r replays replays' small small' shut bad is =
@@ -110,7 +110,7 @@ filled_not_damaged c x at s d = not_both None (Some x) d.before s.entries d.entr
 pub stands_not_damaged : (c : Image) (x : Archive) (at : ℕ) → StandsFor c x → IsArchiveDamagedAt c at → ⊥
 stands_not_damaged c x at s d = filled_not_damaged c s.filled at s.stands d
 
-same_place : (a b d : Option FilledArchive) (es fs : List Entry) (p r : List ℕ) → Replays a es b → Replays a fs d → AreSmall (map entry_octets es) → AreSmall (map entry_octets fs) → IsBad b p → IsBad d r → written (map entry_octets es) ++ 1 ∷ p ≡ written (map entry_octets fs) ++ 1 ∷ r → length (written (map entry_octets es)) ≡ length (written (map entry_octets fs))
+pub same_place : (a b d : Option FilledArchive) (es fs : List Entry) (p r : List ℕ) → Replays a es b → Replays a fs d → AreSmall (map entry_octets es) → AreSmall (map entry_octets fs) → IsBad b p → IsBad d r → written (map entry_octets es) ++ 1 ∷ p ≡ written (map entry_octets fs) ++ 1 ∷ r → length (written (map entry_octets es)) ≡ length (written (map entry_octets fs))
 same_place a b d [] [] p r replays replays' small small' bad bad' is = refl
 same_place a b d [] (y ∷ fs) p r replays replays' small small' bad bad' is =
     absurd (good a replays'.0 y p (written (map entry_octets fs) ++ 1 ∷ r) replays'.1 small'.0 (omega (arith, length-append (written (map entry_octets fs)) (1 ∷ r))) (ap (drop 1) is ∙ behind y fs (1 ∷ r)) (subst (λ (z : Option FilledArchive). IsBad z p) replays bad))

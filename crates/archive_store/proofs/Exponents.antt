@@ -3,7 +3,7 @@ use Rattle.std.proofs.Common.{◌≡◌, List, [], ◌∷◌, Option, None, Some
 use Rattle.arch_disk.specs.Image.{Image}
 use Rattle.field_codec.specs.declared.entry.Entry.{Entry}
 use Rattle.field_codec.specs.declared.entry.Entry.TheVariants as entries
-use Rattle.field_codec.specs.Spelling.{format_1_exponent}
+use Rattle.intervals.specs.Interval.{format_1_exponent}
 use Rattle.archive_store.specs.Entries.{Archive, Applies, FilledArchive, Replays}
 use Rattle.archive_store.specs.Stands.{StandsFor}
 

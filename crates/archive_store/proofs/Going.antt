@@ -2,7 +2,7 @@
 use Rattle.std.proofs.Common.{◌≡◌, List, [], ◌∷◌, ◌++◌, sym, subst}
 use mathlib.Core.List.{IsPrefix}
 use Rattle.history_items.specs.declared.fills.Fill.{Fill}
-use Rattle.history_items.specs.Items.{Item}
+use Rattle.history_items.specs.declared.items.Item.{Item}
 use Rattle.archive_store.specs.StoreView.{StoreView, OnlyAppends}
 use Rattle.archive_store.proofs.PendingFaults.{prefix_self}
 

@@ -5,7 +5,7 @@ use Rattle.arch_disk.specs.Disk.{Device, LeavesOnly}
 use Rattle.arch_disk.proofs.Moments.{weakens}
 use Rattle.history_items.specs.declared.fills.Fill.{Fill}
 use Rattle.history_items.specs.declared.fills.Addition.{Addition}
-use Rattle.history_items.specs.Items.{Item}
+use Rattle.history_items.specs.declared.items.Item.{Item}
 use Rattle.history_items.specs.Fills.{rows_of_faults, pending_fault_of, reopened, above, unacknowledged_in}
 use Rattle.history_items.proofs.FillLists.{pending_fault_of-reopened, rows_of_faults-reopened, Rising-reopened, Rising-later}
 use Rattle.disk_journal.specs.Format.{IsBeforeOrAfter}
@@ -66,16 +66,18 @@ module _ {D : Type 0} (device : Device D) where
         begins = k.begins;
         opening = k.opening;
         sound = k.sound;
+        own = k.own;
         archives = subst (λ (l : List (List Item)). ArchiveInvariant entry_octets Applies IsPlainLog device new opened next now (IsUnacknowledged now (unacknowledged_in (reopened fills))) (IsSinceArchive before (archive head exponent history) l))
             (sym (rows_of_faults-reopened fills))
             (one.kept_healed entry_octets Applies IsPlainLog plain_lower device disk new opened journal next now (IsUnacknowledged now (unacknowledged_in fills))
             (IsUnacknowledged now (unacknowledged_in (reopened fills))) (IsSinceArchive before (archive head exponent history) (rows_of_faults fills)) k.archives moments keeps elsewhere
-            file no_pending_fault (found_whole before head exponent history (fillings_in filled) (rows_of_faults fills) k.begins k.sound)
-            (found_unacknowledged before head exponent history (fillings_in filled) (rows_of_faults fills) k.begins k.sound (unacknowledged_in fills) (unacknowledged_in_faults fills)));
+            file no_pending_fault (λ transparent. found_whole before head exponent history (fillings_in filled) (rows_of_faults fills) k.begins (k.sound transparent))
+            (λ transparent. found_unacknowledged before head exponent history (fillings_in filled) (rows_of_faults fills) k.begins (k.sound transparent) (unacknowledged_in fills) (unacknowledged_in_faults fills)));
         pending_fault_is = sym (pending_fault_of-reopened fills);
         journal_fault = λ faults is. absurd (cc (is, no_pending_fault));
         head_is = k.head_is;
         rows = k.rows;
+        alone = k.alone;
       }
     where
       none_stands : (faults : ℕ) → pending_fault_of (reopened fills) ≡ Some faults → ⊥
@@ -105,12 +107,14 @@ module _ {D : Type 0} (device : Device D) where
         begins = k.begins;
         opening = k.opening;
         sound = k.sound;
+        own = k.own;
         archives = one.kept_unhealed entry_octets Applies IsPlainLog plain_lower device disk new opened journal next now (IsUnacknowledged now (unacknowledged_in fills))
             (IsSinceArchive before (archive head exponent history) (rows_of_faults fills)) k.archives moments keeps elsewhere file same
-            (found_whole before head exponent history (fillings_in filled) (rows_of_faults fills) k.begins k.sound)
-            (found_unacknowledged before head exponent history (fillings_in filled) (rows_of_faults fills) k.begins k.sound (unacknowledged_in fills) (unacknowledged_in_faults fills));
+            (λ transparent. found_whole before head exponent history (fillings_in filled) (rows_of_faults fills) k.begins (k.sound transparent))
+            (λ transparent. found_unacknowledged before head exponent history (fillings_in filled) (rows_of_faults fills) k.begins (k.sound transparent) (unacknowledged_in fills) (unacknowledged_in_faults fills));
         pending_fault_is = k.pending_fault_is;
         journal_fault = λ faults is. k.journal_fault faults (sym same ∙ is);
         head_is = k.head_is;
         rows = k.rows;
+        alone = k.alone;
       }

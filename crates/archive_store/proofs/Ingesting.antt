@@ -3,17 +3,18 @@ use Rattle.std.proofs.Common.{◌≡◌, ℕ, ◌<◌, List, [], ◌∷◌, ◌+
 use Rattle.std.proofs.lemmas.List.{append-nil}
 use Rattle.refusals.specs.declared.refusal.Which.TheVariants as limits
 use Rattle.arch_types.specs.declared.row.Row.{Row}
-use Rattle.arch_types.specs.History.{ingested}
 use Rattle.refusals.specs.Limits.{limit_of}
-use Rattle.history_items.specs.Items.{Item, items_of}
+use Rattle.history_items.specs.declared.items.Item.{Item}
+use Rattle.history_items.specs.Items.{after_rows, items_of, rows_in}
+use Rattle.history_items.proofs.ItemLists.{rows_behind}
 use Rattle.history_items.specs.Outcomes.{fresh_of}
 use Rattle.history_items.proofs.Outcomes.{fresh_added}
 use Rattle.archive_history.specs.Limits.{IsWithin}
 use Rattle.archive_store.specs.Limits.{IsBelowLimits}
 
--- the history with the new rows is the ingested one
-pub added : (history : List Item) (rows fresh : List Row) → fresh ≡ fresh_of history rows → history ++ items_of fresh ≡ ingested history rows
-added history rows fresh is = ap (λ (l : List Row). history ++ l) is ∙ sym (fresh_added history rows)
+-- the history with the new rows is the one that the rows came to
+pub added : (history : List Item) (rows fresh : List Row) → fresh ≡ fresh_of history rows → history ++ items_of fresh ≡ after_rows history rows
+added history rows fresh is = ap (λ (l : List Row). history ++ items_of l) is ∙ sym (fresh_added history rows)
 
 no_row : (fresh : List Row) → length fresh ≡ 0 → fresh ≡ []
 no_row [] none = refl
@@ -23,14 +24,17 @@ pub none_new : (history : List Item) (rows fresh : List Row) → fresh ≡ fresh
 none_new history rows fresh is none = sym is ∙ no_row fresh none
 
 -- without new rows the history stays
-pub nothing_added : (history : List Item) (rows fresh : List Row) → fresh ≡ fresh_of history rows → length fresh ≡ 0 → history ≡ ingested history rows
-nothing_added history rows fresh is none = sym (append-nil history) ∙ ap (λ (l : List Row). history ++ l) (sym (no_row fresh none)) ∙ added history rows fresh is
+pub nothing_added : (history : List Item) (rows fresh : List Row) → fresh ≡ fresh_of history rows → length fresh ≡ 0 → history ≡ after_rows history rows
+nothing_added history rows fresh is none = sym (append-nil history) ∙ ap (λ (l : List Row). history ++ items_of l) (sym (no_row fresh none)) ∙ added history rows fresh is
 
-pub below_none : (exponent : ℕ) (records : ℕ) (history : List Item) (rows fresh : List Row) → fresh ≡ fresh_of history rows → length fresh ≡ 0 → IsWithin exponent history → IsBelowLimits exponent records history rows
+pub below_none : (exponent : ℕ) (records : ℕ) (history : List Item) (rows fresh : List Row) → fresh ≡ fresh_of history rows → length fresh ≡ 0 → IsWithin exponent (rows_in history) → IsBelowLimits exponent records history rows
 below_none exponent records history rows fresh is none within = record {
-  within = subst (IsWithin exponent) (nothing_added history rows fresh is none) within;
+  within = subst (λ (l : List Item). IsWithin exponent (rows_in l)) (nothing_added history rows fresh is none) within;
   records_left = λ some. absurd (some (none_new history rows fresh is none));
 }
 
-pub below_some : (exponent : ℕ) (records : ℕ) (history : List Item) (rows fresh : List Row) → fresh ≡ fresh_of history rows → IsWithin exponent (history ++ items_of fresh) → records < limit_of limits.Records → IsBelowLimits exponent records history rows
-below_some exponent records history rows fresh is within left = record { within = subst (IsWithin exponent) (added history rows fresh is) within; records_left = λ some. left }
+pub below_some : (exponent : ℕ) (records : ℕ) (history : List Item) (rows fresh : List Row) → fresh ≡ fresh_of history rows → IsWithin exponent (rows_in history ++ fresh) → records < limit_of limits.Records → IsBelowLimits exponent records history rows
+below_some exponent records history rows fresh is within left = record {
+  within = subst (IsWithin exponent) (sym (rows_behind history fresh) ∙ ap rows_in (added history rows fresh is)) within;
+  records_left = λ some. left;
+}

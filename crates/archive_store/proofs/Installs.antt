@@ -1,5 +1,5 @@
 -- Installs, by what a store is seen as.
-use Rattle.std.proofs.Common.{◌≡◌, ℕ, ◌<◌, List, [], ◌∷◌, ◌++◌, Bool, true, false, Option, Some, None, refl, sym, ◌∙◌, ap, subst, arith, append_assoc}
+use Rattle.std.proofs.Common.{◌≡◌, inl, inr, ℕ, ◌<◌, List, [], ◌∷◌, ◌++◌, Bool, true, false, Option, Some, None, refl, sym, ◌∙◌, ap, subst, arith, append_assoc}
 use Rattle.std.specs.Prelude.{fold, if◌then◌else◌}
 use Rattle.std.specs.Option.{is_some}
 use mathlib.Core.List.{IsPrefix}
@@ -12,27 +12,33 @@ use Rattle.history_items.specs.declared.fills.Fill.{Fill}
 use Rattle.history_items.specs.declared.fills.Fill.TheVariants.{Freed}
 use Rattle.history_items.specs.FillList.{flights_of}
 use Rattle.history_items.specs.Fills.{in_flight}
-use Rattle.history_items.specs.Items.{Item}
-use Rattle.history_items.specs.Late.{IsLastIn, last_in}
+use Rattle.history_items.specs.declared.items.Item.{Item}
+use Rattle.history_items.specs.Items.{databases_in}
+use Rattle.history_items.specs.Late.{ChangesAt, IsLastIn, last_in}
 use Rattle.history_items.proofs.Late.{last_is_greatest}
-use Rattle.interval_fills.specs.Intervals.{NoRowSince}
+use Rattle.interval_fills.specs.Intervals.{NoneSince}
 use Rattle.interval_fills.specs.Steps.{all_freed, freed}
 use Rattle.store_fills.specs.Built.{BuiltFill}
 use Rattle.archive_store.specs.Installs.{IsFillRefusal, IsAbandoned, IsInstallable, IsInstallRefusal}
 use Rattle.archive_store.specs.StoreView.{OnlyAppends, StoreView}
 use Rattle.archive_store.proofs.PendingFaults.{prefix_self}
+use Rattle.archive_store.proofs.RowsAlone.{never_database}
 
 -- ---- rows since a base
 
 module _ (exponent : ℕ) (interval : Interval) (base : ℕ) (history : List Item) (last : Option ℕ) (is : last ≡ last_in exponent interval history) where
-  last_row : IsLastIn exponent interval history last
-  last_row = subst (IsLastIn exponent interval history) (sym is) (last_is_greatest exponent interval history)
+  last_there : IsLastIn exponent interval history last
+  last_there = subst (IsLastIn exponent interval history) (sym is) (last_is_greatest exponent interval history)
 
-  pub never_since : last ≡ None → NoRowSince exponent interval base history
-  never_since none = λ p stands. absurd (subst (IsLastIn exponent interval history) none last_row p stands)
+  pub never_since : databases_in history ≡ [] → last ≡ None → NoneSince exponent interval base history
+  never_since alone none = never
+    where
+      never : (p : ℕ) → ChangesAt exponent interval p history → p < base
+      never p (inl stands) = absurd (subst (IsLastIn exponent interval history) none last_there (record { position = p; stands = stands }))
+      never p (inr database) = absurd (never_database p history alone database)
 
-  pub none_since_last : (l : ℕ) → last ≡ Some l → l < base → NoRowSince exponent interval base history
-  none_since_last l some below = λ p stands. let greatest = (subst (IsLastIn exponent interval history) some last_row).1 p stands in omega (arith, greatest, below)
+  pub none_since_last : (l : ℕ) → last ≡ Some l → l < base → NoneSince exponent interval base history
+  none_since_last l some below = λ p changes. let greatest = (subst (IsLastIn exponent interval history) some last_there).2 p changes in omega (arith, greatest, below)
 
 -- what is known of an interval and a base, of those of a fill
 pub at_done : (done : BuiltFill) (i : Interval) (base : ℕ) → i ≡ done.interval → base ≡ done.base → (P : Interval → ℕ → Type 0) → P i base → P done.interval done.base
@@ -100,7 +106,7 @@ module _ {D : Type 0} where
 
   -- ---- why an install is refused behind its tests
 
-  pub install_refused : (device : Device D) (old mid new : StoreView D) (done : BuiltFill) (e : Refusal) → IsInstallable old → NoRowSince old.exponent done.interval done.base old.history
+  pub install_refused : (device : Device D) (old mid new : StoreView D) (done : BuiltFill) (e : Refusal) → IsInstallable old → NoneSince old.exponent done.interval done.base old.history
       → IsFillRefusal device old mid done e → IsAbandoned mid new done.interval → IsInstallRefusal device old new done e
   install_refused device old mid new done OutOfMemory able none refusal up = (able, none, subst (λ (s : StoreView D). IsAbandoned s new done.interval) refusal up)
   install_refused device old mid new done DiskFault able none refusal up = (able, none, (mid, refusal, up))

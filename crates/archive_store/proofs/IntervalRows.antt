@@ -1,13 +1,14 @@
 -- The intervals that have rows.
-use Rattle.std.proofs.Common.{◌≡◌, ℕ, pos, List, [], ◌∷◌, Option, Some, None, true, refl, arith}
-use Rattle.std.specs.Prelude.{option_map, IsSome}
+use Rattle.std.proofs.Common.{◌≡◌, ℕ, pos, List, [], ◌∷◌, Option, Some, None, true, refl, arith, true≢false, sym, ◌∙◌}
+use Rattle.std.specs.Prelude.{IsSome}
 use Rattle.std.specs.List.{AllByRecursion}
 use Rattle.std.proofs.lemmas.Int.{ints}
 use Rattle.intervals.specs.declared.interval.Interval.{Interval}
 use Rattle.arch_types.specs.declared.row.Row.{Row}
 use Rattle.history_items.specs.Fills.{base_in}
-use Rattle.history_items.specs.Items.{Item}
-use Rattle.history_items.specs.Late.{IsLastIn, StandsIn, last_in}
+use Rattle.history_items.specs.declared.items.Item.{Item}
+use Rattle.history_items.specs.Items.{rows_in}
+use Rattle.history_items.specs.Late.{HasRow, IsLastIn, StandsIn, last_in}
 use Rattle.history_items.proofs.Late.{last_is_greatest}
 use Rattle.history_items.specs.declared.fills.Fill.{Fill}
 use Rattle.intervals.specs.Interval.{interval_end, interval_start}
@@ -19,6 +20,7 @@ use Rattle.fill_tracker.specs.FillTracker.{AreMarksOf}
 use Rattle.param_segments.specs.Rows.{SetRow}
 use Rattle.store_fills.specs.LastFills.{PlacedFills, fillings_in}
 use Rattle.store_fills.specs.Sound.{Filling}
+use Rattle.store_fills.proofs.Bases.{base_there}
 use Rattle.archive_store.specs.declared.head.Head.{Head}
 use Rattle.archive_store.specs.Entries.{IsArchivedRow}
 use Rattle.archive_store.specs.Inside.{HoldsFills}
@@ -31,7 +33,7 @@ all_marked exponent history fills marks [] are all = tt
 all_marked exponent history fills marks (i ∷ is) are all = (marked_last exponent marks fills history i are all.0, all_marked exponent history fills marks is are all.1)
 
 -- the interval of a row of an archive meets the range of all times
-pub meets_all : (head : Head) (exponent : ℕ) (history : List Item) (i : Interval) (p : ℕ) → AllByRecursion (IsArchivedRow head) history → StandsIn exponent i p history → MeetsRange exponent (pos 0) (pos 9223372036854775807) i
+pub meets_all : (head : Head) (exponent : ℕ) (history : List Item) (i : Interval) (p : ℕ) → AllByRecursion (IsArchivedRow head history) (rows_in history) → StandsIn exponent i p history → MeetsRange exponent (pos 0) (pos 9223372036854775807) i
 meets_all head exponent history i p all stands =
     let moment = stands_in_clock head exponent history i p all stands in
     let clock = moment.1 in
@@ -39,16 +41,15 @@ meets_all head exponent history i p all stands =
     let bounds = range_is (interval_start exponent i) (interval_end exponent i) row (in_range exponent i row moment.2) in
     record { begins = before_high bounds.0 (omega (arith, ints, clock.1)); ends = after_low clock.0 bounds.1 }
 
--- where an interval is filled, a row of it stands somewhere: its base is told by the fill list, which names no interval
--- without rows
-pub filled_stands : (head : Head) (exponent : ℕ) (history : List Item) (fills : List Fill) (marks : Marks) (filled : PlacedFills) (i : Interval) → AreMarksOf exponent history fills marks → HoldsFills head exponent fills filled
-    → IsSome (fillings_in filled i) → (p : ℕ) × StandsIn exponent i p history
+-- where an interval is filled it has a row: its base is told by the fill list, which names no interval without rows
+pub filled_stands : (head : Head) (exponent : ℕ) (history : List Item) (fills : List Fill) (marks : Marks) (filled : PlacedFills) (i : Interval) → AreMarksOf exponent history fills marks → HoldsFills head exponent history fills filled
+    → IsSome (fillings_in filled i) → HasRow exponent i history
 filled_stands head exponent history fills marks filled i are holds some = go (last_in exponent i history) refl (last_is_greatest exponent i history)
   where
-    not_filled : (f : Option (Filling (List SetRow))) → base_in i fills ≡ option_map (λ g. g.base) f → base_in i fills ≡ None → IsSome f → ⊥
-    not_filled None based none some = cc
-    not_filled (Some f) based none some = cc
+    not_filled : (f : Option (Filling (List SetRow))) → fillings_in filled i ≡ f → base_in i fills ≡ None → IsSome f → ⊥
+    not_filled None is none there = true≢false (sym there)
+    not_filled (Some f) is none there = let based : base_in i fills ≡ Some f.base = holds.bases i ∙ base_there filled i f is in cc (based, none)
 
-    go : (o : Option ℕ) → last_in exponent i history ≡ o → IsLastIn exponent i history o → (p : ℕ) × StandsIn exponent i p history
-    go None e never = absurd (not_filled (fillings_in filled i) (holds.bases i) (are.known i e).0 some)
-    go (Some last) e row = (last, row.0)
+    go : (o : Option ℕ) → last_in exponent i history ≡ o → IsLastIn exponent i history o → HasRow exponent i history
+    go None e never = absurd (not_filled (fillings_in filled i) refl (are.known i e).0 some)
+    go (Some last) e row = row.0

@@ -10,7 +10,8 @@ use Rattle.history_items.specs.declared.fills.Addition.{Addition}
 use Rattle.history_items.specs.declared.fills.Addition.TheVariants as additions
 use Rattle.history_items.specs.declared.fills.Fill.{Fill}
 use Rattle.history_items.specs.declared.fills.Fill.TheVariants.{Begun, Done, Freed, Fault}
-use Rattle.history_items.specs.Items.{Item, items_of}
+use Rattle.history_items.specs.declared.items.Item.{Item}
+use Rattle.history_items.specs.Items.{items_of}
 use Rattle.history_items.specs.Fills.{rows_of_faults, pending_fault_of, unacknowledged_in, above}
 use Rattle.history_items.proofs.FillLists.{rows_of_faults-append, pending_fault_of-append, Rising-later, Rising-append}
 use Rattle.disk_journal.specs.Format.{IsBeforeOrAfter}
@@ -31,6 +32,7 @@ use Rattle.archive_store.specs.Unacknowledged.{IsUnacknowledged}
 use Rattle.archive_store.proofs.Archived.{more_archived}
 use Rattle.archive_store.proofs.OneJournal as one
 use Rattle.archive_store.proofs.PendingFaults.{prefix_self, prefix_more}
+use Rattle.archive_store.proofs.RowsAlone.{more_alone}
 use Rattle.archive_store.proofs.PlainLog.{StandsPlain, plain_lower, found_whole, found_with, found_on, rows_sound}
 
 -- one fault more
@@ -95,11 +97,13 @@ module _ {D : Type 0} (device : Device D) where
     begins = k.begins;
     opening = k.opening;
     sound = k.sound;
+    own = k.own;
     archives = one.kept_same entry_octets Applies IsPlainLog plain_lower device disk opened journal next (filled_archive head exponent history (fillings_in filled)) _ _ k.archives same;
     pending_fault_is = k.pending_fault_is;
     journal_fault = λ faults is. k.journal_fault faults (sym (ap faults_of same.pending_fault) ∙ is);
     head_is = k.head_is;
     rows = k.rows;
+    alone = k.alone;
   }
 
   -- the images of an append, as what they stand for
@@ -125,7 +129,7 @@ module _ {D : Type 0} (device : Device D) where
       let before : FilledArchive = filled_archive head exponent k.before k.fillings in
       let in_faults : List (List Item) = rows_of_faults fills in
       let begins : IsPrefix k.before whole = prefix_more k.before history (items_of rows) k.begins in
-      let sound : IsSoundArchive before → IsSoundArchive (filled_archive head exponent whole fillings) = λ was. rows_sound head exponent history fillings (items_of rows) (k.sound was) in record {
+      let sound : IsTrue device.is_transparent → IsSoundArchive before → IsSoundArchive (filled_archive head exponent whole fillings) = λ transparent was. rows_sound head exponent history fillings rows (k.sound transparent was) in record {
         faults = record {
           rising = Rising-later fills (above (device.fault_count opened)) (device.fault_count disk) (device.fault_count new) later k.faults.rising;
           later = omega (arith, k.faults.later, later);
@@ -137,17 +141,19 @@ module _ {D : Type 0} (device : Device D) where
         begins = begins;
         opening = k.opening;
         sound = sound;
+        own = k.own;
         archives = one.kept_ok entry_octets Applies IsPlainLog plain_lower device disk new opened journal next (filled_archive head exponent history fillings) (filled_archive head exponent whole fillings) (entries.Rows rows)
             (IsUnacknowledged (filled_archive head exponent history fillings) (unacknowledged_in fills)) (IsUnacknowledged (filled_archive head exponent whole fillings) (unacknowledged_in fills))
-            (IsSinceArchive before (archive head exponent history) in_faults) (IsSinceArchive before (archive head exponent whole) in_faults) k.archives (ok, refl) file
+            (IsSinceArchive before (archive head exponent history) in_faults) (IsSinceArchive before (archive head exponent whole) in_faults) k.archives (λ transparent. (ok, refl)) file
             no_pending_fault keeps moments elsewhere
             (found_on before (archive head exponent history) (archive head exponent whole) in_faults in_faults refl refl (λ xs p. prefix_more xs history (items_of rows) p) (λ more there. there))
-            (record { kept = history; holds = k.begins; begins = prefix_more history history (items_of rows) (prefix_self history); found_is = inl refl; sound = k.sound })
-            (found_whole before head exponent whole fillings in_faults begins sound);
+            (λ transparent. record { kept = history; holds = k.begins; begins = prefix_more history history (items_of rows) (prefix_self history); found_is = inl refl; sound = k.sound transparent })
+            (λ transparent. found_whole before head exponent whole fillings in_faults begins (sound transparent));
         pending_fault_is = k.pending_fault_is;
         journal_fault = λ faults is. absurd (cc (is, no_pending_fault));
         head_is = k.head_is;
         rows = more_archived head exponent history rows k.rows ok;
+        alone = more_alone history rows k.alone;
       }
 
   -- an append failed
@@ -180,18 +186,21 @@ module _ {D : Type 0} (device : Device D) where
         begins = k.begins;
         opening = k.opening;
         sound = k.sound;
+        own = k.own;
         archives = one.kept_err entry_octets Applies IsPlainLog plain_lower device disk new opened journal next (filled_archive head exponent history fillings) (filled_archive head exponent (history ++ items_of rows) fillings) (entries.Rows rows)
             (IsUnacknowledged (filled_archive head exponent history fillings) (unacknowledged_in fills)) (IsUnacknowledged (filled_archive head exponent history fillings) (unacknowledged_in more))
             (IsSinceArchive before (archive head exponent history) (rows_of_faults fills)) (IsSinceArchive before (archive head exponent history) (rows_of_faults more))
-            (min (device.fault_count new) (2 ^ 64 - 1)) k.archives (ok, refl) file (healthy (unhealed_fault journal) (pending_fault_of fills) k.journal_fault healed) unhealed_fault_is keeps
+            (min (device.fault_count new) (2 ^ 64 - 1)) k.archives (λ transparent. (ok, refl)) file (healthy (unhealed_fault journal) (pending_fault_of fills) k.journal_fault healed) unhealed_fault_is keeps
             moments elsewhere
             (found_on before (archive head exponent history) (archive head exponent history) (rows_of_faults fills) (rows_of_faults more) refl refl (λ xs p. p) (λ r there. subst (λ (l : List (List Item)). Contains l r) (sym (rows_of_faults-fault fills count rows)) (Contains-append_left (rows_of_faults fills) (items_of rows ∷ []) r there)))
-            (found_whole before head exponent history fillings (rows_of_faults more) k.begins k.sound) (found_with before head exponent history fillings (rows_of_faults more) k.begins k.sound (items_of rows) (rows_of_faults_last fills count rows))
-            (subst (λ (o : Option Addition). IsUnacknowledged (filled_archive head exponent history fillings) o (filled_archive head exponent (history ++ items_of rows) fillings)) (sym (hand-fault fills count rows healed)) refl);
+            (λ transparent. found_whole before head exponent history fillings (rows_of_faults more) k.begins (k.sound transparent))
+            (λ transparent. found_with before head exponent history fillings (rows_of_faults more) k.begins (k.sound transparent) rows (rows_of_faults_last fills count rows))
+            (λ transparent. subst (λ (o : Option Addition). IsUnacknowledged (filled_archive head exponent history fillings) o (filled_archive head exponent (history ++ items_of rows) fillings)) (sym (hand-fault fills count rows healed)) refl);
         pending_fault_is = sym pending_fault_now;
         journal_fault = λ faults is. pending_fault_now ∙ ap Some count_is ∙ sym unhealed_fault_is ∙ is;
         head_is = k.head_is;
         rows = k.rows;
+        alone = k.alone;
       }
     where
       pending_fault_now : pending_fault_of (fills ++ fault count rows ∷ []) ≡ Some count

@@ -9,7 +9,9 @@ use Rattle.history_items.specs.declared.fills.Addition.{Addition}
 use Rattle.history_items.specs.declared.fills.Addition.TheVariants as additions
 use Rattle.history_items.specs.declared.fills.Fill.{Fill}
 use Rattle.history_items.specs.declared.fills.Fill.TheVariants.{Fault}
-use Rattle.history_items.specs.Items.{Item}
+use Rattle.history_items.specs.declared.items.Item.{Item}
+use Rattle.history_items.specs.Items.{prefix}
+use Rattle.history_items.specs.Databases.{database_in}
 use Rattle.history_items.specs.Fills.{rows_of_faults, pending_fault_of, unacknowledged_in, above}
 use Rattle.history_items.proofs.FillLists.{rows_of_faults-append, pending_fault_of-append, Rising-later, Rising-append}
 use Rattle.std.specs.Option.{option_or}
@@ -20,13 +22,13 @@ use Rattle.disk_journal.specs.declared.journal.Journal.{Journal}
 use Rattle.field_codec.specs.declared.entry.Entry.TheVariants as entries
 use Rattle.field_codec.specs.Entries.{IsArchiveEntry}
 use Rattle.field_codec.specs.Spelling.{entry_octets}
-use Rattle.interval_fills.specs.Intervals.{NoRowSince}
+use Rattle.interval_fills.specs.Intervals.{NoneSince}
 use Rattle.interval_fills.proofs.Growing.{stored_base}
 use Rattle.param_segments.specs.Extracted.{IsSetOf}
 use Rattle.param_segments.specs.Octets.{rows_in_octets, set_octets}
 use Rattle.param_segments.specs.Rows.{SetRow}
 use Rattle.store_fills.specs.Filled.{IsRightFill}
-use Rattle.store_fills.specs.LastFills.{PlacedFills, fill_over, fillings_in}
+use Rattle.store_fills.specs.LastFills.{PlacedFills, fill_over, fillings_in, AreOwn}
 use Rattle.store_fills.specs.Sound.{Fillings, with_filling}
 use Rattle.archive_store.specs.declared.head.Head.{Head}
 use Rattle.archive_store.specs.Entries.{FilledArchive, IsSoundArchive, archive, filled_archive, Applies}
@@ -55,14 +57,14 @@ module _ (head : Head) (exponent : ℕ) (history : List Item) (fillings : Fillin
     record {
       fits = fits;
       based = stored_base exponent i base history right.may;
-      set = subst (IsSetOf head.mdb exponent i.0) (sym again) right.fits;
+      set = subst (IsSetOf (database_in head.mdb (prefix base history)) exponent i.0) (sym again) right.fits;
       spelled = ap set_octets (sym again);
     },
     ap (λ (s : List SetRow). filled_archive head exponent history (with_filling fillings i (fill_over base s))) (sym again),
   )
 
 module _ {D : Type 0} (device : Device D) (disk new opened : D) (journal next : Journal) (head : Head) (exponent : ℕ) (history : List Item) (fills : List Fill) (filled : PlacedFills) (pending_fault : Option ℕ)
-    (i : Interval) (base : ℕ) (set : List SetRow) (k : StoreInvariant device disk opened journal head exponent history fills filled pending_fault) (right : IsRightFill exponent head.mdb history i base set)
+    (i : Interval) (base : ℕ) (set : List SetRow) (k : StoreInvariant device disk opened journal head exponent history fills filled pending_fault) (right : IsTrue device.is_transparent → IsRightFill exponent head.mdb history i base set)
     (fits : IsArchiveEntry (entries.Fill i base (set_octets set))) (again : rows_in_octets (set_octets set) ≡ set) (healed : pending_fault_of fills ≡ None) where
   abbrev now : FilledArchive
   now = filled_archive head exponent history (fillings_in filled)
@@ -84,13 +86,16 @@ module _ {D : Type 0} (device : Device D) (disk new opened : D) (journal next : 
   fill_moments same run elsewhere transparent =
       one.moments_of entry_octets Applies IsPlainLog plain_lower device disk new opened journal next now after (entries.Fill i base (set_octets set))
       (IsUnacknowledged now (unacknowledged_in fills)) (IsSinceArchive before (archive head exponent history) (rows_of_faults fills)) k.archives
-      (fill_applies head exponent history (fillings_in filled) i base set right fits again) (healthy (unhealed_fault journal) (pending_fault_of fills) k.journal_fault healed) same run elsewhere transparent
+      (fill_applies head exponent history (fillings_in filled) i base set (right transparent) fits again) (healthy (unhealed_fault journal) (pending_fault_of fills) k.journal_fault healed) same run elsewhere transparent
 
-  after_sound : IsSoundArchive before → IsSoundArchive after
-  after_sound was = fill_sound head exponent history (fillings_in filled) i base set (k.sound was) right
+  applies : IsTrue device.is_transparent → Applies (Some now) (entries.Fill i base (set_octets set)) after
+  applies transparent = fill_applies head exponent history (fillings_in filled) i base set (right transparent) fits again
+
+  after_sound : IsTrue device.is_transparent → IsSoundArchive before → IsSoundArchive after
+  after_sound transparent was = fill_sound head exponent history (fillings_in filled) i base set (k.sound transparent was) (right transparent)
 
   -- a fill was appended
-  pub fill_ok : (filled_after : PlacedFills) → fillings_in filled_after ≡ with_filling (fillings_in filled) i (fill_over base set)
+  pub fill_ok : (filled_after : PlacedFills) → (IsTrue device.is_transparent → fillings_in filled_after ≡ with_filling (fillings_in filled) i (fill_over base set)) → (IsTrue device.is_transparent → AreOwn filled_after)
       → file_of next ≡ file_of journal → unhealed_fault next ≡ None
       → (IsTrue device.is_transparent → (bodies : List (List ℕ)) (pending : List ℕ) → JournalHasOnDisk device journal bodies pending disk →
       JournalHasOnDisk device next (bodies ++ entry_octets (entries.Fill i base (set_octets set)) ∷ []) pending new)
@@ -99,16 +104,17 @@ module _ {D : Type 0} (device : Device D) (disk new opened : D) (journal next : 
       → device.fault_count disk ≤ device.fault_count new
       → device.failed_writes new ≡ device.failed_writes disk
       → StoreInvariant device new opened next head exponent history fills filled_after pending_fault
-  fill_ok filled_after put file no_pending_fault keeps moments elsewhere later writes =
+  fill_ok filled_after put put_own file no_pending_fault keeps moments elsewhere later writes =
       let in_faults = rows_of_faults fills in
       let o = unacknowledged_in fills in
       let there : FilledArchive = filled_archive head exponent history (fillings_in filled_after) in
-      let same : after ≡ there = ap (filled_archive head exponent history) (sym put) in
+      let same : IsTrue device.is_transparent → after ≡ there = λ transparent. ap (filled_archive head exponent history) (sym (put transparent)) in
       let done = one.kept_ok entry_octets Applies IsPlainLog plain_lower device disk new opened journal next now after (entries.Fill i base (set_octets set))
       (IsUnacknowledged now o) (IsUnacknowledged after o) (IsSinceArchive before (archive head exponent history) in_faults) (IsSinceArchive before (archive head exponent history) in_faults) k.archives
-      (fill_applies head exponent history (fillings_in filled) i base set right fits again) file no_pending_fault keeps moments elsewhere (λ x f. f)
-      (found_whole before head exponent history (fillings_in filled) in_faults k.begins k.sound)
-      (found_whole before head exponent history (with_filling (fillings_in filled) i (fill_over base set)) in_faults k.begins after_sound) in record {
+      applies file no_pending_fault keeps moments elsewhere (λ x f. f)
+      (λ transparent. found_whole before head exponent history (fillings_in filled) in_faults k.begins (k.sound transparent))
+      (λ transparent. found_whole before head exponent history (with_filling (fillings_in filled) i (fill_over base set)) in_faults k.begins (after_sound transparent)) in
+      let on = λ (transparent : IsTrue device.is_transparent). subst (λ (a : FilledArchive). ArchiveInvariant entry_octets Applies IsPlainLog device new opened next a (IsUnacknowledged a o) (IsSinceArchive before (archive head exponent history) in_faults)) (same transparent) done in record {
         faults = record {
           rising = Rising-later fills (above (device.fault_count opened)) (device.fault_count disk) (device.fault_count new) later k.faults.rising;
           later = omega (arith, k.faults.later, later);
@@ -119,19 +125,24 @@ module _ {D : Type 0} (device : Device D) (disk new opened : D) (journal next : 
         fillings = k.fillings;
         begins = k.begins;
         opening = k.opening;
-        sound = λ was. subst IsSoundArchive same (after_sound was);
-        archives = subst (λ (a : FilledArchive). ArchiveInvariant entry_octets Applies IsPlainLog device new opened next a (IsUnacknowledged a o) (IsSinceArchive before (archive head exponent history) in_faults)) same done;
+        sound = λ transparent was. subst IsSoundArchive (same transparent) (after_sound transparent was);
+        own = put_own;
+        archives = record {
+          images = λ transparent. (on transparent).images transparent;
+          log = λ transparent. (on transparent).log transparent;
+        };
         pending_fault_is = k.pending_fault_is;
         journal_fault = λ faults is. absurd (cc (is, no_pending_fault));
         head_is = k.head_is;
         rows = k.rows;
+        alone = k.alone;
       }
 
   no_rows : (count : ℕ) → rows_of_faults (fills ++ fill_fault count i base ∷ []) ≡ rows_of_faults fills
   no_rows count = rows_of_faults-append fills (fill_fault count i base ∷ []) ∙ append-nil (rows_of_faults fills)
 
   -- an append failed, of a fill over all rows of its interval
-  pub fill_err : (count : ℕ) → NoRowSince exponent i base history → file_of next ≡ file_of journal
+  pub fill_err : (count : ℕ) → NoneSince exponent i base history → file_of next ≡ file_of journal
       → unhealed_fault next ≡ Some (min (device.fault_count new) (2 ^ 64 - 1))
       → count ≡ min (device.fault_count new) (2 ^ 64 - 1)
       → (IsTrue device.is_transparent → (bodies : List (List ℕ)) (pending : List ℕ) → JournalHasOnDisk device journal bodies pending disk →
@@ -145,7 +156,7 @@ module _ {D : Type 0} (device : Device D) (disk new opened : D) (journal next : 
       let more : List Fill = fills ++ fill_fault count i base ∷ [] in
       let pending_now : pending_fault_of more ≡ Some count = pending_fault_of-append fills (fill_fault count i base ∷ []) ∙ ap (λ (o : Option ℕ). option_or o (Some count)) healed in
       let held : unacknowledged_in more ≡ Some (additions.Fill i base) = hand-append fills (fill_fault count i base ∷ []) healed in
-      let once : IsFilledOnce now i base after = record { set = set; right = right; none_since = since; after_is = refl } in record {
+      let once : IsTrue device.is_transparent → IsFilledOnce now i base after = λ transparent. record { set = set; right = right transparent; none_since = since; after_is = refl } in record {
         faults = record {
           rising = Rising-append (above (device.fault_count opened)) (device.fault_count disk) (device.fault_count new) fills (fill_fault count i base ∷ []) (omega (arith, k.faults.later)) (omega (arith, rose)) k.faults.rising
               (omega (arith, rose, count_is), omega (arith, count_is), tt);
@@ -158,19 +169,21 @@ module _ {D : Type 0} (device : Device D) (disk new opened : D) (journal next : 
         begins = k.begins;
         opening = k.opening;
         sound = k.sound;
+        own = k.own;
         archives = one.kept_err entry_octets Applies IsPlainLog plain_lower device disk new opened journal next now after (entries.Fill i base (set_octets set))
             (IsUnacknowledged now (unacknowledged_in fills)) (IsUnacknowledged now (unacknowledged_in more))
             (IsSinceArchive before (archive head exponent history) (rows_of_faults fills)) (IsSinceArchive before (archive head exponent history) (rows_of_faults more))
-            (min (device.fault_count new) (2 ^ 64 - 1)) k.archives (fill_applies head exponent history (fillings_in filled) i base set right fits again) file
+            (min (device.fault_count new) (2 ^ 64 - 1)) k.archives applies file
             (healthy (unhealed_fault journal) (pending_fault_of fills) k.journal_fault healed) unhealed_fault_is keeps moments elsewhere
             (λ x f. subst (λ (l : List (List Item)). IsSinceArchive before (archive head exponent history) l x) (sym (no_rows count)) f)
-            (found_whole before head exponent history (fillings_in filled) (rows_of_faults more) k.begins k.sound)
-            (found_whole before head exponent history (with_filling (fillings_in filled) i (fill_over base set)) (rows_of_faults more) k.begins after_sound)
-            (subst (λ (o : Option Addition). IsUnacknowledged now o after) (sym held) once);
+            (λ transparent. found_whole before head exponent history (fillings_in filled) (rows_of_faults more) k.begins (k.sound transparent))
+            (λ transparent. found_whole before head exponent history (with_filling (fillings_in filled) i (fill_over base set)) (rows_of_faults more) k.begins (after_sound transparent))
+            (λ transparent. subst (λ (o : Option Addition). IsUnacknowledged now o after) (sym held) (once transparent));
         pending_fault_is = sym pending_now;
         journal_fault = λ faults is. pending_now ∙ ap Some count_is ∙ sym unhealed_fault_is ∙ is;
         head_is = k.head_is;
         rows = k.rows;
+        alone = k.alone;
       }
 
 -- ---- while no failed write is pending

@@ -1,7 +1,7 @@
 -- Trackers whose marks stay right.
 use Rattle.std.proofs.Common.{◌≡◌, ℕ, List, sym, subst}
 use Rattle.history_items.specs.declared.fills.Fill.{Fill}
-use Rattle.history_items.specs.Items.{Item}
+use Rattle.history_items.specs.declared.items.Item.{Item}
 use Rattle.late_marks.specs.Marks.{Marks}
 use Rattle.fill_tracker.specs.FillTracker.{AreMarksOf, FillTrackerView, KeepsMarks}
 

@@ -6,6 +6,7 @@ pub mod Calls
 pub mod CurrentSets
 pub mod Exact
 pub mod Exponents
+pub mod FileRecords
 pub mod Fillable
 pub mod Going
 pub mod Healing
@@ -24,6 +25,7 @@ pub mod PlainLog
 pub mod Planning
 pub mod Refusals
 pub mod ReplayedRows
+pub mod RowsAlone
 pub mod SameFaults
 pub mod Sending
 pub mod TaskRows

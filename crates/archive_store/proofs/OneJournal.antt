@@ -54,44 +54,44 @@ module _ {A E : Type 0} (spell : E → List ℕ) (Applies : Option A → E → A
   -- an entry was appended
   pub kept_ok : (disk new opened : D) (journal next : Journal) (a b : A) (entry : E) (Unacknowledged Next Found FoundNext : A → Type 0)
       → ArchiveInvariant spell Applies HasBase device disk opened journal a Unacknowledged Found
-      → Applies (Some a) entry b
+      → (IsTrue device.is_transparent → Applies (Some a) entry b)
       → file_of next ≡ file_of journal
       → unhealed_fault next ≡ None
       → (IsTrue device.is_transparent → (bodies : List (List ℕ)) (pending : List ℕ) → JournalHasOnDisk device journal bodies pending disk → JournalHasOnDisk device next (bodies ++ spell entry ∷ []) pending new)
       → (IsTrue device.is_transparent → LeavesOnly device disk new (λ c. StandsOver spell Applies HasBase c a ⊎ StandsOver spell Applies HasBase c b))
       → LeavesOnly device disk new (IsOldBut device (file_of journal) disk)
-      → ((x : A) → Found x → FoundNext x) → FoundNext a → FoundNext b
+      → ((x : A) → Found x → FoundNext x) → (IsTrue device.is_transparent → FoundNext a) → (IsTrue device.is_transparent → FoundNext b)
       → ArchiveInvariant spell Applies HasBase device new opened next b Next FoundNext
   kept_ok disk new opened journal next a b entry Unacknowledged Next Found FoundNext k applies file no_pending_fault keeps moments elsewhere on here there = record {
     images = λ transparent. kept.images_next spell Applies HasBase lower device disk new opened a b Unacknowledged Next Found FoundNext (k.images transparent) (moments transparent)
-        (λ c left. inl (kept.healed_now spell Applies HasBase lower device new next b Next (log transparent) no_pending_fault c left)) on here there;
+        (λ c left. inl (kept.healed_now spell Applies HasBase lower device new next b Next (log transparent) no_pending_fault c left)) on (here transparent) (there transparent);
     log = log;
   }
     where
       log : IsTrue device.is_transparent → LogInvariant spell Applies HasBase device new next b Next
-      log transparent = kept.entries_ok spell Applies HasBase lower device disk new journal next a b entry Unacknowledged Next (k.log transparent) applies file no_pending_fault (keeps transparent) elsewhere
+      log transparent = kept.entries_ok spell Applies HasBase lower device disk new journal next a b entry Unacknowledged Next (k.log transparent) (applies transparent) file no_pending_fault (keeps transparent) elsewhere
 
   -- an append failed
   pub kept_err : (disk new opened : D) (journal next : Journal) (a b : A) (entry : E) (Unacknowledged Next Found FoundNext : A → Type 0) (count : ℕ)
       → ArchiveInvariant spell Applies HasBase device disk opened journal a Unacknowledged Found
-      → Applies (Some a) entry b
+      → (IsTrue device.is_transparent → Applies (Some a) entry b)
       → file_of next ≡ file_of journal
       → unhealed_fault journal ≡ None
       → unhealed_fault next ≡ Some count
       → (IsTrue device.is_transparent → (bodies : List (List ℕ)) (pending : List ℕ) → JournalHasOnDisk device journal bodies pending disk → JournalHasOnDisk device next bodies (spell entry) new)
       → (IsTrue device.is_transparent → LeavesOnly device disk new (λ c. StandsOver spell Applies HasBase c a ⊎ StandsOver spell Applies HasBase c b))
       → LeavesOnly device disk new (IsOldBut device (file_of journal) disk)
-      → ((x : A) → Found x → FoundNext x) → FoundNext a → FoundNext b
-      → Next b
+      → ((x : A) → Found x → FoundNext x) → (IsTrue device.is_transparent → FoundNext a) → (IsTrue device.is_transparent → FoundNext b)
+      → (IsTrue device.is_transparent → Next b)
       → ArchiveInvariant spell Applies HasBase device new opened next a Next FoundNext
   kept_err disk new opened journal next a b entry Unacknowledged Next Found FoundNext count k applies file no_pending_fault unhealed_is keeps moments elsewhere on here there also = record {
     images = λ transparent. let i = k.images transparent in record {
-      now = λ c left. ⊎_elim (λ old. inl old) (λ more. inr (record { found = b; stands = more; holds = also })) (at_end device disk new _ (moments transparent) c left);
+      now = λ c left. ⊎_elim (λ old. inl old) (λ more. inr (record { found = b; stands = more; holds = also transparent })) (at_end device disk new _ (moments transparent) c left);
       since = joins device opened disk new _ _ (weakens device opened disk _ _ i.since (λ c s. record { found = s.found; stands = s.stands; holds = on s.found s.holds })) (moments transparent)
-          (λ c either. ⊎_elim (λ old. record { found = a; stands = old; holds = here }) (λ more. record { found = b; stands = more; holds = there }) either);
+          (λ c either. ⊎_elim (λ old. record { found = a; stands = old; holds = here transparent }) (λ more. record { found = b; stands = more; holds = there transparent }) either);
     };
     log = λ transparent. kept.entries_err spell Applies HasBase lower device disk new journal next a (spell entry) Unacknowledged Next (k.log transparent) file (keeps transparent) elsewhere
-        (kept.after_entry spell Applies HasBase lower device disk journal a b entry Unacknowledged Next (k.log transparent) applies also);
+        (kept.after_entry spell Applies HasBase lower device disk journal a b entry Unacknowledged Next (k.log transparent) (applies transparent) (also transparent));
   }
 
   -- a reopen of a journal that wants one
@@ -118,10 +118,10 @@ module _ {A E : Type 0} (spell : E → List ℕ) (Applies : Option A → E → A
       → LeavesOnly device disk new (IsOldBut device (file_of journal) disk)
       → file_of next ≡ file_of journal
       → unhealed_fault next ≡ None
-      → Found a → ((b : A) → Unacknowledged b → Found b)
+      → (IsTrue device.is_transparent → Found a) → (IsTrue device.is_transparent → (b : A) → Unacknowledged b → Found b)
       → ArchiveInvariant spell Applies HasBase device new opened next a Next Found
   kept_healed disk new opened journal next a Unacknowledged Next Found k moments keeps elsewhere file no_pending_fault here also = record {
-    images = λ transparent. let i = kept.images_on spell Applies HasBase lower device disk new opened a Unacknowledged Found (k.images transparent) (moments transparent) here also in record {
+    images = λ transparent. let i = kept.images_on spell Applies HasBase lower device disk new opened a Unacknowledged Found (k.images transparent) (moments transparent) (here transparent) (also transparent) in record {
       now = λ c left. inl (kept.healed_now spell Applies HasBase lower device new next a Next (log transparent) no_pending_fault c left);
       since = i.since;
     };
@@ -148,9 +148,9 @@ module _ {A E : Type 0} (spell : E → List ℕ) (Applies : Option A → E → A
       → LeavesOnly device disk new (IsOldBut device (file_of journal) disk)
       → file_of next ≡ file_of journal
       → unhealed_fault next ≡ unhealed_fault journal
-      → Found a → ((b : A) → Unacknowledged b → Found b)
+      → (IsTrue device.is_transparent → Found a) → (IsTrue device.is_transparent → (b : A) → Unacknowledged b → Found b)
       → ArchiveInvariant spell Applies HasBase device new opened next a Unacknowledged Found
   kept_unhealed disk new opened journal next a Unacknowledged Found k moments keeps elsewhere file same here also = record {
-    images = λ transparent. kept.images_on spell Applies HasBase lower device disk new opened a Unacknowledged Found (k.images transparent) (moments transparent) here also;
+    images = λ transparent. kept.images_on spell Applies HasBase lower device disk new opened a Unacknowledged Found (k.images transparent) (moments transparent) (here transparent) (also transparent);
     log = λ transparent. kept.entries_healed spell Applies HasBase lower device disk new journal next a Unacknowledged (k.log transparent) file (λ faults is. sym same ∙ is) (keeps transparent) elsewhere;
   }

@@ -10,15 +10,16 @@ use Rattle.history_items.specs.declared.fills.Fill.{Fill}
 use Rattle.history_items.specs.Fills.{rows_of_faults, unacknowledged_in}
 use Rattle.history_items.specs.declared.fills.Addition.{Addition}
 use Rattle.history_items.specs.declared.fills.Addition.TheVariants as additions
-use Rattle.history_items.specs.Items.{Item, items_of}
+use Rattle.history_items.specs.declared.items.Item.{Item}
+use Rattle.history_items.specs.Items.{items_of}
 use Rattle.disk_journal.specs.Format.{HasRecords}
 use Rattle.disk_journal.specs.declared.journal.Journal.{Journal}
 use Rattle.field_codec.specs.Spelling.{entry_octets}
 use Rattle.param_segments.specs.Rows.{SetRow}
 use Rattle.store_fills.specs.LastFills.{PlacedFills, fill_over, fillings_in}
-use Rattle.store_fills.specs.Filled.{HoldsRows, IsRightFill}
+use Rattle.store_fills.specs.Filled.{IsRightFill}
 use Rattle.store_fills.specs.Sound.{Fillings, with_filling}
-use Rattle.store_fills.proofs.Soundness.{fill_leaves, rows_leave}
+use Rattle.store_fills.proofs.RightFills.{right_fill_leaves, rows_leave_right}
 use Rattle.arch_types.specs.declared.row.Row.{Row}
 use Rattle.archive_store.specs.declared.head.Head.{Head}
 use Rattle.archive_store.specs.Entries.{Archive, FilledArchive, IsSoundArchive, archive, filled_archive, Applies, Replays}
@@ -66,13 +67,13 @@ stands_for c a s = stands_unfilled c a (stands_filled c a s)
 -- ---- soundness
 
 -- more rows leave an archive sound
-pub rows_sound : (head : Head) (exponent : ℕ) (history : List Item) (fillings : Fillings (List SetRow)) (more : List Item) → IsSoundArchive (filled_archive head exponent history fillings) → IsSoundArchive (filled_archive head exponent (history ++ more) fillings)
-rows_sound head exponent history fillings more sound = rows_leave exponent (List SetRow) (HoldsRows head.mdb) history more fillings sound
+pub rows_sound : (head : Head) (exponent : ℕ) (history : List Item) (fillings : Fillings (List SetRow)) (rows : List Row) → IsSoundArchive (filled_archive head exponent history fillings) → IsSoundArchive (filled_archive head exponent (history ++ items_of rows) fillings)
+rows_sound head exponent history fillings rows sound = rows_leave_right exponent head.mdb history rows fillings sound
 
 -- and so does a fill that is right for it
 pub fill_sound : (head : Head) (exponent : ℕ) (history : List Item) (fillings : Fillings (List SetRow)) (i : Interval) (base : ℕ) (set : List SetRow) → IsSoundArchive (filled_archive head exponent history fillings)
     → IsRightFill exponent head.mdb history i base set → IsSoundArchive (filled_archive head exponent history (with_filling fillings i (fill_over base set)))
-fill_sound head exponent history fillings i base set sound right = fill_leaves exponent (List SetRow) (HoldsRows head.mdb) history fillings i (fill_over base set) sound right.may.within right.holds
+fill_sound head exponent history fillings i base set sound right = right_fill_leaves exponent head.mdb history fillings i base set sound right
 
 -- an image whose archive is sound
 sound_image : (c : Image) (a : FilledArchive) → StandsPlain c a → IsSoundArchive a → IsSoundImage c
@@ -123,13 +124,13 @@ module _ (before : FilledArchive) (head : Head) (exponent : ℕ) (history : List
   found_whole = record { kept = history; holds = begins; begins = prefix_self history; found_is = inl refl; sound = sound }
 
   -- and rows of a fault with it
-  pub found_with : (more : List Item) → Contains in_faults more → IsSinceArchive before (archive head exponent history) in_faults (filled_archive head exponent (history ++ more) fillings)
-  found_with more there = record {
+  pub found_with : (rows : List Row) → Contains in_faults (items_of rows) → IsSinceArchive before (archive head exponent history) in_faults (filled_archive head exponent (history ++ items_of rows) fillings)
+  found_with rows there = record {
     kept = history;
     holds = begins;
     begins = prefix_self history;
-    found_is = inr (more, there, refl);
-    sound = λ was. rows_sound head exponent history fillings more (sound was);
+    found_is = inr (items_of rows, there, refl);
+    sound = λ was. rows_sound head exponent history fillings rows (sound was);
   }
 
   -- the unacknowledged rows are those of a fault
@@ -144,7 +145,7 @@ module _ (before : FilledArchive) (head : Head) (exponent : ℕ) (history : List
     found_is = inl refl;
     sound = λ was. fill_sound head exponent history fillings interval base is.set (sound was) is.right;
   })
-  found_unacknowledged (Some (additions.Rows rows)) there a is = subst (IsSinceArchive before (archive head exponent history) in_faults) (sym is) (found_with (items_of rows) (there rows refl))
+  found_unacknowledged (Some (additions.Rows rows)) there a is = subst (IsSinceArchive before (archive head exponent history) in_faults) (sym is) (found_with rows (there rows refl))
 
 -- as history and faults grow
 pub found_on : (before : FilledArchive) (old new : Archive) (had has : List (List Item)) → new.head ≡ old.head → new.exponent ≡ old.exponent → ((xs : List Item) → IsPrefix xs old.history → IsPrefix xs new.history) → ((more : List Item) → Contains had more → Contains has more)
@@ -184,4 +185,4 @@ module _ {D : Type 0} (device : Device D) where
   -- the fills are sound if those of the opening were
   pub sound_of : (disk opened : D) (journal : Journal) (head : Head) (exponent : ℕ) (history : List Item) (fills : List Fill) (filled : PlacedFills) (pending_fault : Option ℕ)
       → StoreInvariant device disk opened journal head exponent history fills filled pending_fault → IsTrue device.is_transparent → IsSoundImage (device.reads opened) → IsSoundArchive (filled_archive head exponent history (fillings_in filled))
-  sound_of disk opened journal head exponent history fills filled pending_fault k transparent image = k.sound (image (filled_archive head exponent k.before k.fillings) (k.opening transparent))
+  sound_of disk opened journal head exponent history fills filled pending_fault k transparent image = k.sound transparent (image (filled_archive head exponent k.before k.fillings) (k.opening transparent))

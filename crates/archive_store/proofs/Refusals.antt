@@ -1,6 +1,6 @@
 -- Which refusals are which.
-use Rattle.std.proofs.Common.{◌≡◌, inl, ◌≤◌, ℕ, refl, subst, arith}
-use Rattle.std.specs.Prelude.{IsTrue, Result, Ok, Err, IfErr, OnErr}
+use Rattle.std.proofs.Common.{◌≡◌, inl, inr, ◌≤◌, ℕ, refl, subst, arith}
+use Rattle.std.specs.Prelude.{true, false, IsTrue, Result, Ok, Err, IfErr, OnErr}
 use Rattle.arch_disk.specs.Disk.{Device}
 use Rattle.arch_disk.specs.Image.{Image}
 use Rattle.refusals.specs.declared.refusal.Refusal.{Refusal}
@@ -29,7 +29,8 @@ module _ {D : Type 0} (device : Device D) where
   next_refused opening old before after (Damaged at) refusal later cut = λ transparent. (refl, cut transparent at (refusal transparent))
   next_refused opening old before after (NeedsReopen faults) refusal later cut = absurd refusal
   next_refused opening old before after Limit refusal later cut = absurd refusal
-  next_refused opening old before after DiskFault refusal later cut = omega (arith, refusal, later)
+  next_refused opening old before after (DiskFault true) refusal later cut = absurd refusal
+  next_refused opening old before after (DiskFault false) refusal later cut = omega (arith, refusal, later)
   next_refused opening old before after OutOfMemory refusal later cut = tt
 
   -- why no archive was read is why none was opened,
@@ -47,7 +48,8 @@ module _ {D : Type 0} (device : Device D) where
   begin_refused before after (Damaged at) refusal = absurd refusal
   begin_refused before after (NeedsReopen faults) refusal = absurd refusal
   begin_refused before after Limit refusal = absurd refusal
-  begin_refused before after DiskFault refusal = refusal
+  begin_refused before after (DiskFault true) refusal = record { rose = refusal.rose; wrote_most = inr refusal.writes }
+  begin_refused before after (DiskFault false) refusal = record { rose = refusal.rose; wrote_most = inl refusal.writes }
   begin_refused before after OutOfMemory refusal = absurd refusal
 
   -- the refusals of a journal that is made are a creation's
@@ -57,5 +59,5 @@ module _ {D : Type 0} (device : Device D) where
   making_refused before after (Damaged at) refusal = absurd refusal
   making_refused before after (NeedsReopen faults) refusal = absurd refusal
   making_refused before after Limit refusal = absurd refusal
-  making_refused before after DiskFault refusal = refusal
+  making_refused before after (DiskFault wrote) refusal = refusal.0
   making_refused before after OutOfMemory refusal = refusal

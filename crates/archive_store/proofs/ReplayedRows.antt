@@ -20,26 +20,32 @@ use Rattle.replay_merge.specs.RowSource.{IsKeyedRow, IsRowSourceHistory}
 use Rattle.replay_merge.proofs.Bounds.{own_partition, pruned_is_enough}
 use Rattle.replay_merge.proofs.Opening.{rest_at_front}
 use Rattle.replay_merge.proofs.Sources.{each_tested}
+use Rattle.history_items.specs.declared.items.Item.{Item}
+use Rattle.history_items.specs.Items.{rows_in}
+use Rattle.history_items.proofs.ItemLists.{rows_in-append}
 use Rattle.archive_store.specs.declared.head.Head.{Head}
 use Rattle.archive_store.specs.Entries.{IsArchivedRow}
-use Rattle.archive_store.specs.Replays.{IsNamedPart}
+use Rattle.archive_store.specs.Replays.{IsNamedPartition}
 
 -- ---- rows of a source
 
-keyed_rows : (head : Head) (rows : List Row) → AllByRecursion (IsArchivedRow head) rows → AllByRecursion IsKeyedRow rows
-keyed_rows head [] all = tt
-keyed_rows head (row ∷ rows) all =
+keyed_rows : (head : Head) (history : List Item) (rows : List Row) → AllByRecursion (IsArchivedRow head history) rows → AllByRecursion IsKeyedRow rows
+keyed_rows head history [] all = tt
+keyed_rows head history (row ∷ rows) all =
     let stored = all.0.stored in
-    (record { packet = stored.packet; rectime = stored.rectime; key = stored.key }, keyed_rows head rows all.1)
+    (record { packet = stored.packet; rectime = stored.rectime; key = stored.key }, keyed_rows head history rows all.1)
 
-pub source_history : (head : Head) (rows : List Row) → IsHistory rows → AllByRecursion (IsArchivedRow head) rows → IsRowSourceHistory rows
-source_history head rows once all = record { once = once; each = keyed_rows head rows all }
+pub source_history : (head : Head) (history : List Item) (rows : List Row) → IsHistory rows → AllByRecursion (IsArchivedRow head history) rows → IsRowSourceHistory rows
+source_history head history rows once all = record { once = once; each = keyed_rows head history rows all }
 
-pub in_tables : (head : Head) (rows : List Row) → AllByRecursion (IsArchivedRow head) rows → AllByRecursion (λ row. row.table < length head.tables) rows
-in_tables head [] all = tt
-in_tables head (row ∷ rows) all = (all.0.placed.table, in_tables head rows all.1)
+pub in_tables : (head : Head) (history : List Item) (rows : List Row) → AllByRecursion (IsArchivedRow head history) rows → AllByRecursion (λ row. row.table < length head.tables) rows
+in_tables head history [] all = tt
+in_tables head history (row ∷ rows) all = (all.0.placed.table, in_tables head history rows all.1)
 
 -- ---- the first rows of a history that grew
+
+pub rows_begin : (history later : List Item) → IsPrefix history later → IsPrefix (rows_in history) (rows_in later)
+rows_begin history later begins = (rows_in begins.0, sym (rows_in-append history begins.0) ∙ ap rows_in begins.1)
 
 pub first_of_later : {X : Type 0} (history later : List X) (front : ℕ) → front ≡ length history → IsPrefix history later → take front later ≡ history
 first_of_later history later front is begins = ap (λ (n : ℕ). take n later) is ∙ ap (take (length history)) (sym begins.1) ∙ take-append_seam history begins.0
@@ -60,20 +66,20 @@ hold_each bounds table front parts history later is begins exactly =
     subst (λ (rows : List Row). HoldsEachRow parts (rows_asked table bounds.from bounds.to bounds.names rows)) (here ∙ sym there)
     (pruned_is_enough bounds table front parts history (λ p noted may. (exactly p).1 (noted, may)))
 
--- the packet names of partitions that hold a row of a store are containers' numbers
-pub each_named : (head : Head) (table : ℕ) (history : List Row) (bounds : Bounds) (parts : List Partition) → AllByRecursion (IsArchivedRow head) history
-    → ((p : Partition) → Contains parts p ↔ (Contains (partitions_of (filter (is_in_table table) history)) p × MayHold bounds p))
-    → AllByRecursion (IsNamedPart head) parts
-each_named head table history bounds parts all exactly =
-    let rows = filter (is_in_table table) history in
-    let archived : AllByRecursion (IsArchivedRow head) rows = each_tested (IsArchivedRow head) (IsArchivedRow head) (is_in_table table) (λ row is e. is) history all in
-    recursion_from_All (IsNamedPart head) parts (λ k d h.
+-- the packet names of partitions that hold a row of a store are those of its history
+pub each_named : (head : Head) (history : List Item) (table : ℕ) (whole : List Row) (bounds : Bounds) (parts : List Partition) → AllByRecursion (IsArchivedRow head history) whole
+    → ((p : Partition) → Contains parts p ↔ (Contains (partitions_of (filter (is_in_table table) whole)) p × MayHold bounds p))
+    → AllByRecursion (IsNamedPartition head history) parts
+each_named head history table whole bounds parts all exactly =
+    let rows = filter (is_in_table table) whole in
+    let archived : AllByRecursion (IsArchivedRow head history) rows = each_tested (IsArchivedRow head history) (IsArchivedRow head history) (is_in_table table) (λ row is e. is) whole all in
+    recursion_from_All (IsNamedPartition head history) parts (λ k d h.
     let partition = get_or parts k d in
     let noted = ((exactly partition).0 (k, h, default_free parts k partition d h)).0 in
     let row : Row = get_or rows noted.0 (no_row partition) in
     let within : noted.0 < length rows = rw (length-map rows own_partition) at noted.1 in
     let its : own_partition row ≡ partition = sym (get_or-map own_partition rows noted.0 (no_row partition)) ∙ default_free (partitions_of rows) noted.0 (own_partition (no_row partition)) partition noted.1 ∙ noted.2 in
-    subst (IsNamedPart head) its (All-from_recursion (IsArchivedRow head) rows archived noted.0 (no_row partition) within).placed.pname)
+    subst (IsNamedPartition head history) its (All-from_recursion (IsArchivedRow head history) rows archived noted.0 (no_row partition) within).placed.pname)
   where
     no_row : Partition → Row
     no_row partition = record { key = record { time = partition.day; seq = 0 }; rectime = partition.day; packet = []; link = 0; pname = 0; table = 0 }

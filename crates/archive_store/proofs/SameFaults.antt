@@ -7,7 +7,7 @@ use Rattle.intervals.specs.declared.interval.Interval.{Interval}
 use Rattle.history_items.specs.declared.fills.Addition.{Addition}
 use Rattle.history_items.specs.declared.fills.Fill.{Fill}
 use Rattle.history_items.specs.declared.fills.Fill.TheVariants.{Begun, Done, Freed, Fault}
-use Rattle.history_items.specs.Items.{Item}
+use Rattle.history_items.specs.declared.items.Item.{Item}
 use Rattle.history_items.specs.Fills.{rows_of_faults, pending_fault_of, unacknowledged_in, in_flight, above, Rising}
 use Rattle.history_items.specs.FillList.{flights_of}
 use Rattle.history_items.proofs.FillLists.{rows_of_faults-append, pending_fault_of-append}
@@ -133,10 +133,12 @@ module _ {D : Type 0} (device : Device D) where
         begins = k.begins;
         opening = k.opening;
         sound = k.sound;
+        own = k.own;
         archives = subst (λ (o : Option Addition). ArchiveInvariant entry_octets Applies IsPlainLog device disk opened journal now (IsUnacknowledged now o) (IsSinceArchive before (archive head exponent history) (rows_of_faults new))) (sym same.unacknowledged)
             (subst (λ (l : List (List Item)). ArchiveInvariant entry_octets Applies IsPlainLog device disk opened journal now (IsUnacknowledged now (unacknowledged_in fills)) (IsSinceArchive before (archive head exponent history) l)) (sym same.rows) k.archives);
         pending_fault_is = k.pending_fault_is ∙ sym same.pending_fault;
         journal_fault = λ faults is. same.pending_fault ∙ k.journal_fault faults is;
         head_is = k.head_is;
         rows = k.rows;
+        alone = k.alone;
       }

@@ -77,7 +77,7 @@ set_sync : IsSync SegSet.the_row
 set_sync = search (crosses, sendable) depth 60
 
 slot_send : IsSend FilledSlot.the_row
-slot_send = search (crosses, set_send, set_sync, sendable) depth 60
+slot_send = search (crosses, mdb_send, mdb_sync, set_send, set_sync, sendable) depth 60
 
 sets_send : IsSend FilledSets.the_row
 sets_send = search (crosses, slot_send, sendable) depth 60

@@ -14,7 +14,8 @@ use Rattle.arch_types.specs.Order.{is_before, key_cmp}
 use Rattle.arch_types.specs.Table.{is_in_time_range, table_of}
 use Rattle.arch_types.proofs.InOrder.{order_sorted}
 use Rattle.arch_types.proofs.Ranks.{rows_rank}
-use Rattle.history_items.specs.Items.{Item, rows_in}
+use Rattle.history_items.specs.declared.items.Item.{Item}
+use Rattle.history_items.specs.Items.{rows_in}
 use Rattle.interval_fills.specs.Intervals.{rows_of_interval}
 use Rattle.interval_fills.proofs.Intervals.{range_in}
 use Rattle.replay_merge.proofs.Sorting.{ascending}

@@ -7,6 +7,8 @@ use Rattle.arch_types.specs.GenerationTime.{key_of}
 use Rattle.text_forms.specs.ClockTime.{IsClockTime}
 use Rattle.refusals.specs.declared.refusal.Which.TheVariants.{Links, Tables}
 use Rattle.refusals.specs.Limits.{limit_of}
+use Rattle.history_items.specs.declared.items.Item.{Item}
+use Rattle.history_items.specs.Databases.{names_in}
 use Rattle.archive_store.specs.declared.head.Head.{Head}
 use Rattle.archive_store.specs.declared.batch.Arrival.{Arrival}
 use Rattle.archive_store.specs.declared.batch.Batch.{Batch}
@@ -23,21 +25,21 @@ arrival_rows arrival = map (in_table arrival.row) arrival.tables
 abbrev pub batch_rows : Batch → List Row
 batch_rows batch = flat_map arrival_rows batch.arrivals
 
--- the row of a packet that isn't idle, received then by a link from 1 to the limit of links, with a packet name and tables
--- that the head has, not too many
-pub record IsArrival (head : Head) (rectime : ℤ) (arrival : Arrival) : Type 0 where
+-- the row of a packet that isn't idle, received then by a link from 1 to the limit of links, with a packet name that the
+-- history has and tables that the head has, not too many
+pub record IsArrival (head : Head) (history : List Item) (rectime : ℤ) (arrival : Arrival) : Type 0 where
   pub link_low : 1 ≤ arrival.row.link
   pub link_high : arrival.row.link ≤ limit_of Links
   pub packet : IsPacket arrival.row.packet
   pub carries : is_idle arrival.row.packet ≡ false
   pub received : arrival.row.rectime ≡ rectime
   pub key : arrival.row.key ≡ key_of arrival.row.packet rectime
-  pub pname : arrival.row.pname < length head.mdb.containers
+  pub pname : arrival.row.pname < length (names_in head.mdb history)
   pub few_tables : length arrival.tables ≤ limit_of Tables
   pub tables : AllByRecursion (λ table. table < length head.tables) arrival.tables
 
 -- at most 64 arrivals, received at a time in the clock's range
-pub record IsBatch (head : Head) (batch : Batch) : Type 0 where
+pub record IsBatch (head : Head) (history : List Item) (batch : Batch) : Type 0 where
   pub few : length batch.arrivals ≤ 64
   pub rectime : IsClockTime batch.rectime
-  pub each : AllByRecursion (IsArrival head batch.rectime) batch.arrivals
+  pub each : AllByRecursion (IsArrival head history batch.rectime) batch.arrivals

@@ -16,10 +16,11 @@ use Rattle.history_items.specs.Items.{after_rows, items_of}
 use Rattle.history_items.specs.Outcomes.{outcomes_of, fresh_of}
 use Rattle.archive_store.specs.Limits.{IsLimit, IsBelowLimits}
 use Rattle.field_codec.specs.declared.entry.Entry.{Entry}
-use Rattle.field_codec.specs.Spelling.{entry_octets, format_1_exponent}
+use Rattle.intervals.specs.Interval.{format_1_exponent}
+use Rattle.field_codec.specs.Spelling.{entry_octets}
 use Rattle.disk_journal.specs.Calls.{BeginsOpen, IsJournalCreateFailed, IsJournalOpenFailed}
 use Rattle.disk_journal.specs.Format.{HasRecords, HoldsNone}
-use Rattle.store_fills.specs.LastFills.{fillings_in}
+use Rattle.store_fills.specs.LastFills.{AreOwn, fillings_in}
 use Rattle.store_fills.specs.Sound.{no_fillings}
 use Rattle.archive_store.specs.declared.head.Head.{Head}
 use Rattle.archive_store.specs.Entries.{Archive, FilledArchive, archive, dones_of, filled_archive}
@@ -155,6 +156,7 @@ pub record IsStoreOpened {D : Type 0} (device : Device D) (disk : D) (store : St
   pub dones : IsTrue device.is_transparent →
       (es : List Entry) × HasRecords (device.reads disk 0) (map entry_octets es) × (store.fills ≡ dones_of es)
   pub filled : IsTrue device.is_transparent → StandsFilled (device.reads disk) (filled_of store)
+  pub own : AreOwn store.filled
   pub opening : device.reads store.opened ≡ device.reads disk
   pub since : IsTrue device.is_transparent →
       LeavesOnly device store.opened store.disk (λ c. StandsFilled c (filled_of store))
@@ -195,6 +197,7 @@ pub record IsStoreCreated {D : Type 0} (device : Device D) (disk : D) (head : He
   pub history : store.history ≡ []
   pub fills : store.fills ≡ []
   pub filled : fillings_in store.filled ≡ no_fillings
+  pub own : AreOwn store.filled
   pub sound : IsTrue device.is_transparent → IsSoundImage (device.reads store.opened)
   pub head_is : store.head ≡ head
   pub exponent : store.exponent ≡ format_1_exponent

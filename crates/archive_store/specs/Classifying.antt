@@ -6,7 +6,8 @@ use Rattle.std.specs.declared.cmp.Ordering.{Ordering}
 use Rattle.arch_types.specs.Order.{key_cmp}
 use Rattle.arch_types.specs.declared.row.Row.{Row}
 use Rattle.octet_fields.specs.Exact.{IsOctets}
-use Rattle.history_items.specs.Items.{Item, items_of, row_item}
+use Rattle.history_items.specs.declared.items.Item.{Item}
+use Rattle.history_items.specs.Items.{items_of, row_item}
 use Rattle.history_items.specs.Outcomes.{outcomes_of, fresh_of}
 use Rattle.archive_history.specs.History.{is_at_key}
 use Rattle.archive_store.specs.declared.classifying.ClassifiedBatch.{ClassifiedBatch}

@@ -2,11 +2,14 @@
 use Rattle.std.specs.Prelude.{◌≡◌, ◌<◌, ℕ, List, [], ◌∷◌, ◌++◌, length, Option, Some, None}
 use Rattle.std.specs.List.{AllByRecursion}
 use Rattle.intervals.specs.declared.interval.Interval.{Interval}
+use Rattle.intervals.specs.Interval.{format_1_exponent}
 use Rattle.arch_types.specs.declared.row.Row.{Row}
 use Rattle.octet_fields.specs.Exact.{IsOctets}
 use Rattle.history_items.specs.declared.fills.Fill.{Fill}
 use Rattle.history_items.specs.declared.fills.Fill.TheVariants.{Done}
-use Rattle.history_items.specs.Items.{Item, after_rows, items_of, rows_in}
+use Rattle.history_items.specs.declared.items.Item.{Item}
+use Rattle.history_items.specs.Items.{after_rows, items_of, prefix, rows_in}
+use Rattle.history_items.specs.Databases.{database_in, names_in}
 use Rattle.interval_fills.specs.Steps.{IsStoredBase}
 use Rattle.param_segments.specs.Extracted.{IsSetOf}
 use Rattle.param_segments.specs.Octets.{rows_in_octets, set_octets}
@@ -17,7 +20,6 @@ use Rattle.store_fills.specs.Sound.{AreSound, Fillings, no_fillings, with_fillin
 use Rattle.field_codec.specs.declared.entry.Entry.{Entry}
 use Rattle.field_codec.specs.declared.entry.Entry.TheVariants as entries
 use Rattle.field_codec.specs.Entries.{IsArchiveEntry, IsStored}
-use Rattle.field_codec.specs.Spelling.{format_1_exponent}
 use Rattle.archive_store.specs.declared.head.Head.{Head}
 use Rattle.archive_store.specs.Images.{ReplaysBy}
 use Rattle.archive_history.specs.Limits.{IsWithin}
@@ -41,43 +43,46 @@ pub record FilledArchive : Type 0 where
 abbrev pub filled_archive : Head → ℕ → List Item → Fillings (List SetRow) → FilledArchive
 filled_archive head exponent history fillings = record { plain = archive head exponent history; fillings = fillings }
 
--- its fills are sound
+-- its fills are sound by the database in force
 abbrev pub IsSoundArchive : FilledArchive → Type 0
 IsSoundArchive filled =
-    AreSound filled.plain.exponent (HoldsRows filled.plain.head.mdb) filled.plain.history filled.fillings
+    AreSound filled.plain.exponent (HoldsRows (database_in filled.plain.head.mdb filled.plain.history))
+    filled.plain.history filled.fillings
 
--- the table and the packet name of a row are there
-pub record IsPlaced (head : Head) (row : Row) : Type 0 where
+-- the table of a row is one of the head, and its packet name one of the history
+pub record IsPlaced (head : Head) (history : List Item) (row : Row) : Type 0 where
   pub table : row.table < length head.tables
-  pub pname : row.pname < length head.mdb.containers
+  pub pname : row.pname < length (names_in head.mdb history)
 
 -- A row that a store gives: a whole packet of octets that isn't idle, received within the clock's range, with the key
--- that it gives then, in a table that the head has, and of a container that its database names
-pub record IsArchivedRow (head : Head) (row : Row) : Type 0 where
+-- that it gives then, in a table that the head has, and of a packet name that the history has
+pub record IsArchivedRow (head : Head) (history : List Item) (row : Row) : Type 0 where
   pub stored : IsStored row
-  pub placed : IsPlaced head row
+  pub placed : IsPlaced head history row
   pub octets : IsOctets row.packet
 
 -- all rows of an archive are such rows, if there is an archive
 abbrev pub HasArchivedRows : Option FilledArchive → Type 0
 HasArchivedRows None = Unit {0}
-HasArchivedRows (Some filled) = AllByRecursion (IsArchivedRow filled.plain.head) (rows_in filled.plain.history)
+HasArchivedRows (Some filled) =
+    AllByRecursion (IsArchivedRow filled.plain.head filled.plain.history) (rows_in filled.plain.history)
 
 -- Rows that a record may add: they have a spelling, in octets, their tables and names are there, no table has one of the
--- keys, and no limit is passed.
+-- keys, and the rows pass no limit.
 pub record AreAdmitted (old : Archive) (rows : List Row) : Type 0 where
   pub spelled : IsArchiveEntry (entries.Rows rows)
-  pub placed : AllByRecursion (IsPlaced old.head) rows
+  pub placed : AllByRecursion (IsPlaced old.head old.history) rows
   pub octets : AllByRecursion (λ row. IsOctets row.packet) rows
   pub fresh : after_rows old.history rows ≡ old.history ++ items_of rows
-  pub within : IsWithin old.exponent (old.history ++ items_of rows)
+  pub within : IsWithin old.exponent (rows_in old.history ++ rows)
 
 -- A fill that a record may add: it has a spelling, its base is at most the number of items and its interval is that of
--- some row among them, and its octets are those of a set of the interval and of the head's database.
+-- some row among them, and its octets are those of a set of the interval and of the database in force below its base.
 pub record IsFillable (old : FilledArchive) (interval : Interval) (base : ℕ) (octets : List ℕ) : Type 0 where
   pub fits : IsArchiveEntry (entries.Fill interval base octets)
   pub based : IsStoredBase old.plain.exponent interval base old.plain.history
-  pub set : IsSetOf old.plain.head.mdb old.plain.exponent interval.0 (rows_in_octets octets)
+  pub set : IsSetOf (database_in old.plain.head.mdb (prefix base old.plain.history)) old.plain.exponent interval.0
+      (rows_in_octets octets)
   pub spelled : octets ≡ set_octets (rows_in_octets octets)
 
 -- An entry makes an archive of nothing or of what there was: the first is a head, no other is, and rows and fills are

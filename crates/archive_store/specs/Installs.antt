@@ -10,11 +10,14 @@ use Rattle.refusals.specs.declared.refusal.Which.TheVariants.{Records}
 use Rattle.refusals.specs.Limits.{limit_of}
 use Rattle.history_items.specs.declared.fills.Addition.TheVariants as additions
 use Rattle.history_items.specs.Fills.{pending_fault_of}
-use Rattle.interval_fills.specs.Intervals.{NoRowSince}
+use Rattle.history_items.specs.Items.{prefix}
+use Rattle.history_items.specs.Databases.{database_in}
+use Rattle.interval_fills.specs.Intervals.{NoneSince}
 use Rattle.interval_fills.specs.Steps.{InstallsFill, freed}
 use Rattle.store_fills.specs.Built.{BuiltFill}
+use Rattle.store_fills.specs.Filled.{IsRightFill}
 use Rattle.store_fills.specs.LastFills.{fill_over, fillings_in}
-use Rattle.store_fills.specs.Sound.{with_filling}
+use Rattle.store_fills.specs.Sound.{with_filling, without_filling}
 use Rattle.archive_store.specs.Entries.{FilledArchive, filled_archive}
 use Rattle.archive_store.specs.StoreView.{StoreView, AddsFault}
 use Rattle.archive_store.specs.Tasks.{machine_state}
@@ -24,10 +27,24 @@ abbrev pub filled_with : {D : Type 0} → StoreView D → BuiltFill → FilledAr
 filled_with store done = filled_archive store.head store.exponent store.history
     (with_filling (fillings_in store.filled) done.interval (fill_over done.base done.set))
 
--- it is there, in one record more
+-- a fill is of the database that is in force in the store below its base, and of the store's exponent
+abbrev pub IsOwnFill : {D : Type 0} → StoreView D → BuiltFill → Type 0
+IsOwnFill store done =
+    (done.mdb ≡ database_in store.head.mdb (prefix done.base store.history)) × (done.exponent ≡ store.exponent)
+
+-- and it is right for the history
+abbrev pub IsRightFor : {D : Type 0} → StoreView D → BuiltFill → Type 0
+IsRightFor store done =
+    IsOwnFill store done
+    × IsRightFill store.exponent store.head.mdb store.history done.interval done.base done.set
+
+-- it is there, in one record more; the interval has it, but for one of another database or exponent, which is passed over
 pub record FillIsAppended {D : Type 0} (device : Device D) (old new : StoreView D) (done : BuiltFill) : Type 0 where
   pub step : InstallsFill old.exponent (machine_state old) done.interval done.base became.Done (machine_state new)
-  pub filled : fillings_in new.filled ≡ with_filling (fillings_in old.filled) done.interval (fill_over done.base done.set)
+  pub filled : IsOwnFill old done →
+      fillings_in new.filled ≡ with_filling (fillings_in old.filled) done.interval (fill_over done.base done.set)
+  pub passed : (IsOwnFill old done → ⊥) →
+      fillings_in new.filled ≡ without_filling (fillings_in old.filled) done.interval
   pub records : new.records ≡ old.records + 1
   pub no_failed_write : NoWriteFailed device old.disk new.disk
 
@@ -59,13 +76,13 @@ abbrev pub IsInstallRefusal : {D : Type 0} → Device D → StoreView D → Stor
 IsInstallRefusal device old new done (NeedsReopen faults) =
     (pending_fault_of old.fills ≡ Some faults) × IsAbandoned old new done.interval
 IsInstallRefusal device old new done (Limit which number) =
-    (pending_fault_of old.fills ≡ None) × NoRowSince old.exponent done.interval done.base old.history
+    (pending_fault_of old.fills ≡ None) × NoneSince old.exponent done.interval done.base old.history
     × (which ≡ Records) × (number ≡ limit_of Records) × (limit_of Records ≤ old.records)
     × IsAbandoned old new done.interval
 IsInstallRefusal device old new done OutOfMemory =
-    IsInstallable old × NoRowSince old.exponent done.interval done.base old.history × IsAbandoned old new done.interval
+    IsInstallable old × NoneSince old.exponent done.interval done.base old.history × IsAbandoned old new done.interval
 IsInstallRefusal {D = D} device old new done DiskFault =
-    IsInstallable old × NoRowSince old.exponent done.interval done.base old.history
+    IsInstallable old × NoneSince old.exponent done.interval done.base old.history
     × ((failed : StoreView D) × AddsFault device old failed true (additions.Fill done.interval done.base)
     × IsAbandoned failed new done.interval)
 IsInstallRefusal device old new done _ = ⊥

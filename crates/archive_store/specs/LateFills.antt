@@ -2,7 +2,7 @@
 use Rattle.std.specs.Prelude.{ℕ, Bool, false, List, filter}
 use Rattle.std.specs.Option.{option_map_or}
 use Rattle.intervals.specs.declared.interval.Interval.{Interval}
-use Rattle.history_items.specs.Items.{Item}
+use Rattle.history_items.specs.declared.items.Item.{Item}
 use Rattle.history_items.specs.Late.{last_in}
 use Rattle.late_marks.specs.Mark.{is_late_by}
 use Rattle.param_segments.specs.Rows.{SetRow}

@@ -1,9 +1,10 @@
 -- What a reading of an archive gives.
-use Rattle.std.specs.Prelude.{◌≡◌, ◌≤◌, IsTrue, List, [], Option, Some, None, ℕ, map, length, option_map}
+use Rattle.std.specs.Prelude.{◌≡◌, ◌≤◌, IsTrue, List, [], ◌++◌, Option, Some, None, ℕ, map, length, option_map}
 use Rattle.std.specs.List.{AllByRecursion}
 use Rattle.arch_disk.specs.Disk.{Device, raised}
 use Rattle.intervals.specs.declared.interval.Interval.{Interval}
 use Rattle.history_items.specs.declared.fills.Fill.{Fill}
+use Rattle.history_items.specs.Items.{databases_in}
 use Rattle.refusals.specs.declared.refusal.Refusal.{Refusal}
 use Rattle.refusals.specs.declared.refusal.Refusal.TheVariants as refused
 use Rattle.disk_journal.specs.Format.{HasRecords, written}
@@ -17,10 +18,11 @@ use Rattle.field_codec.specs.Entries.{IsArchiveEntry}
 use Rattle.field_codec.specs.Spelling.{entry_octets}
 use Rattle.fill_tracker.specs.FillTracker.{AreMarksOf}
 use Rattle.store_fills.specs.Faults.{IsDone}
+use Rattle.mdb_items.specs.Database.{Database}
 use Rattle.param_segments.specs.Extracted.{IsSetOf}
 use Rattle.param_segments.specs.Octets.{rows_in_octets, set_octets}
 use Rattle.param_segments.specs.Rows.{SetRow}
-use Rattle.store_fills.specs.LastFills.{fillings_in}
+use Rattle.store_fills.specs.LastFills.{AreOwn, fillings_in}
 use Rattle.archive_store.specs.declared.head.Head.{Head}
 use Rattle.archive_store.specs.declared.reading.PartialArchive.{PartialArchive}
 use Rattle.archive_store.specs.declared.reading.ReadArchive.{ReadArchive}
@@ -52,28 +54,36 @@ IsReadHistory (Some made) =
     IsHistoryOf made.head made.history × IsArchiveEntry (entries.Head made.head.tables made.head.mdb)
 
 -- fills that are there were noted and nothing else, the marks are those of the history and of these, and their sets are
--- kept
+-- kept; the history has rows alone
 abbrev pub HasMarks : Option PartialArchive → Type 0
 HasMarks None = Unit {0}
 HasMarks (Some made) =
     AllByRecursion IsDone made.tracker.fills
     × AreMarksOf made.history.exponent made.history.items made.tracker.fills made.tracker.marks
-    × HoldsFills made.head made.history.exponent made.tracker.fills made.sets.filled
+    × HoldsFills made.head made.history.exponent made.history.items made.tracker.fills made.sets.filled
+    × AreOwn made.sets.filled
+    × (databases_in made.history.items ≡ [])
 
--- octets hold this set of an interval of this exponent and of a head's database, or they are the spelling of none
-abbrev pub IsSetRead : Head → ℕ → Interval → List ℕ → Option (List SetRow) → Type 0
-IsSetRead head exponent interval octets None =
-    (rows : List SetRow) → IsSetOf head.mdb exponent interval.0 rows → octets ≡ set_octets rows → ⊥
-IsSetRead head exponent interval octets (Some rows) =
-    IsSetOf head.mdb exponent interval.0 rows × (octets ≡ set_octets rows) × (rows ≡ rows_in_octets octets)
+-- octets hold this set of an interval of this exponent and of a database, or they are the spelling of none
+abbrev pub IsSetRead : Database → ℕ → Interval → List ℕ → Option (List SetRow) → Type 0
+IsSetRead db exponent interval octets None =
+    (rows : List SetRow) → IsSetOf db exponent interval.0 rows → octets ≡ set_octets rows → ⊥
+IsSetRead db exponent interval octets (Some rows) =
+    IsSetOf db exponent interval.0 rows × (octets ≡ set_octets rows) × (rows ≡ rows_in_octets octets)
 
--- the octets of a file are records of entries that make this archive, and the journal has their places
-pub record IsReadArchive (content : List ℕ) (journal : Journal) (found : FilledArchive) : Type 0 where
+-- The octets of a file are records: those that it begins with, and behind them entries that go on from a base to this
+-- archive. The journal has the places of all.
+pub record IsFileRead (content : List ℕ) (beginning : List (List ℕ)) (base : Option FilledArchive) (journal : Journal)
+    (found : FilledArchive) : Type 0 where
   pub entries : List Entry
-  pub has : HasRecords content (map entry_octets entries)
-  pub replays : Replays None entries (Some found)
-  pub extents : journal.extents.items ≡ extents_from 0 (map entry_octets entries)
-  pub end : journal.end ≡ length (written (map entry_octets entries))
+  pub has : HasRecords content (beginning ++ map entry_octets entries)
+  pub replays : Replays base entries (Some found)
+  pub extents : journal.extents.items ≡ extents_from 0 (beginning ++ map entry_octets entries)
+  pub end : journal.end ≡ length (written (beginning ++ map entry_octets entries))
+
+-- the entries of file 0 stand at its beginning, and go on from nothing
+abbrev pub IsReadArchive : List ℕ → Journal → FilledArchive → Type 0
+IsReadArchive content journal found = IsFileRead content [] None journal found
 
 -- the refusal for a fault of a journal that is read
 abbrev pub read_refusal : JournalFault → Refusal
@@ -82,7 +92,7 @@ read_refusal faults.NoArchive = refused.NoArchive
 read_refusal (faults.Damaged at) = refused.Damaged 0 at
 read_refusal (faults.NeedsReopen faults) = refused.DiskFault
 read_refusal faults.Limit = refused.DiskFault
-read_refusal faults.DiskFault = refused.DiskFault
+read_refusal (faults.DiskFault wrote) = refused.DiskFault
 read_refusal faults.OutOfMemory = refused.OutOfMemory
 
 -- the refusal for a fault of a journal that is made
@@ -92,7 +102,7 @@ refusal_of_create faults.NoArchive = refused.DiskFault
 refusal_of_create (faults.Damaged at) = refused.DiskFault
 refusal_of_create (faults.NeedsReopen faults) = refused.DiskFault
 refusal_of_create faults.Limit = refused.DiskFault
-refusal_of_create faults.DiskFault = refused.DiskFault
+refusal_of_create (faults.DiskFault wrote) = refused.DiskFault
 refusal_of_create faults.OutOfMemory = refused.OutOfMemory
 
 -- the journal of file 0 whole, and the archive that its entries make, with their fills in the fill list and all that the type of a store keeps of it

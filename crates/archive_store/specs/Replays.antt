@@ -4,9 +4,11 @@ use Rattle.std.specs.List.{AllByRecursion}
 use mathlib.Core.List.{IsPrefix}
 use Rattle.arch_disk.specs.Disk.{Device}
 use Rattle.asks.specs.declared.ask.ReplayRequest.{ReplayRequest}
-use Rattle.asks.specs.Names.{packet_name_numbers, table_number}
+use Rattle.asks.specs.Names.{table_number}
 use Rattle.arch_types.specs.declared.row.Row.{Row}
-use Rattle.history_items.specs.Items.{Item, rows_in}
+use Rattle.history_items.specs.declared.items.Item.{Item}
+use Rattle.history_items.specs.Items.{rows_in}
+use Rattle.history_items.specs.Databases.{names_in}
 use Rattle.partitions.specs.Rows.{partitions_of}
 use Rattle.archive_history.specs.History.{HistoryView, rows_in_table}
 use Rattle.partitions.specs.declared.bounds.Bounds.{Bounds}
@@ -33,30 +35,25 @@ memory_state rows = record { history = Some rows; faults = 0 }
 -- a history of rows that a store gives, with a table for each name of the head
 pub record IsStoredHistory (head : Head) (history : HistoryView) : Type 0 where
   pub tables : history.tables ≡ length head.tables
-  pub rows : AllByRecursion (IsArchivedRow head) (rows_in history.items)
+  pub rows : AllByRecursion (IsArchivedRow head history.items) (rows_in history.items)
 
 -- ---- replays
-
--- the replay of a request to a table of this number
-abbrev pub replay_asked : Head → ReplayRequest → ℕ → List Row → List Row
-replay_asked head request table history =
-    replay_of table request.from request.to (packet_name_numbers head.mdb request.names) request.limit history
 
 -- A cursor at the front of a history, before the replay of the request over it, also once more rows came to the history.
 pub record IsReplayOpened (head : Head) (history : List Item) (request : ReplayRequest) (c : CursorView) : Type 0 where
   pub table : table_number head.tables request.table ≡ Some c.table
   pub front : c.front ≡ length history
   pub replay : (later : List Item) → IsPrefix history later →
-      rest_of c (rows_in later) ≡ replay_asked head request c.table (rows_in history)
+      rest_of c (rows_in later) ≡ replay_of head.mdb c.table request (rows_in history)
 
 -- ---- partitions
 
 -- the partitions of the rows of a table that may hold one in the bounds, each once, in order
-pub record AreParts (history : List Item) (table : ℕ) (bounds : Bounds) (parts : List Partition) : Type 0 where
+pub record ArePartitions (history : List Item) (table : ℕ) (bounds : Bounds) (parts : List Partition) : Type 0 where
   pub exactly : (p : Partition) → Contains parts p
       ↔ (Contains (partitions_of (rows_in_table table history)) p × MayHold bounds p)
   pub rising : AreRising parts
 
--- the packet name of a partition is a container's number
-abbrev pub IsNamedPart : Head → Partition → Type 0
-IsNamedPart head partition = partition.pname < length head.mdb.containers
+-- the packet name of a partition is one of the history
+abbrev pub IsNamedPartition : Head → List Item → Partition → Type 0
+IsNamedPartition head history partition = partition.pname < length (names_in head.mdb history)

@@ -1,12 +1,13 @@
 -- What contracts see of a store, and what its type keeps.
-use Rattle.std.specs.Prelude.{◌≡◌, ◌⊎◌, ℕ, ◌^◌, ◌≤◌, ◌-◌, Bool, true, false, List, [], ◌∷◌, ◌++◌, min, Contains, Option, Some}
+use Rattle.std.specs.Prelude.{◌≡◌, ◌⊎◌, ℕ, ◌^◌, ◌≤◌, ◌-◌, Bool, List, [], ◌∷◌, ◌++◌, min, Contains, Option, Some}
 use mathlib.Core.List.{IsPrefix}
 use Rattle.arch_disk.specs.Image.{Image}
 use Rattle.arch_disk.specs.Disk.{Device, LeavesOnly, raised}
+use Rattle.disk_journal.specs.Faults.{writes_after}
 use Rattle.history_items.specs.declared.fills.Fill.{Fill}
 use Rattle.history_items.specs.declared.fills.Addition.{Addition}
 use Rattle.history_items.specs.declared.fills.Fill.TheVariants.{Fault}
-use Rattle.history_items.specs.Items.{Item}
+use Rattle.history_items.specs.declared.items.Item.{Item}
 use Rattle.history_items.specs.Fills.{rows_of_faults, pending_fault_of, unacknowledged_in, Rising, above}
 use Rattle.archive_store.specs.declared.head.Head.{Head}
 use Rattle.store_fills.specs.LastFills.{PlacedFills, fillings_in}
@@ -75,11 +76,6 @@ pub record FaultInvariant {D : Type 0} (device : Device D) (store : StoreView D)
   pub writes_later : device.failed_writes store.opened ≤ device.failed_writes store.disk
   pub wrote : (faults : ℕ) → pending_fault_of store.fills ≡ Some faults →
       raised (device.failed_writes store.opened) ≤ device.failed_writes store.disk
-
--- the count of failed writes after a call in which one failed, or none
-abbrev pub writes_after : Bool → ℕ → ℕ
-writes_after true count = raised count
-writes_after false count = count
 
 -- a call of which the disk failed adds one fault, which says whether a write failed and holds what it would have added,
 -- and leaves history and records

@@ -3,8 +3,9 @@ use Rattle.std.specs.Prelude.{◌≡◌, ℕ, List, ◌++◌, Option, Some, None
 use Rattle.intervals.specs.declared.interval.Interval.{Interval}
 use Rattle.history_items.specs.declared.fills.Addition.{Addition}
 use Rattle.history_items.specs.declared.fills.Addition.TheVariants as additions
-use Rattle.history_items.specs.Items.{Item, items_of}
-use Rattle.interval_fills.specs.Intervals.{NoRowSince}
+use Rattle.history_items.specs.declared.items.Item.{Item}
+use Rattle.history_items.specs.Items.{items_of}
+use Rattle.interval_fills.specs.Intervals.{NoneSince}
 use Rattle.param_segments.specs.Rows.{SetRow}
 use Rattle.store_fills.specs.Filled.{IsRightFill}
 use Rattle.store_fills.specs.LastFills.{fill_over}
@@ -20,7 +21,7 @@ with_rows now more = filled_archive now.plain.head now.plain.exponent (now.plain
 pub record IsFilledOnce (now : FilledArchive) (interval : Interval) (base : ℕ) (after : FilledArchive) : Type 0 where
   pub set : List SetRow
   pub right : IsRightFill now.plain.exponent now.plain.head.mdb now.plain.history interval base set
-  pub none_since : NoRowSince now.plain.exponent interval base now.plain.history
+  pub none_since : NoneSince now.plain.exponent interval base now.plain.history
   pub after_is : after ≡ filled_archive now.plain.head now.plain.exponent now.plain.history
       (with_filling now.fillings interval (fill_over base set))
 

@@ -3,6 +3,7 @@
 ghost use Rattle.std.specs.Prelude.{◌≡◌, IfOk, IfErr, Some};
 ghost use Rattle.std.specs.Arc.{arc_value};
 ghost use Rattle.asks.specs.Refusals.{replay_refusal, request_refusal};
+ghost use Rattle.history_items.specs.Databases.{database_in};
 ghost use Rattle.archive_store.specs.Finding.{IsNotFound, IsReplayFound, IsRequestFound, refusal_of_ask};
 
 use crate::store::Store;
@@ -69,11 +70,12 @@ impl FoundRequest {
 impl<D: Disk> Store<D> {
     /// Finds the parameter of a request in the database in force, and asks whether its range is one.
     pub fn find(&self, request: Request) -> Result<FoundRequest, Refusal>
-        ensures found { IfOk result (IsRequestFound self.now.head.mdb) }
+        ensures found { IfOk result (IsRequestFound (database_in self.now.head.mdb self.now.history)) }
         ensures asked { IfOk result (λ found. found.request ≡ request) }
 
         // Refused by UnknownParameter, or else by BadRange; for want of memory where it is neither.
-        ensures refused { IfErr result (IsNotFound (request_refusal self.now.head.mdb request)) }
+        ensures refused { IfErr result (IsNotFound (request_refusal
+            (database_in self.now.head.mdb self.now.history) request)) }
     {
         FoundRequest::of(&self.mdb, request)
     }

@@ -11,7 +11,7 @@ ghost use Rattle.archive_store.specs.Batches.{batch_rows, IsBatch};
 ghost use Rattle.archive_store.specs.Entries.{AreAdmitted};
 ghost use Rattle.refusals.specs.Limits.{limit_of};
 ghost use Rattle.refusals.specs.declared.refusal.Which.TheVariants as limits;
-ghost use Rattle.history_items.specs.Items.{items_of};
+ghost use Rattle.history_items.specs.Items.{items_of, rows_in};
 ghost use Rattle.archive_history.specs.Limits.{IsWithin};
 ghost use Rattle.archive_store.specs.Limits.{IsLimit, limit_of_history};
 
@@ -84,7 +84,7 @@ impl<D: Disk> Store<D> {
 
     /// The first limit that is passed with these rows and their record.
     fn limit_passed(&self, fresh: &[Row]) -> Option<Which>
-        ensures none { IfNone result (IsWithin self.now.exponent (self.now.history ++ items_of fresh.now) ×
+        ensures none { IfNone result (IsWithin self.now.exponent (rows_in self.now.history ++ fresh.now) ×
             (self.now.records < limit_of limits.Records)) }
         ensures first { IfSome result (λ which.
             IsLimit self.now.exponent which self.now.records (self.now.history ++ items_of fresh.now)) }
@@ -128,9 +128,10 @@ impl<D: Disk> Store<D> {
                 let _ = self.history.add_all(fresh);
                 Ok(())
             }
-            Err(_) => {
+            Err(fault) => {
                 let count = self.disk.faults();
-                self.tracker.note_fault(count, true, Addition::Rows(fresh));
+                self.tracker
+                    .note_fault(count, fault.wrote(), Addition::Rows(fresh));
                 self.pending_fault = Some(count);
                 Err(Refusal::DiskFault)
             }
@@ -139,7 +140,7 @@ impl<D: Disk> Store<D> {
 
     /// Adds the rows of a batch whose keys aren't yet in their tables. A batch without such rows makes no device call.
     pub fn ingest(&mut self, alloc: Global, batch: &Batch) -> Result<Ingested, Refusal>
-        requires { IsBatch self.old.head batch.now }
+        requires { IsBatch self.old.head self.old.history batch.now }
 
         // Ok: the rows whose key their table lacked stand behind the history, in one record, if any is new.
         ensures ingested { IfOk result (λ ingest.
@@ -163,7 +164,7 @@ impl<D: Disk> Store<D> {
             Some(faults) => return Err(Refusal::NeedsReopen { faults }),
             None => {}
         }
-        // They tell the proof that the history keeps its limits, and that numbers of containers have 16 bits.
+        // They tell the proof that the history keeps its limits, and that numbers of packet names have 16 bits.
         let _known = self.history.len();
         let _names = self.head.mdb.containers();
         let Ok(classified) = classify(alloc, &self.history, batch) else {

@@ -1,14 +1,13 @@
 //! Fills that are installed.
 
-ghost use Rattle.std.specs.Prelude.{◌≡◌, ◌↔◌, ◌≤◌, ◌<◌, ◌⊎◌, IsTrue, None, Some, OnOk, IfOk, IfErr, IfSome, IfNone};
+ghost use Rattle.std.specs.Prelude.{◌≡◌, ◌↔◌, ◌≤◌, ◌<◌, ◌⊎◌, IsSome, IsTrue, None, Some, OnOk, IfOk, IfErr, IfSome, IfNone};
 ghost use Rattle.arch_disk.specs.Disk.{LeavesOnly};
 ghost use Rattle.refusals.specs.declared.refusal.Which.TheVariants as limits;
 ghost use Rattle.refusals.specs.Limits.{limit_of};
 ghost use Rattle.disk_journal.specs.State.{HasRoom, IsSame};
 ghost use Rattle.history_items.specs.Fills.{pending_fault_of};
 ghost use Rattle.history_items.specs.Late.{last_in};
-ghost use Rattle.interval_fills.specs.Intervals.{NoRowSince};
-ghost use Rattle.store_fills.specs.Filled.{IsRightFill};
+ghost use Rattle.interval_fills.specs.Intervals.{NoneSince};
 
 use crate::store::Store;
 use arch_disk::Disk;
@@ -38,7 +37,7 @@ fn prepare_fill(
 }
 
 impl<D: Disk> Store<D> {
-    ghost use Rattle.archive_store.specs.Installs.{FillIsAppended, IsFillRefusal, IsInstallRefusal, IsStoreInstalled, filled_with};
+    ghost use Rattle.archive_store.specs.Installs.{FillIsAppended, IsFillRefusal, IsInstallRefusal, IsRightFor, IsStoreInstalled, filled_with};
     ghost use Rattle.archive_store.specs.Stands.{StandsFilled};
     ghost use Rattle.archive_store.specs.StoreView.{OnlyAppends, filled_of};
     ghost use Rattle.disk_journal.specs.Calls.{CountsNeverFall};
@@ -47,7 +46,7 @@ impl<D: Disk> Store<D> {
     fn later_row(&self, interval: Interval, base: u64) -> Option<u64>
         ensures later { IfSome result (λ p.
             (base ≤ p) × (last_in self.now.exponent interval self.now.history ≡ Some p)) }
-        ensures none { IfNone result (NoRowSince self.now.exponent interval base self.now.history) }
+        ensures none { IfNone result (NoneSince self.now.exponent interval base self.now.history) }
     {
         let last = self.tracker.last(interval)?;
         if last < base {
@@ -63,13 +62,20 @@ impl<D: Disk> Store<D> {
         self.journal.count() >= Which::Records.limit()
     }
 
-    /// Appends a fill to the disk, and then it is the interval's. All memory is taken before the first device call.
+    /// Whether an interval has rows.
+    fn has_row(&self, interval: Interval) -> bool
+        ensures { IsTrue result ↔ IsSome (last_in self.now.exponent interval self.now.history) }
+    {
+        self.tracker.last(interval).is_some()
+    }
+
+    /// Appends a fill to the disk, and then it is the interval's. All memory is taken before the first device call. A fill
+    /// of an interval without rows is refused like want of memory; one of another database is kept, and passed over.
     fn append_fill(&mut self, done: Filled) -> Result<(), Refusal>
         requires healed { pending_fault_of self.old.fills ≡ None }
         requires records { self.old.records < limit_of limits.Records }
-        requires right { IsRightFill self.old.exponent self.old.head.mdb self.old.history
-            done.interval done.base done.set }
-        requires none { NoRowSince self.old.exponent done.interval done.base self.old.history }
+        requires right { IsTrue D.device.is_transparent → IsRightFor self.old done }
+        requires none { NoneSince self.old.exponent done.interval done.base self.old.history }
         ensures appended { OnOk result (FillIsAppended D.device self.old self.new done) }
         ensures refused { IfErr result (IsFillRefusal D.device self.old self.new done) }
         ensures crash { IsTrue D.device.is_transparent → LeavesOnly D.device self.old.disk self.new.disk
@@ -79,23 +85,27 @@ impl<D: Disk> Store<D> {
     {
         let interval = done.interval();
         let base = done.base();
+        if !self.has_row(interval) {
+            return Err(Refusal::OutOfMemory);
+        }
+        let own = done.is_of(&self.mdb, self.history.exponent());
         // It tells the proof that the marks have the interval's rows.
         let _row = self.tracker.last(interval);
         let prepared = prepare_fill(&mut self.journal, &mut self.tracker, &mut self.sets);
         let Ok(()) = prepared else {
             return Err(Refusal::OutOfMemory);
         };
-        let parts = done.into_parts();
+        let parts = done.into_parts(own);
         match self.journal.append(&mut self.disk, &parts.0) {
             Ok(_) => {
                 self.tracker.finish(interval, base);
-                self.sets.put(interval, base, parts.1);
+                self.sets.put(interval, parts.1);
                 Ok(())
             }
-            Err(_) => {
+            Err(fault) => {
                 let count = self.disk.faults();
                 self.tracker
-                    .note_fault(count, true, Addition::Fill { interval, base });
+                    .note_fault(count, fault.wrote(), Addition::Fill { interval, base });
                 self.pending_fault = Some(count);
                 Err(Refusal::DiskFault)
             }
@@ -103,9 +113,12 @@ impl<D: Disk> Store<D> {
     }
 
     /// Installs a fill: its set is the interval's from now on. Where a row of the interval came at or after its base it is
-    /// given up, and so it is where the call is refused.
+    /// given up, and so it is where the call is refused. A disk that tells nothing asks nothing of the fill: one of another
+    /// database or exponent is kept then, and passed over by who reads sets, and one of an interval without rows is refused
+    /// like want of memory.
     pub fn install(&mut self, done: Filled) -> Result<Installed, Refusal>
-        requires { IsRightFill self.old.exponent self.old.head.mdb self.old.history done.interval done.base done.set }
+        // Where the disk tells what it holds, the fill is of the store's database, and right for the history.
+        requires { IsTrue D.device.is_transparent → IsRightFor self.old done }
 
         // Ok: the fill stands in one record more; or it is stale, by the last row of its interval.
         ensures installed { IfOk result (IsStoreInstalled D.device self.old self.new done) }

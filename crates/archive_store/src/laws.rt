@@ -1,6 +1,6 @@
 //! Laws of what an image of the disk stands for, of replays, rows and limits, carried by functions that do nothing.
 
-ghost use Rattle.archive_store.specs.Laws.{ArchivedRowsHaveClockTimes, ArchivesAreOne, ArchivesAreWhole, CalmStoresAreKept, DamageIsOne, ExponentsAreOfFormat1, FillsAreOne, HistoryLimitsAgree, NoneIsNone, ReplaysKeepTheirFront};
+ghost use Rattle.archive_store.specs.Laws.{ArchivedRowsHaveClockTimes, ArchivesAreOne, ArchivesAreWhole, CalmStoresAreKept, DamageIsOne, ExponentsAreOfFormat1, FileDamageIsOne, FileZeroIsAll, FilesAreOne, FilesAreWhole, FillsAreOne, HistoryLimitsAgree, NoneIsNone, ReplaysKeepTheirFront};
 
 use crate::store::Store;
 use arch_disk::Disk;
@@ -29,6 +29,26 @@ pub fn damage_is_one()
 /// An image that stands for an archive is not damaged.
 pub fn archives_are_whole()
     ensures { ArchivesAreWhole }
+{}
+
+/// The records of a file make one archive at most, by those that it begins with and by what its entries go on from.
+pub fn files_are_one()
+    ensures { FilesAreOne }
+{}
+
+/// They are damaged at one gate at most.
+pub fn file_damage_is_one()
+    ensures { FileDamageIsOne }
+{}
+
+/// Where they make an archive they are not damaged.
+pub fn files_are_whole()
+    ensures { FilesAreWhole }
+{}
+
+/// An image stands for the archive that file 0 makes.
+pub fn file_zero_is_all()
+    ensures { FileZeroIsAll }
 {}
 
 /// An image that holds no archive stands for none, and is not damaged.

@@ -34,7 +34,7 @@
 //             let Some(task) = store.begin(alloc)? else {
 //                 return Ok(());
 //             };
-//             match Filled::of(alloc, task, &store.head().mdb) {
+//             match Filled::of(alloc, task, store.mdb()) {
 //                 Ok(filled) => {
 //                     let _ = store.install(filled)?;
 //                 }

@@ -7,17 +7,18 @@ ghost use Rattle.disk_journal.specs.Calls.{BeginsOpen};
 ghost use Rattle.disk_journal.specs.Reading.{IsAt, file_read, IsReadJournal};
 ghost use Rattle.refusals.specs.declared.refusal.Refusal.TheVariants.{Damaged};
 ghost use Rattle.octet_fields.specs.Exact.{IsOctets};
-ghost use Rattle.std.specs.Arc.{arc_value};
 ghost use Rattle.history_items.specs.declared.fills.Fill.TheVariants as noted;
 ghost use Rattle.late_marks.specs.Marks.{has_rows};
 ghost use Rattle.fill_tracker.specs.FillTracker.{KeepsMarks};
+ghost use Rattle.history_items.specs.Items.{databases_in, items_of};
 ghost use Rattle.interval_fills.specs.Steps.{IsStoredBase};
-ghost use Rattle.store_fills.specs.LastFills.{fill_over, fillings_in};
-ghost use Rattle.store_fills.specs.Sound.{no_fillings, with_filling};
+ghost use Rattle.store_fills.specs.LastFills.{slots_in, with_slot};
+ghost use Rattle.store_fills.specs.Sound.{no_fillings};
 ghost use Rattle.field_codec.specs.declared.entry.Entry.{Entry as AnEntry};
 ghost use Rattle.field_codec.specs.declared.entry.Entry.TheVariants as entries;
 ghost use Rattle.field_codec.specs.Entries.{IsArchiveEntry};
-ghost use Rattle.field_codec.specs.Spelling.{entry_octets, format_1_exponent};
+ghost use Rattle.intervals.specs.Interval.{format_1_exponent};
+ghost use Rattle.field_codec.specs.Spelling.{entry_octets};
 ghost use Rattle.archive_store.specs.Entries.{filled_archive, Applies, AreAdmitted, FilledArchive, IsFillable, IsPlaced, dones_of};
 ghost use Rattle.archive_store.specs.Inside.{IsHistoryOf};
 ghost use Rattle.archive_store.specs.PartialArchive.{archive_made, fills_made, filled_made, plain_made, IsSetRead, HasMarks, IsReadHistory, read_refusal, IsArchiveRead, IsArchiveReadRefusal};
@@ -33,11 +34,12 @@ use disk_journal::{Journal, JournalFault, Opening};
 use field_codec::{Entry, NotAnEntry, read_shared};
 use fill_tracker::FillTracker;
 use intervals::{Exponent, Interval};
+use mdb_model::Mdb;
 use param_segments::{NotASegment, SegSet};
 use refusals::Refusal;
 use std::alloc::{AllocError, Global};
 use std::sync::Arc;
-use store_fills::LastFills;
+use store_fills::{LastFill, LastFills};
 
 /// What the entries so far have made.
 #[derive(Drop)]
@@ -70,12 +72,13 @@ fn of_head(alloc: Global, head: Head) -> Result<PartialArchive, AllocError>
 }
 
 /// Whether the tables and packet names of rows are there.
-fn are_placed(head: &Head, rows: &[Row]) -> bool
-    ensures placed { IsTrue result ↔ AllByRecursion (IsPlaced head.now) rows.now }
+fn are_placed(made: &PartialArchive, rows: &[Row]) -> bool
+    requires { databases_in made.now.history.items ≡ [] }
+    ensures placed { IsTrue result ↔ AllByRecursion (IsPlaced made.now.head made.now.history.items) rows.now }
     ensures octets { IsTrue result → AllByRecursion (λ row. IsOctets row.packet) rows.now }
 {
-    let tables = head.tables.as_slice().len();
-    let names = head.mdb.containers();
+    let tables = made.head.tables.as_slice().len();
+    let names = made.head.mdb.containers();
     for row in rows {
         packet_is_octets(&row.packet);
         if row.table as usize >= tables || row.pname >= names {
@@ -91,7 +94,7 @@ fn admit(made: &mut PartialArchive, rows: Rows) -> Result<bool, AllocError>
     requires tables { IsHistoryOf made.old.head made.old.history }
     requires marks { HasMarks (Some made.old) }
     ensures yes { IfOk result (λ ok. ok ≡ true → AreAdmitted (plain_made made.old) rows
-        × (made.new.history.items ≡ made.old.history.items ++ rows)) }
+        × (made.new.history.items ≡ made.old.history.items ++ items_of rows)) }
     ensures no { IfOk result (λ ok. ok ≡ false → AreAdmitted (plain_made made.old) rows → ⊥) }
     ensures head { (made.new.head ≡ made.old.head) × (made.new.sets.filled ≡ made.old.sets.filled) }
     ensures fills { made.new.tracker.fills ≡ made.old.tracker.fills }
@@ -99,7 +102,7 @@ fn admit(made: &mut PartialArchive, rows: Rows) -> Result<bool, AllocError>
         × (made.new.history.exponent ≡ made.old.history.exponent) }
     ensures marks { IfOk result (λ ok. ok ≡ true → HasMarks (Some made.new)) }
 {
-    if !are_placed(&made.head, rows.as_slice()) {
+    if !are_placed(made, rows.as_slice()) {
         return Ok(false);
     }
     if made.history.limit_passed(rows.as_slice()).is_some() {
@@ -130,34 +133,33 @@ fn may_fill(made: &PartialArchive, interval: Interval, base: u64) -> bool
 fn note_fill(
     made: &mut PartialArchive,
     interval: Interval,
-    base: u64,
-    set: Arc<SegSet, Global>,
+    slot: LastFill,
 ) -> Result<(), AllocError>
     requires { has_rows made.old.tracker.marks interval ≡ true }
-    ensures fills { OnOk result (made.new.tracker.fills ≡ made.old.tracker.fills ++ noted.Done interval base ∷ []) }
+    ensures fills { OnOk result (made.new.tracker.fills ≡ made.old.tracker.fills ++ noted.Done interval slot.base ∷ []) }
     ensures marks { OnOk result (KeepsMarks made.old.tracker made.new.tracker) }
-    ensures sets { OnOk result (fillings_in made.new.sets.filled
-        ≡ with_filling (fillings_in made.old.sets.filled) interval (fill_over base (arc_value set))) }
+    ensures sets { OnOk result (slots_in made.new.sets.filled
+        ≡ with_slot (slots_in made.old.sets.filled) interval slot) }
     ensures rest { (made.new.head ≡ made.old.head) × (made.new.history ≡ made.old.history) }
 {
     made.tracker.reserve()?;
     made.sets.reserve()?;
-    made.tracker.finish(interval, base);
-    made.sets.put(interval, base, set);
+    made.tracker.finish(interval, slot.base);
+    made.sets.put(interval, slot);
     Ok(())
 }
 
-/// The set of a fill, or none where its octets are no set of the interval.
+/// The set of a fill, or none where its octets are no set of the interval and of a database.
 fn read_set(
     alloc: Global,
     interval: Interval,
     exponent: Exponent,
     octets: Octets,
-    head: &Head,
+    mdb: &Mdb,
 ) -> Result<Option<SegSet>, AllocError>
-    ensures { IfOk result (IsSetRead head.now exponent interval octets) }
+    ensures { IfOk result (IsSetRead mdb.now exponent interval octets) }
 {
-    match SegSet::from_octets(alloc, interval, exponent, octets, &head.mdb) {
+    match SegSet::from_octets(alloc, interval, exponent, octets, mdb) {
         Ok(set) => Ok(Some(set)),
         Err(NotASegment::Malformed) => Ok(None),
         Err(NotASegment::OutOfMemory) => Err(AllocError),
@@ -184,12 +186,26 @@ fn admit_fill(
     if !may_fill(made, interval, base) {
         return Ok(false);
     }
-    let found = read_set(alloc, interval, made.history.exponent(), octets, &made.head)?;
+    let found = read_set(
+        alloc,
+        interval,
+        made.history.exponent(),
+        octets,
+        &made.head.mdb,
+    )?;
     let Some(set) = found else {
         return Ok(false);
     };
+    let mdb = made.head.mdb.copy()?;
     let shared = Arc::new(alloc, set)?;
-    note_fill(made, interval, base, shared)?;
+    let slot = LastFill {
+        base,
+        exponent: made.history.exponent(),
+        mdb,
+        own: true,
+        set: shared,
+    };
+    note_fill(made, interval, slot)?;
     Ok(true)
 }
 
@@ -277,7 +293,7 @@ pub(crate) fn refusal_of(fault: JournalFault) -> Refusal
         JournalFault::Exists
         | JournalFault::NeedsReopen { .. }
         | JournalFault::Limit
-        | JournalFault::DiskFault => Refusal::DiskFault,
+        | JournalFault::DiskFault { .. } => Refusal::DiskFault,
     }
 }
 

@@ -4,14 +4,15 @@ ghost use Rattle.std.specs.Prelude.{◌≡◌, ◌<◌, ◌≤◌, ◌++◌, Lis
 ghost use Rattle.std.specs.List.{AllByRecursion, filter_map};
 ghost use mathlib.Core.List.{IsPrefix};
 ghost use Rattle.refusals.specs.declared.refusal.Refusal.TheVariants.{OutOfMemory};
-ghost use Rattle.history_items.specs.Items.{Item, rows_in};
+ghost use Rattle.history_items.specs.declared.items.Item.{Item};
+ghost use Rattle.history_items.specs.Items.{rows_in};
 ghost use Rattle.archive_history.specs.PartitionedTable.{named_times_of};
 ghost use Rattle.archive_history.specs.History.{rows_in_table};
 ghost use Rattle.archive_store.specs.Finding.{IsReplayFound};
-ghost use Rattle.archive_store.specs.Replays.{replay_asked};
 ghost use Rattle.histogram.specs.Times.{spans_of_times, times_of};
 ghost use Rattle.asks.specs.Names.{packet_name_number, packet_name_numbers};
 ghost use Rattle.replay_merge.specs.Cursor.{rest_of};
+ghost use Rattle.replay_merge.specs.Replay.{replay_of};
 
 use crate::finding::FoundReplay;
 use crate::head::Head;
@@ -78,7 +79,7 @@ fn cursor_at_front(
     ensures table { IfOk result (λ c. c.table ≡ table) }
     ensures front { IfOk result (λ c. c.front ≡ length history.now.items) }
     ensures replay { IfOk result (λ c. (later : List Item) → IsPrefix history.now.items later →
-        rest_of c (rows_in later) ≡ replay_asked head.now request.now table (rows_in history.now.items)) }
+        rest_of c (rows_in later) ≡ replay_of head.now.mdb table request.now (rows_in history.now.items)) }
 {
     let names = asked_numbers(alloc, head, &request.names)?;
     let bounds = bounds_of(request, names);
@@ -88,7 +89,7 @@ fn cursor_at_front(
 }
 
 impl<D: Disk> Store<D> {
-    ghost use Rattle.archive_store.specs.Replays.{AreParts, IsNamedPart, IsReplayOpened};
+    ghost use Rattle.archive_store.specs.Replays.{ArePartitions, IsNamedPartition, IsReplayOpened};
     ghost use Rattle.replay_merge.specs.Cursor.{AsksTheSame, steps_at_most, EndsExactly, IsRowAsked};
 
     /// Opens the replay of a request whose table was found: of the rows that its table holds now, whatever comes to the
@@ -141,10 +142,10 @@ impl<D: Disk> Store<D> {
     /// The partitions of a table that hold a row and may hold one in the bounds, by day and then by the packet name's number.
     pub fn parts(&self, table: u8, bounds: &Bounds) -> Result<PartList, Refusal>
         requires { table < length self.now.head.tables }
-        ensures parts { IfOk result (AreParts self.now.history table bounds.now) }
+        ensures parts { IfOk result (ArePartitions self.now.history table bounds.now) }
 
         // Whether or not the disk tells its contents.
-        ensures named { IfOk result (λ parts. AllByRecursion (IsNamedPart self.now.head) parts) }
+        ensures named { IfOk result (λ parts. AllByRecursion (IsNamedPartition self.now.head self.now.history) parts) }
         ensures only { IfErr result (λ e. e ≡ OutOfMemory) }
     {
         Ok(self.history.pruned(table, bounds)?)

@@ -1,12 +1,14 @@
 //! What a retrieval needs of the store.
 
-ghost use Rattle.std.specs.Prelude.{◌≡◌, ◌≤◌, ◌<ℤ◌, map, IsSome, IsTrue, IfOk, IfErr, length};
+ghost use Rattle.std.specs.Prelude.{◌≡◌, ◌≤◌, ◌<ℤ◌, ◌^◌, map, IsSome, IsTrue, IfOk, IfErr, length};
 ghost use Rattle.std.specs.Arc.{arc_value};
 ghost use Rattle.std.specs.List.{AllByRecursion};
 ghost use Rattle.refusals.specs.declared.refusal.Refusal.TheVariants.{OutOfMemory};
+ghost use Rattle.history_items.specs.Databases.{database_in, names_in};
 ghost use Rattle.history_items.specs.Late.{last_in};
 ghost use Rattle.interval_walks.specs.Turns.{CoverRange, IntervalsRise};
 ghost use Rattle.param_segments.specs.Plans.{HasValuesOf, part_interval, rows_of_parts};
+ghost use Rattle.store_fills.specs.LastFills.{fillings_in};
 ghost use Rattle.archive_store.specs.Plans.{IsPlan, IsPlanPart, IsRangeInterval, plan_intervals};
 ghost use Rattle.archive_store.specs.Stands.{IsSoundImage};
 
@@ -79,7 +81,8 @@ impl<D: Disk> Store<D> {
         )
     }
 
-    /// What a plan has of an interval that has rows of table `tm`: its set, where it isn't late, else its rows.
+    /// What a plan has of an interval that has rows of table `tm`: its set, where it isn't late and the set is read, else
+    /// its rows.
     fn part_of(&self, alloc: Global, interval: Interval) -> Result<Part, AllocError>
         requires { IsSome (last_in self.now.exponent interval self.now.history) }
         ensures part { IfOk result (IsPlanPart self.now) }
@@ -100,10 +103,12 @@ impl<D: Disk> Store<D> {
         request: &Request,
         mdb: Arc<Mdb, Global>,
     ) -> Result<Plan, AllocError>
-        requires { arc_value mdb ≡ self.now.head.mdb }
+        requires { arc_value mdb ≡ database_in self.now.head.mdb self.now.history }
         ensures planned { IfOk result (IsPlan self.now request.now.from request.now.to) }
         ensures over { IsTrue D.device.is_transparent → IsSoundImage (D.device.reads self.now.opened) →
             IfOk result (IsPlanOver self.now.head self.now.history request.now.from request.now.to) }
+        ensures steps { IfOk result (λ plan. length (rows_of_parts plan.parts) ≤ length (late_rows_of_range
+            self.now.exponent self.now.history (fillings_in self.now.filled) request.now.from request.now.to)) }
     {
         let intervals = self.range_intervals(alloc, request)?;
         let parts = parts_of(alloc, self, intervals.as_slice())?;
@@ -118,28 +123,38 @@ impl<D: Disk> Store<D> {
     /// What a retrieval reads: the sets of the intervals that its range meets, and the rows of those that are late. The
     /// request was found in the database in force, which the plan shares. The one error is want of memory.
     pub fn plan(&mut self, alloc: Global, found: &FoundRequest) -> Result<Plan, AllocError>
-        requires in_force { arc_value found.now.mdb ≡ self.old.head.mdb }
+        requires in_force { arc_value found.now.mdb ≡ database_in self.old.head.mdb self.old.history }
         ensures planned { IfOk result (IsPlan self.old found.now.request.from found.now.request.to) }
 
-        // Whatever the disk reads as, a set's values are of the database.
-        ensures values { IfOk result (λ plan. AllByRecursion (HasValuesOf self.old.head.mdb) plan.parts) }
+        // Whatever the disk reads as, a set's values are of the database in force.
+        ensures values { IfOk result (λ plan. AllByRecursion
+            (HasValuesOf (database_in self.old.head.mdb self.old.history)) plan.parts) }
 
         // Where the fills of the disk were sound when it was opened, the parts are over the rows of the range.
         ensures over { IsTrue D.device.is_transparent → IsSoundImage (D.device.reads self.old.opened) → IfOk result
             (IsPlanOver self.old.head self.old.history found.now.request.from found.now.request.to) }
 
-        // Rows are left to extract of late intervals that meet the range alone.
+        // Rows are left to extract of late intervals that meet the range alone, by the fills that are read.
         ensures steps { IfOk result (λ plan. length (rows_of_parts plan.parts) ≤ length (late_rows_of_range
-            self.old.exponent self.old.history self.old.fills found.now.request.from found.now.request.to)) }
+            self.old.exponent self.old.history (fillings_in self.old.filled)
+            found.now.request.from found.now.request.to)) }
         ensures same { self.new ≡ self.old }
     {
         let mdb = Arc::try_clone(&found.mdb)?;
         self.planned(alloc, &found.request, mdb)
     }
 
-    /// The packet names, in the order of their numbers.
+    /// How many packet names the history has: at most 65,536.
+    pub fn name_count(&self) -> usize
+        ensures count { result ≡ length (names_in self.now.head.mdb self.now.history) }
+        ensures few { result ≤ 2 ^ 16 }
+    {
+        self.head.mdb.containers() as usize
+    }
+
+    /// The packet names of the history, in the order of their numbers.
     pub fn names(&self, alloc: Global) -> Result<Names, Refusal>
-        ensures names { IfOk result (λ names. names ≡ map (λ c. c.name) self.now.head.mdb.containers) }
+        ensures names { IfOk result (λ names. names ≡ names_in self.now.head.mdb self.now.history) }
         ensures only { IfErr result (λ e. e ≡ OutOfMemory) }
     {
         match container_names(alloc, &self.head.mdb) {

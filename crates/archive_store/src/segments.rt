@@ -2,12 +2,13 @@
 
 ghost use Rattle.std.specs.Prelude.{◌≡◌, ◌⊎◌, ℕ, List, Some, None, IfOk, IfSome, IfNone, IsTrue};
 ghost use Rattle.std.specs.Arc.{arc_value};
-ghost use Rattle.history_items.specs.Items.{Item};
+ghost use Rattle.history_items.specs.declared.items.Item.{Item};
+ghost use Rattle.history_items.specs.Databases.{database_in};
 ghost use Rattle.history_items.specs.Late.{IsLate};
 ghost use Rattle.fill_tracker.specs.FillTracker.{AreMarksOf};
 ghost use Rattle.interval_fills.specs.Intervals.{rows_of_interval};
 ghost use Rattle.store_fills.specs.Filled.{HoldsRows};
-ghost use Rattle.store_fills.specs.LastFills.{filling_of, fillings_in};
+ghost use Rattle.store_fills.specs.LastFills.{fillings_in, slots_in};
 ghost use Rattle.archive_store.specs.CurrentSets.{IsCurrentSet};
 ghost use Rattle.archive_store.specs.Stands.{IsSoundImage};
 
@@ -20,14 +21,15 @@ use std::alloc::{AllocError, Global};
 use std::sync::Arc;
 use store_fills::{LastFill, LastFills};
 
-/// The last fill of an interval that isn't late, where it was filled.
+/// The last fill of an interval that isn't late, where it was filled. One that isn't of the store's database and exponent
+/// is passed over.
 pub(crate) fn current_fill<'a>(
     tracker: &FillTracker,
     sets: &'a LastFills,
     interval: Interval,
 ) -> Option<&'a LastFill>
-    ensures filled { IfSome result (λ slot. fillings_in sets.now.filled interval ≡ Some (filling_of slot.now)) }
-    ensures current { IfSome result (λ slot. (exponent : ℕ) (history : List Item) →
+    ensures filled { IfSome result (λ fill. (slots_in sets.now.filled interval ≡ Some fill.now) × IsTrue fill.now.own) }
+    ensures current { IfSome result (λ fill. (exponent : ℕ) (history : List Item) →
         AreMarksOf exponent history tracker.now.fills tracker.now.marks →
         IsLate exponent interval history tracker.now.fills → ⊥) }
     ensures none { IfNone result ((exponent : ℕ) (history : List Item) →
@@ -37,7 +39,13 @@ pub(crate) fn current_fill<'a>(
     if tracker.is_late(interval) {
         return None;
     }
-    sets.get(interval)
+    let Some(fill) = sets.get(interval) else {
+        return None;
+    };
+    if fill.own {
+        return Some(fill);
+    }
+    None
 }
 
 /// The set of a fill, shared. The one error is want of memory.
@@ -56,7 +64,8 @@ impl<D: Disk> Store<D> {
 
         // Where the fills of the disk were sound when it was opened, the set holds what the interval's rows give.
         ensures holds { IsTrue D.device.is_transparent → IsSoundImage (D.device.reads self.now.opened) →
-            IfOk result (λ o. IfSome o (λ set. HoldsRows self.now.head.mdb (arc_value set)
+            IfOk result (λ o. IfSome o (λ set.
+            HoldsRows (database_in self.now.head.mdb self.now.history) (arc_value set)
             (rows_of_interval self.now.exponent interval self.now.history))) }
     {
         let Some(fill) = current_fill(&self.tracker, &self.sets, interval) else {

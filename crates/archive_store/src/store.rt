@@ -1,6 +1,6 @@
 //! The store.
 
-ghost use Rattle.std.specs.Prelude.{◌≡◌, [], IsTrue, length, IfOk, IfErr, None};
+ghost use Rattle.std.specs.Prelude.{◌≡◌, ◌↔◌, [], IsTrue, length, IfOk, IfErr, None, Some};
 ghost use Rattle.arch_disk.specs.Disk.{LeavesOnly};
 ghost use Rattle.disk_journal.specs.State.{IsUntouched};
 ghost use Rattle.field_codec.specs.declared.entry.Entry.TheVariants as entries;
@@ -8,6 +8,7 @@ ghost use Rattle.field_codec.specs.Entries.{IsArchiveEntry};
 ghost use Rattle.field_codec.specs.Spelling.{entry_octets};
 ghost use Rattle.arch_types.specs.History.{IsHistory};
 ghost use Rattle.history_items.specs.Items.{rows_in};
+ghost use Rattle.history_items.specs.Databases.{database_in};
 ghost use Rattle.archive_history.specs.Limits.{IsWithin};
 ghost use Rattle.archive_store.specs.Entries.{IsArchivedRow};
 ghost use Rattle.std.specs.List.{AllByRecursion};
@@ -38,7 +39,7 @@ pub struct Store<D: Disk> {
     pub(crate) opened: Snapshot<D>,
     pub(crate) journal: Journal,
     pub(crate) head: Head,
-    /// The head's database, which plans share.
+    /// The database in force, which plans share.
     pub(crate) mdb: Arc<Mdb, Global>,
     pub(crate) history: History,
     /// What happened to fills, with the late marks of the history.
@@ -53,6 +54,7 @@ impl<D: Disk> Model for Store<D> {
     ghost use Rattle.std.specs.Prelude.{◌≡◌, length};
     ghost use Rattle.std.specs.Arc.{arc_value};
     ghost use Rattle.fill_tracker.specs.FillTracker.{AreMarksOf};
+    ghost use Rattle.history_items.specs.Databases.{database_in};
     ghost use Rattle.archive_store.specs.StoreView.{StoreView};
     ghost use Rattle.archive_store.specs.Inside.{view_of, HoldsFills, StoreInvariant};
 
@@ -64,9 +66,9 @@ impl<D: Disk> Model for Store<D> {
     ghost invariant = { λ s.
         StoreInvariant D.device s.disk s.opened.value s.journal s.head s.history.exponent s.history.items
         s.tracker.fills s.sets.filled s.pending_fault
-        × (s.history.tables ≡ length s.head.tables) × (arc_value s.mdb ≡ s.head.mdb)
+        × (s.history.tables ≡ length s.head.tables) × (arc_value s.mdb ≡ database_in s.head.mdb s.history.items)
         × AreMarksOf s.history.exponent s.history.items s.tracker.fills s.tracker.marks
-        × HoldsFills s.head s.history.exponent s.tracker.fills s.sets.filled };
+        × HoldsFills s.head s.history.exponent s.history.items s.tracker.fills s.sets.filled };
 }
 
 /// A record with this head.
@@ -89,7 +91,7 @@ fn refusal_of_create(fault: JournalFault) -> Refusal
         | JournalFault::Damaged { .. }
         | JournalFault::NeedsReopen { .. }
         | JournalFault::Limit
-        | JournalFault::DiskFault => Refusal::DiskFault,
+        | JournalFault::DiskFault { .. } => Refusal::DiskFault,
     }
 }
 
@@ -123,8 +125,9 @@ fn prepare_new(alloc: Global, head: Head) -> Result<NewArchive, AllocError>
 impl<D: Disk> Store<D> {
     ghost use Rattle.intervals.specs.declared.interval.Interval.{Interval as AnInterval};
     ghost use Rattle.history_items.specs.Fills.{base_in, pending_fault_of};
-    ghost use Rattle.store_fills.specs.LastFills.{fillings_in};
-    ghost use Rattle.store_fills.specs.Sound.{base_of_filling};
+    ghost use Rattle.store_fills.specs.declared.last_fills.LastFill.{LastFill as LastFillOf};
+    ghost use Rattle.store_fills.specs.LastFills.{AreOwn, base_of_slot, slots_in};
+    ghost use Rattle.archive_store.specs.CurrentSets.{IsOfHistory};
     ghost use Rattle.archive_store.specs.Entries.{IsSoundArchive};
     ghost use Rattle.archive_store.specs.Stands.{IsSoundImage};
     ghost use Rattle.archive_store.specs.StoreView.{CrashInvariant, FaultInvariant, IsKeptWithFills, filled_of};
@@ -254,8 +257,9 @@ impl<D: Disk> Store<D> {
     /// The length of the history.
     pub fn front(&self) -> u64
         ensures front { result ≡ length self.now.history }
-        ensures history { IsHistory (rows_in self.now.history) × IsWithin self.now.exponent self.now.history }
-        ensures rows { AllByRecursion (IsArchivedRow self.now.head) (rows_in self.now.history) }
+        ensures history { IsHistory (rows_in self.now.history)
+            × IsWithin self.now.exponent (rows_in self.now.history) }
+        ensures rows { AllByRecursion (IsArchivedRow self.now.head self.now.history) (rows_in self.now.history) }
         ensures images { IsTrue D.device.is_transparent → CrashInvariant D.device self.now }
         ensures faults { FaultInvariant D.device self.now }
 
@@ -268,7 +272,13 @@ impl<D: Disk> Store<D> {
             IsSoundArchive (filled_of self.now) }
 
         // The fill list and the fills that are there tell one base of each interval.
-        ensures bases { (i : AnInterval) → base_in i self.now.fills ≡ base_of_filling (fillings_in self.now.filled) i }
+        ensures bases { (i : AnInterval) → base_in i self.now.fills ≡ base_of_slot (slots_in self.now.filled) i }
+
+        // A fill is read exactly where it is of the database in force below its base and of the store's exponent, as each
+        // is where the disk tells what it holds.
+        ensures own { (i : AnInterval) (slot : LastFillOf) → slots_in self.now.filled i ≡ Some slot →
+            IsTrue slot.own ↔ IsOfHistory self.now.head self.now.exponent self.now.history slot }
+        ensures all_own { IsTrue D.device.is_transparent → AreOwn self.now.filled }
     {
         self.history.len() as u64
     }
@@ -280,12 +290,19 @@ impl<D: Disk> Store<D> {
         &self.disk
     }
 
-    /// The tables and the mission database.
+    /// The tables, and the mission database that the archive began with.
     pub fn head(&self) -> &Head
         ensures head { result.now ≡ self.now.head }
         ensures sound { IsArchiveEntry (entries.Head self.now.head.tables self.now.head.mdb) }
     {
         &self.head
+    }
+
+    /// The mission database in force. Takes no memory.
+    pub fn mdb(&self) -> &Mdb
+        ensures { result.now ≡ database_in self.now.head.mdb self.now.history }
+    {
+        &self.mdb
     }
 
     /// The exponent of the archive's intervals. Takes no memory.

@@ -10,12 +10,14 @@ use Rattle.std.proofs.lemmas.Int.{ints}
 use Rattle.intervals.specs.declared.interval.Interval.{Interval}
 use Rattle.history_items.specs.declared.fills.Fill.{Fill}
 use Rattle.history_items.specs.Fills.{base_in, is_same}
-use Rattle.history_items.specs.Items.{Item}
+use Rattle.history_items.specs.declared.items.Item.{Item}
+use Rattle.history_items.specs.declared.items.Item.TheVariants as items
+use Rattle.history_items.specs.Items.{rows_in}
 use Rattle.history_items.specs.Late.{IsLastIn, IsLate, StandsIn, is_late_in, last_in}
 use Rattle.history_items.proofs.Late.{last_is_greatest, late_by_last}
 use Rattle.late_marks.specs.Mark.{is_late_by}
 use Rattle.interval_fills.proofs.Steps.{same_interval}
-use Rattle.interval_walks.specs.Counts.{AreApart, intervals_in, item_interval, late_intervals, with_interval}
+use Rattle.interval_walks.specs.Counts.{AreApart, intervals_in, row_interval, late_intervals, with_interval}
 use Rattle.interval_walks.specs.Turns.{IntervalsRise}
 use Rattle.interval_walks.proofs.Counts.{as_many, intervals_apart, interval_there}
 use Rattle.store_fills.specs.Sound.{base_of_filling}
@@ -50,25 +52,33 @@ pushed test (i ∷ is) x h = go (test i) (pushed test is x) h
     go false later h = later h
 
 module _ (ex : ℕ) (i : Interval) where
-  stands_from : (history : List Item) (is : List Interval) → list_any (is_same i) (fold (with_interval ex) is history) ≡ true → (list_any (is_same i) is ≡ true) ⊎ ((p : ℕ) × StandsIn ex i p history)
-  stands_from [] is h = inl h
-  stands_from (item ∷ history) is h = later (stands_from history (with_interval ex is item) h)
-    where
-      here : (item.table == 0) ≡ true → is_same i (item_interval ex item) ≡ true → StandsIn ex i 0 (item ∷ history)
-      here table same = record { row = item; there = refl; table = eqb-true item.table 0 table; time = sym ((Decides-int_eq i.0 (item_interval ex item).0).0 same) }
+  -- whether it was there before, or a row of it stands in the history
+  abbrev IsThere : List Interval → List Item → Type 0
+  IsThere is history = (list_any (is_same i) is ≡ true) ⊎ ((p : ℕ) × StandsIn ex i p history)
 
-      parted : (item.table == 0) ≡ true → (list_any (is_same i) is ≡ true) ⊎ (is_same i (item_interval ex item) ≡ true) → (list_any (is_same i) is ≡ true) ⊎ ((p : ℕ) × StandsIn ex i p (item ∷ history))
+  further : (item : Item) (history : List Item) (is : List Interval) → IsThere is history → IsThere is (item ∷ history)
+  further item history is (inl before) = inl before
+  further item history is (inr s) = inr (suc s.0, record { row = s.1.row; there = s.1.there; table = s.1.table; time = s.1.time })
+
+  stands_from : (history : List Item) (is : List Interval) → list_any (is_same i) (fold (with_interval ex) is (rows_in history)) ≡ true → IsThere is history
+  stands_from [] is h = inl h
+  stands_from (items.Mdb database ∷ history) is h = further (items.Mdb database) history is (stands_from history is h)
+  stands_from (items.Row row ∷ history) is h = later (stands_from history (with_interval ex is row) h)
+    where
+      here : (row.table == 0) ≡ true → is_same i (row_interval ex row) ≡ true → StandsIn ex i 0 (items.Row row ∷ history)
+      here table same = record { row = row; there = refl; table = eqb-true row.table 0 table; time = sym ((Decides-int_eq i.0 (row_interval ex row).0).0 same) }
+
+      parted : (row.table == 0) ≡ true → (list_any (is_same i) is ≡ true) ⊎ (is_same i (row_interval ex row) ≡ true) → IsThere is (items.Row row ∷ history)
       parted table (inl before) = inl before
       parted table (inr same) = inr (0, here table same)
 
-      added : (b : Bool) → ((item.table == 0) && not (list_any (is_same (item_interval ex item)) is)) ≡ b → list_any (is_same i) (if b then is ++ item_interval ex item ∷ [] else is) ≡ true
-          → (list_any (is_same i) is ≡ true) ⊎ ((p : ℕ) × StandsIn ex i p (item ∷ history))
-      added true e h = parted (and_parts (item.table == 0) (not (list_any (is_same (item_interval ex item)) is)) e).0 (pushed (is_same i) is (item_interval ex item) h)
+      added : (b : Bool) → ((row.table == 0) && not (list_any (is_same (row_interval ex row)) is)) ≡ b → list_any (is_same i) (if b then is ++ row_interval ex row ∷ [] else is) ≡ true → IsThere is (items.Row row ∷ history)
+      added true e h = parted (and_parts (row.table == 0) (not (list_any (is_same (row_interval ex row)) is)) e).0 (pushed (is_same i) is (row_interval ex row) h)
       added false e h = inl h
 
-      later : (list_any (is_same i) (with_interval ex is item) ≡ true) ⊎ ((p : ℕ) × StandsIn ex i p history) → (list_any (is_same i) is ≡ true) ⊎ ((p : ℕ) × StandsIn ex i p (item ∷ history))
-      later (inl h) = added ((item.table == 0) && not (list_any (is_same (item_interval ex item)) is)) refl h
-      later (inr s) = inr (suc s.0, record { row = s.1.row; there = s.1.there; table = s.1.table; time = s.1.time })
+      later : IsThere (with_interval ex is row) history → IsThere is (items.Row row ∷ history)
+      later (inl h) = added ((row.table == 0) && not (list_any (is_same (row_interval ex row)) is)) refl h
+      later (inr s) = further (items.Row row) history is (inr s)
 
 counted_stands : (ex : ℕ) (i : Interval) (history : List Item) → list_any (is_same i) (intervals_in ex history) ≡ true → (p : ℕ) × StandsIn ex i p history
 counted_stands ex i history h = go (stands_from ex i history [] h)
@@ -84,7 +94,7 @@ last_stands ex i history some = go (last_in ex i history) (last_is_greatest ex i
   where
     go : (o : Option ℕ) → IsLastIn ex i history o → IsSome o → (p : ℕ) × StandsIn ex i p history
     go None never some = absurd cc
-    go (Some last) row some = (last, row.0)
+    go (Some last) row some = (row.0.position, row.0.stands)
 
 among_has : (ex : ℕ) (i : Interval) (history : List Item) (is : List Interval) → AllByRecursion (λ j. IsSome (last_in ex j history)) is → list_any (is_same i) is ≡ true → IsSome (last_in ex i history)
 among_has ex i history [] all h = absurd (true≢false (sym h))

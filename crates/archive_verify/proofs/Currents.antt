@@ -7,24 +7,26 @@ use Rattle.std.proofs.lemmas.Bool.Decides.{nat_tests}
 use Rattle.arch_types.specs.declared.cell.Cell.{Cell}
 use Rattle.intervals.specs.declared.interval.Interval.{Interval}
 use Rattle.history_items.specs.Fills.{base_in, is_same}
-use Rattle.history_items.specs.Late.{IsLate}
+use Rattle.history_items.specs.Late.{IsLate, last_in}
 use Rattle.interval_fills.proofs.Growing.{none_since, punctual}
 use Rattle.interval_fills.proofs.Steps.{same_interval}
 use Rattle.interval_walks.specs.Turns.{IntervalsRise}
 use Rattle.param_segments.specs.Cells.{set_cells}
 use Rattle.param_segments.specs.Rows.{SetRow}
-use Rattle.store_fills.specs.Sound.{Filling, base_of_filling}
-use Rattle.store_fills.specs.LastFills.{fill_over, fillings_in}
+use Rattle.store_fills.specs.Sound.{Filling}
+use Rattle.store_fills.specs.LastFills.{fill_over, fillings_in, base_of_slot, slots_in}
+use Rattle.store_fills.proofs.Bases.{base_there}
 use Rattle.archive_store.specs.Entries.{FilledArchive}
 use Rattle.archive_store.specs.StoreView.{StoreView, filled_of}
 use Rattle.archive_store.specs.CurrentSets.{IsCurrentSet}
+use Rattle.archive_store.proofs.CurrentSets.{last_row}
 use Rattle.refusals.specs.declared.refusal.Refusal.{Refusal}
 use Rattle.refusals.specs.declared.refusal.Refusal.TheVariants.{Mismatch}
 use Rattle.archive_verify.specs.declared.differences.CellDifference.{CellDifference}
 use Rattle.archive_verify.specs.declared.compared_sets.SetDifference.{SetDifference}
 use Rattle.archive_verify.specs.Differences.{IsFirstDifference}
 use Rattle.archive_verify.specs.ComparedSets.{IsFirstSetDifference}
-use Rattle.archive_verify.specs.Verified.{HoldBelow, HoldCurrentFills, HoldsInterval, HoldsWhereCurrent, IsCurrentFill, IsFirstMismatch, IsIntervalMismatch, IsMismatchOf, IsVerifyRefusal, database_in, replayed_cells}
+use Rattle.archive_verify.specs.Verified.{HoldBelow, HoldCurrentFills, HoldsInterval, HoldsWhereCurrent, IsCurrentFill, IsFirstMismatch, IsIntervalMismatch, IsMismatchOf, IsVerifyRefusal, database_of, replayed_cells}
 use Rattle.archive_verify.proofs.FirstDifferences.{differ_not_same, one_difference}
 
 some_is : {A : Type 0} (x y : A) → ◌≡◌ {A = Option A} (Some x) (Some y) → x ≡ y
@@ -37,32 +39,32 @@ one_fill filled i f g is other = some_is f g (sym is.there ∙ other.there)
 -- ---- of a store
 
 -- the set that stands for an interval is that of its current fill
-pub current_of : {D : Type 0} (store : StoreView D) (i : Interval) (set : List SetRow) → ((j : Interval) → base_in j store.fills ≡ base_of_filling (fillings_in store.filled) j) → (is : IsCurrentSet store i set) → IsCurrentFill (filled_of store) i (fill_over is.base set)
-current_of store i set bases is = record {
+pub current_of : {D : Type 0} (store : StoreView D) (i : Interval) (set : List SetRow) → ((j : Interval) → base_in j store.fills ≡ base_of_slot (slots_in store.filled) j) → IsSome (last_in store.exponent i store.history) → (is : IsCurrentSet store i set) → IsCurrentFill (filled_of store) i (fill_over is.base set)
+current_of store i set bases some is = record {
   there = is.filled;
-  current = none_since store.exponent i is.base store.history store.fills (bases i ∙ ap (λ (o : Option (Filling (List SetRow))). base_of_filling (λ _. o) i) is.filled) is.current;
+  current = none_since store.exponent i is.base store.history store.fills (bases i ∙ base_there store.filled i (fill_over is.base set) is.filled) is.current (last_row store.exponent store.history i some);
 }
 
 -- where no set is told of an interval, no fill stands for it
-pub none_current : {D : Type 0} (store : StoreView D) (i : Interval) → ((j : Interval) → base_in j store.fills ≡ base_of_filling (fillings_in store.filled) j) → IsLate store.exponent i store.history store.fills ⊎ (fillings_in store.filled i ≡ None) → HoldsWhereCurrent (filled_of store) i
+pub none_current : {D : Type 0} (store : StoreView D) (i : Interval) → ((j : Interval) → base_in j store.fills ≡ base_of_slot (slots_in store.filled) j) → IsLate store.exponent i store.history store.fills ⊎ (fillings_in store.filled i ≡ None) → HoldsWhereCurrent (filled_of store) i
 none_current store i bases (inl late) f is =
-    absurd (punctual store.exponent i f.base store.history store.fills (bases i ∙ ap (λ (o : Option (Filling (List SetRow))). base_of_filling (λ _. o) i) is.there) is.current late)
+    absurd (punctual store.exponent i f.base store.history store.fills (bases i ∙ base_there store.filled i f is.there) is.current late)
 none_current store i bases (inr none) f is = absurd (let both : None ≡ Some f = sym none ∙ is.there in cc)
 
 -- a difference of the current set from the one that an interval's rows give is a mismatch
 pub mismatch_of_sets : (filled : FilledArchive) (i : Interval) (f : Filling (List SetRow)) (replayed : List SetRow) (d : SetDifference) → IsCurrentFill filled i f
-    → ((q : ℕ) → set_cells (database_in filled) q replayed ≡ replayed_cells filled i q) → IsFirstSetDifference (database_in filled) f.set replayed d → IsIntervalMismatch filled i d
+    → ((q : ℕ) → set_cells (database_of filled) q replayed ≡ replayed_cells filled i q) → IsFirstSetDifference (database_of filled) f.set replayed d → IsIntervalMismatch filled i d
 mismatch_of_sets filled i f replayed d current gives is = record {
   fill = f;
   current = current;
   known = is.known;
-  first = subst (λ (cells : List Cell). IsFirstDifference (set_cells (database_in filled) d.parameter f.set) cells d.cells) (gives d.parameter) is.first;
+  first = subst (λ (cells : List Cell). IsFirstDifference (set_cells (database_of filled) d.parameter f.set) cells d.cells) (gives d.parameter) is.first;
   before = λ q lt. is.before q lt ∙ gives q;
 }
 
 -- where they don't differ, the current fill holds what the rows give
 pub holds_of_sets : (filled : FilledArchive) (i : Interval) (f : Filling (List SetRow)) (replayed : List SetRow) → IsCurrentFill filled i f
-    → ((q : ℕ) → set_cells (database_in filled) q replayed ≡ replayed_cells filled i q) → ((q : ℕ) → set_cells (database_in filled) q f.set ≡ set_cells (database_in filled) q replayed) → HoldsWhereCurrent filled i
+    → ((q : ℕ) → set_cells (database_of filled) q replayed ≡ replayed_cells filled i q) → ((q : ℕ) → set_cells (database_of filled) q f.set ≡ set_cells (database_of filled) q replayed) → HoldsWhereCurrent filled i
 holds_of_sets filled i f replayed current gives same g is =
     subst (λ (h : Filling (List SetRow)). HoldsInterval filled i h) (one_fill filled i f g current is) (λ q. same q ∙ gives q)
 
@@ -71,7 +73,7 @@ holds_of_sets filled i f replayed current gives same g is =
 -- a fill that stands for an interval with a mismatch doesn't hold what the rows give
 pub mismatch_not_held : (filled : FilledArchive) (i : Interval) (d : SetDifference) → IsIntervalMismatch filled i d → HoldsWhereCurrent filled i → ⊥
 mismatch_not_held filled i d is holds =
-    differ_not_same (set_cells (database_in filled) d.parameter is.fill.set) (replayed_cells filled i d.parameter) d.cells is.first (holds is.fill is.current d.parameter)
+    differ_not_same (set_cells (database_of filled) d.parameter is.fill.set) (replayed_cells filled i d.parameter) d.cells is.first (holds is.fill is.current d.parameter)
 
 pub mismatch_unsound : (filled : FilledArchive) (i : Interval) (d : SetDifference) → IsFirstMismatch filled i d → HoldCurrentFills filled → ⊥
 mismatch_unsound filled i d is holds = mismatch_not_held filled i d is.here (holds i)
@@ -98,7 +100,7 @@ one_here : (filled : FilledArchive) (i : Interval) (c d : SetDifference) → IsI
 one_here filled i c d is other = both parameter
   where
     cells : ℕ → Filling (List SetRow) → List Cell
-    cells q f = set_cells (database_in filled) q f.set
+    cells q f = set_cells (database_of filled) q f.set
 
     not_below : (x y : SetDifference) → IsIntervalMismatch filled i x → IsIntervalMismatch filled i y → x.parameter < y.parameter → ⊥
     not_below x y first second lt =
@@ -175,7 +177,7 @@ first_of_all store is interval d filled here below = record {
 
 -- the refusal that names it is one of the archive
 pub named_refusal : {D : Type 0} (store : StoreView D) (is : List Interval) (interval : Interval) (d : SetDifference) (refusal : Refusal) → ((j : Interval) → IsSome (fillings_in store.filled j) → list_any (is_same j) is ≡ true)
-    → IsIntervalMismatch (filled_of store) interval d → HoldBelow (filled_of store) is interval → IsMismatchOf store.head.mdb interval d refusal → IsVerifyRefusal (filled_of store) refusal
+    → IsIntervalMismatch (filled_of store) interval d → HoldBelow (filled_of store) is interval → IsMismatchOf (database_of (filled_of store)) interval d refusal → IsVerifyRefusal (filled_of store) refusal
 named_refusal store is interval d (Mismatch i name key stored replayed) filled here below of =
     let first = first_of_all store is interval d filled here below in record {
       parameter = d.parameter;

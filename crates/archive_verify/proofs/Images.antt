@@ -6,7 +6,8 @@ use Rattle.intervals.specs.declared.interval.Interval.{Interval}
 use Rattle.field_codec.specs.declared.entry.Entry.{Entry}
 use Rattle.field_codec.specs.declared.entry.Entry.TheVariants as entries
 use Rattle.history_items.specs.Fills.{is_same}
-use Rattle.history_items.specs.Items.{Item, items_of}
+use Rattle.history_items.specs.declared.items.Item.{Item}
+use Rattle.history_items.specs.Items.{items_of}
 use Rattle.param_segments.specs.Rows.{SetRow}
 use Rattle.store_fills.specs.Sound.{Filling, Fillings, with_filling}
 use Rattle.archive_store.specs.Entries.{Applies, FilledArchive, IsSoundArchive, Replays}

@@ -8,8 +8,9 @@ use Rattle.refusals.specs.declared.refusal.Refusal.{Refusal}
 use Rattle.refusals.specs.declared.refusal.Refusal.TheVariants.{Mismatch, OutOfMemory}
 use Rattle.mdb_items.specs.Database.{Database}
 use Rattle.container_extract.specs.Extraction.{cell_of}
+use Rattle.history_items.specs.Databases.{database_in}
 use Rattle.history_items.specs.Fills.{is_same}
-use Rattle.interval_fills.specs.Intervals.{NoRowSince, rows_of_interval}
+use Rattle.interval_fills.specs.Intervals.{NoneSince, rows_of_interval}
 use Rattle.interval_walks.specs.Counts.{intervals_in, late_intervals}
 use Rattle.param_segments.specs.Cells.{set_cells}
 use Rattle.param_segments.specs.Rows.{SetRow}
@@ -22,26 +23,26 @@ use Rattle.archive_verify.specs.declared.differences.CellDifference.{CellDiffere
 use Rattle.archive_verify.specs.declared.verified.Sound.{Sound}
 use Rattle.archive_verify.specs.Differences.{IsFirstDifference}
 
--- the archive's database, and the rows of an interval in its history
-abbrev pub database_in : FilledArchive → Database
-database_in filled = filled.plain.head.mdb
+-- the database in force in an archive
+abbrev pub database_of : FilledArchive → Database
+database_of filled = database_in filled.plain.head.mdb filled.plain.history
 
 -- the cells of a parameter that an interval's rows give
 abbrev pub replayed_cells : FilledArchive → Interval → ℕ → List Cell
 replayed_cells filled interval q =
-    filter_map (cell_of (database_in filled) q) (rows_of_interval filled.plain.exponent interval filled.plain.history)
+    filter_map (cell_of (database_of filled) q) (rows_of_interval filled.plain.exponent interval filled.plain.history)
 
 -- ---- sound
 
--- a fill stands for an interval: it is the interval's, and no row of the interval came at or after its base
+-- a fill stands for an interval: it is the interval's, and nothing changed the interval at or after its base
 pub record IsCurrentFill (filled : FilledArchive) (interval : Interval) (f : Filling (List SetRow)) : Type 0 where
   pub there : filled.fillings interval ≡ Some f
-  pub current : NoRowSince filled.plain.exponent interval f.base filled.plain.history
+  pub current : NoneSince filled.plain.exponent interval f.base filled.plain.history
 
 -- it holds the cells that the interval's rows give of each parameter
 abbrev pub HoldsInterval : FilledArchive → Interval → Filling (List SetRow) → Type 0
 HoldsInterval filled interval f =
-    HoldsRows (database_in filled) f.set (rows_of_interval filled.plain.exponent interval filled.plain.history)
+    HoldsRows (database_of filled) f.set (rows_of_interval filled.plain.exponent interval filled.plain.history)
 
 -- so does the fill that stands for an interval, if one does
 abbrev pub HoldsWhereCurrent : FilledArchive → Interval → Type 0
@@ -63,11 +64,11 @@ HoldBelow filled intervals bound = (other : Interval) → list_any (is_same othe
 pub record IsIntervalMismatch (filled : FilledArchive) (interval : Interval) (d : SetDifference) : Type 0 where
   pub fill : Filling (List SetRow)
   pub current : IsCurrentFill filled interval fill
-  pub known : d.parameter < length (database_in filled).parameters
-  pub first : IsFirstDifference (set_cells (database_in filled) d.parameter fill.set)
+  pub known : d.parameter < length (database_of filled).parameters
+  pub first : IsFirstDifference (set_cells (database_of filled) d.parameter fill.set)
       (replayed_cells filled interval d.parameter) d.cells
   pub before : (q : ℕ) → q < d.parameter →
-      set_cells (database_in filled) q fill.set ≡ replayed_cells filled interval q
+      set_cells (database_of filled) q fill.set ≡ replayed_cells filled interval q
 
 -- the least interval of which that holds
 pub record IsFirstMismatch (filled : FilledArchive) (interval : Interval) (d : SetDifference) : Type 0 where
@@ -85,7 +86,7 @@ IsMismatchOf db interval d _ = ⊥
 pub record IsNamedMismatch (filled : FilledArchive) (interval : Interval) (name : List ℕ) (d : CellDifference) : Type 0 where
   pub parameter : ℕ
   pub first : IsFirstMismatch filled interval (record { parameter = parameter; cells = d })
-  pub named : slice_get (map (λ p. p.name) (database_in filled).parameters) parameter ≡ Some name
+  pub named : slice_get (map (λ p. p.name) (database_of filled).parameters) parameter ≡ Some name
 
 -- why an archive is not found sound: its first mismatch, or want of memory
 abbrev pub IsVerifyRefusal : FilledArchive → Refusal → Type 0

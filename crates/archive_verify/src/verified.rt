@@ -52,7 +52,7 @@ fn interval_difference<D: Disk>(
     let Some(stored) = store.segments(interval)? else {
         return Ok(None);
     };
-    let mdb = &store.head().mdb;
+    let mdb = store.mdb();
     mdb.is_sound();
     let rows = store.interval_rows(alloc, interval)?;
     let replayed = SegSet::build(alloc, interval, store.exponent(), &rows, mdb)?;
@@ -122,21 +122,24 @@ fn mismatch_of(
     })
 }
 
-/// Compares the set of each interval that isn't late with what the interval's rows give. It changes nothing.
+/// Compares the set of each interval that isn't late with what the interval's rows give.
 ///
 /// Refuses by `Mismatch` at the least interval, parameter and key that differ, and else by `OutOfMemory` alone.
-pub fn verify<D: Disk>(alloc: Global, store: &Store<D>) -> Result<Sound, Refusal>
+pub fn verify<D: Disk>(alloc: Global, store: &mut Store<D>) -> Result<Sound, Refusal>
     // Ok: each fill that stands for an interval holds the cells that the interval's rows give.
-    ensures sound { IfOk result (λ _. HoldCurrentFills (filled_of store.now)) }
-    ensures counted { IfOk result (IsCounted store.now) }
+    ensures sound { IfOk result (λ _. HoldCurrentFills (filled_of store.old)) }
+    ensures counted { IfOk result (IsCounted store.old) }
 
     // Refused: the first cell that is stored otherwise than rows give it, or want of memory.
-    ensures refused { IfErr result (IsVerifyRefusal (filled_of store.now)) }
+    ensures refused { IfErr result (IsVerifyRefusal (filled_of store.old)) }
+
+    // Whatever it answers, it has changed nothing.
+    ensures same { store.new ≡ store.old }
 {
     let rows = store.front();
     let intervals = store.intervals(alloc)?;
     if let Some(difference) = first_difference_among(alloc, store, intervals.as_slice())? {
-        return Err(mismatch_of(alloc, &store.head().mdb, difference)?);
+        return Err(mismatch_of(alloc, store.mdb(), difference)?);
     }
     Ok(Sound {
         rows,

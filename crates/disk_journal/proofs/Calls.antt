@@ -1,15 +1,16 @@
 -- The records of a journal as a function of what its file reads as, and what the words on its calls say of any records that it has.
-use Rattle.std.proofs.Common.{◌≡◌, ◌≢◌, ◌⊎◌, inl, inr, ⊎_elim, ℕ, ◌+◌, ◌-◌, ◌^◌, ◌<◌, ◌≤◌, List, [], ◌∷◌, ◌++◌, length, map, take, drop, None, refl, sym, ◌∙◌, ap, subst, arith, append_assoc, length-append, Some}
-use Rattle.std.specs.Prelude.{◌↔◌, IsTrue, Result, Ok, Err, IfOk, IfErr, IsErrAnd}
+use Rattle.std.proofs.Common.{◌≡◌, ◌⊎◌, inl, inr, ⊎_elim, ℕ, ◌+◌, ◌-◌, ◌^◌, ◌<◌, ◌≤◌, List, [], ◌∷◌, ◌++◌, length, map, take, drop, None, refl, sym, ◌∙◌, ap, subst, arith, append_assoc, length-append, Some}
+use Rattle.std.specs.Prelude.{◌↔◌, Bool, true, false, IsTrue, Result, Ok, Err, IfOk, IfErr, IsErrAnd}
 use Rattle.std.specs.Int.{w32, from_be_bytes}
 use Rattle.std.proofs.lemmas.List.{append-nil, take_at, drop_at, drop-drop}
 use Rattle.arch_disk.specs.Image.{Image}
 use Rattle.arch_disk.specs.Disk.{Device, LeavesOnly, OnlyReads, raised}
 use Rattle.arch_disk.proofs.Moments.{weakens, at_end}
+use Rattle.disk_journal.specs.Faults.{TellsWrites, writes_after}
 use Rattle.disk_journal.specs.Format.{framed, written, HasRecords, HasStaged, HoldsNone, IsBeforeOrAfter, IsDamagedAt}
 use Rattle.disk_journal.specs.Reading.{IsAt, IsCutShortAt, gate_of, file_read}
-use Rattle.disk_journal.specs.State.{HasOnDisk, IsOnDisk, HasRoom, IsReadFault, StateIs, extents_from, faults_of, file_of, count_of, unhealed_fault}
-use Rattle.disk_journal.specs.Calls.{BeginsOpen, body_of, records_of, body_behind, next_body_of, if_gate_written, unhealed_records_of, CrashLeavesRecords, LeavesOthers, IsAppended, IsAppendFailed, IsAppendRefusal, IsHealed, IsHealFailed, IsHealRefusal, IsJournalCreateRefusal, IsJournalOpenRefusal, IsOpeningBegun, IsBeginRefusal, IsNextRefusal, IsReadWholeRefusal, StandsAtGate, content_read, read_so_far}
+use Rattle.disk_journal.specs.State.{HasOnDisk, IsOnDisk, IsReadFault, StateIs, extents_from, faults_of, file_of, count_of, unhealed_fault}
+use Rattle.disk_journal.specs.Calls.{BeginsOpen, body_of, records_of, body_behind, next_body_of, if_gate_written, unhealed_records_of, CrashLeavesRecords, LeavesOthers, IsAppended, IsAppendFailed, IsAppendRefusal, IsHealed, IsHealFailed, IsHealRefusal, IsPrepareRefusal, IsJournalCreateRefusal, IsJournalOpenRefusal, IsOpeningBegun, IsBeginRefusal, IsNextRefusal, IsReadWholeRefusal, StandsAtGate, content_read, read_so_far}
 use Rattle.disk_journal.specs.declared.journal.Extent.{Extent}
 use Rattle.disk_journal.specs.declared.journal.Journal.{Journal}
 use Rattle.disk_journal.specs.declared.opening.Opening.{Opening}
@@ -54,12 +55,22 @@ pub read_are : (content : List ℕ) (opening : Opening) (bodies : List (List ℕ
 read_are content opening bodies at =
     ap (λ (l : List Extent). map (body_of content) l) at.extents ∙ ap (λ (l : List ℕ). map (body_of l) (extents_from 0 bodies)) at.up_to.file_is ∙ bodies_at bodies [] at.up_to.rest 0 refl
 
+-- one failed write at most
+one_most : (wrote : Bool) (before after : ℕ) → after ≡ writes_after wrote before → after ≤ raised (raised before)
+one_most true before after is = omega (arith, is)
+one_most false before after is = omega (arith, is)
+
 -- what holds of the error that a `?` hands on
 pub handed_on : {T : Type 0} (r : Result T JournalFault) (fault : JournalFault) (P : JournalFault → Type 0) → IsErrAnd r (λ e. e ≡ fault) → P fault → IfErr r P
 handed_on (Ok x) fault P is p = absurd is
 handed_on (Err e) fault P is p = subst P (sym is) p
 
 module _ {D : Type 0} (device : Device D) where
+  -- where one write failed, or none
+  tells_writes : (before after : D) (wrote : Bool) → device.failed_writes after ≡ writes_after wrote (device.failed_writes before) → TellsWrites device before after wrote
+  tells_writes before after true is = omega (arith, is)
+  tells_writes before after false is = is
+
   -- the records that a journal has on a disk are those that its extents name
   pub records_are : (journal : Journal) (bodies : List (List ℕ)) (pending : List ℕ) (disk : D) → IsTrue device.is_transparent → HasOnDisk device journal bodies pending disk → records_of device journal disk ≡ bodies
   records_are journal bodies pending disk transparent keeps =
@@ -122,14 +133,15 @@ module _ {D : Type 0} (device : Device D) where
       subst (λ (t : PendingFault). HasRecords content (records_of device journal disk) ⊎ HasRecords content (records_of device journal disk ++ if_gate_written t (next_body_of device journal disk))) (sym is)
       (staged_either content (records_of device journal disk) (next_body_of device journal disk) staged)
 
-  -- an append to a journal that is healed and not full is refused only where the disk failed
-  pub refusal_failed : (old new : Journal) (before after : D) (body : List ℕ) (fault : JournalFault) → unhealed_fault old ≡ None → count_of old < 2 ^ 32 - 1 → IsAppendRefusal device old new before after body fault → (fault ≡ DiskFault) × IsAppendFailed device old new before after body
+  -- an append to a journal that is healed and not full is refused only where a write failed
+  pub refusal_failed : (old new : Journal) (before after : D) (body : List ℕ) (fault : JournalFault) → unhealed_fault old ≡ None → count_of old < 2 ^ 32 - 1 → IsAppendRefusal device old new before after body fault → (fault ≡ DiskFault true) × IsAppendFailed device old new before after body
   refusal_failed old new before after body Exists none below refusal = absurd refusal
   refusal_failed old new before after body NoArchive none below refusal = absurd refusal
   refusal_failed old new before after body (Damaged at) none below refusal = absurd refusal
   refusal_failed old new before after body (NeedsReopen faults) none below refusal = absurd (cc (refusal.0, none))
   refusal_failed old new before after body Limit none below refusal = absurd (omega (arith, refusal.1, below))
-  refusal_failed old new before after body DiskFault none below refusal = (refl, refusal)
+  refusal_failed old new before after body (DiskFault true) none below refusal = (refl, refusal)
+  refusal_failed old new before after body (DiskFault false) none below refusal = absurd refusal
   refusal_failed old new before after body OutOfMemory none below refusal = absurd refusal
 
   -- each answer of an append comes exactly where its cause is: a failure that isn't healed,
@@ -141,7 +153,8 @@ module _ {D : Type 0} (device : Device D) where
   needs_reopen_exactly old new before after body (Err (Damaged at)) ok err faults = absurd err
   needs_reopen_exactly old new before after body (Err (NeedsReopen count)) ok err faults = (λ is. let same : count ≡ faults = cc (is) in err.0 ∙ ap Some same, λ is. let same : count ≡ faults = cc (is, err.0) in ap (λ (n : ℕ). Err (NeedsReopen n)) same)
   needs_reopen_exactly old new before after body (Err Limit) ok err faults = (λ is. absurd (cc is), λ is. absurd (cc (is, err.0)))
-  needs_reopen_exactly old new before after body (Err DiskFault) ok err faults = (λ is. absurd (cc is), λ is. absurd (cc (is, err.healed)))
+  needs_reopen_exactly old new before after body (Err (DiskFault true)) ok err faults = (λ is. absurd (cc is), λ is. absurd (cc (is, err.healed)))
+  needs_reopen_exactly old new before after body (Err (DiskFault false)) ok err faults = absurd err
   needs_reopen_exactly old new before after body (Err OutOfMemory) ok err faults = absurd err
 
   -- or as many records as there may be
@@ -153,87 +166,54 @@ module _ {D : Type 0} (device : Device D) where
   limit_exactly old new before after body (Err (Damaged at)) ok err = absurd err
   limit_exactly old new before after body (Err (NeedsReopen faults)) ok err = (λ is. absurd (cc is), λ full. absurd (cc (full.0, err.0)))
   limit_exactly old new before after body (Err Limit) ok err = (λ is. (err.0, err.1), λ full. refl)
-  limit_exactly old new before after body (Err DiskFault) ok err = (λ is. absurd (cc is), λ full. absurd (omega (arith, full.1, err.below)))
+  limit_exactly old new before after body (Err (DiskFault true)) ok err = (λ is. absurd (cc is), λ full. absurd (omega (arith, full.1, err.below)))
+  limit_exactly old new before after body (Err (DiskFault false)) ok err = absurd err
   limit_exactly old new before after body (Err OutOfMemory) ok err = absurd err
 
-  -- a refused append leaves the number of records
-  pub refused_count : (old new : Journal) (before after : D) (body : List ℕ) (fault : JournalFault) → IsAppendRefusal device old new before after body fault → count_of new ≡ count_of old
-  refused_count old new before after body Exists refusal = absurd refusal
-  refused_count old new before after body NoArchive refusal = absurd refusal
-  refused_count old new before after body (Damaged at) refusal = absurd refusal
-  refused_count old new before after body (NeedsReopen faults) refusal = ap count_of refusal.1
-  refused_count old new before after body Limit refusal = ap count_of refusal.2
-  refused_count old new before after body DiskFault refusal = refusal.count
-  refused_count old new before after body OutOfMemory refusal = absurd refusal
+  -- an append is refused for a write that failed,
+  pub append_refused : {old new : Journal} {before after : D} {body : List ℕ} {fault : JournalFault} → fault ≡ DiskFault true → IsAppendFailed device old new before after body → IsAppendRefusal device old new before after body fault
+  append_refused {old} {new} {before} {after} {body} is failed = subst (IsAppendRefusal device old new before after body) (sym is) failed
 
-  -- and its room
-  pub refused_room : (old new : Journal) (before after : D) (body : List ℕ) (fault : JournalFault) → HasRoom old → IsAppendRefusal device old new before after body fault → HasRoom new
-  refused_room old new before after body Exists room refusal = absurd refusal
-  refused_room old new before after body NoArchive room refusal = absurd refusal
-  refused_room old new before after body (Damaged at) room refusal = absurd refusal
-  refused_room old new before after body (NeedsReopen faults) room refusal = subst HasRoom (sym refusal.1) room
-  refused_room old new before after body Limit room refusal = subst HasRoom (sym refusal.2) room
-  refused_room old new before after body DiskFault room refusal = refusal.room
-  refused_room old new before after body OutOfMemory room refusal = absurd refusal
+  pub append_failed : {old new : Journal} {before after : D} {body : List ℕ} {fault : JournalFault} → fault ≡ DiskFault true → IsAppendRefusal device old new before after body fault → IsAppendFailed device old new before after body
+  append_failed {old} {new} {before} {after} {body} is refusal = subst (IsAppendRefusal device old new before after body) is refusal
 
-  -- a heal is refused only where the disk failed
-  pub heal_refusal_failed : (old new : Journal) (before after : D) (fault : JournalFault) → IsHealRefusal device old new before after fault → (fault ≡ DiskFault) × IsHealFailed device old new before after
+  -- and so is a heal
+  pub heal_refused : {old new : Journal} {before after : D} {fault : JournalFault} → fault ≡ DiskFault true → IsHealFailed device old new before after → IsHealRefusal device old new before after fault
+  heal_refused {old} {new} {before} {after} is failed = subst (IsHealRefusal device old new before after) (sym is) failed
+
+  pub heal_failed : {old new : Journal} {before after : D} {fault : JournalFault} → fault ≡ DiskFault true → IsHealRefusal device old new before after fault → IsHealFailed device old new before after
+  heal_failed {old} {new} {before} {after} is refusal = subst (IsHealRefusal device old new before after) is refusal
+
+  -- a heal is refused only where a write failed
+  pub heal_refusal_failed : (old new : Journal) (before after : D) (fault : JournalFault) → IsHealRefusal device old new before after fault → (fault ≡ DiskFault true) × IsHealFailed device old new before after
   heal_refusal_failed old new before after Exists refusal = absurd refusal
   heal_refusal_failed old new before after NoArchive refusal = absurd refusal
   heal_refusal_failed old new before after (Damaged at) refusal = absurd refusal
   heal_refusal_failed old new before after (NeedsReopen faults) refusal = absurd refusal
   heal_refusal_failed old new before after Limit refusal = absurd refusal
-  heal_refusal_failed old new before after DiskFault refusal = (refl, refusal)
+  heal_refusal_failed old new before after (DiskFault true) refusal = (refl, refusal)
+  heal_refusal_failed old new before after (DiskFault false) refusal = absurd refusal
   heal_refusal_failed old new before after OutOfMemory refusal = absurd refusal
 
   -- no journal is made in a file that couldn't be made ready
-  pub not_prepared : (file : ℕ) (before after : D) (fault : JournalFault) → (fault ≡ Exists) ⊎ (fault ≡ DiskFault)
+  pub not_prepared : (file : ℕ) (before after : D) (fault : JournalFault) → IsPrepareRefusal device before after fault
       → (IsTrue device.is_transparent → fault ≡ Exists → BeginsOpen (device.reads before file) × (device.reads after ≡ device.reads before))
-      → (fault ≡ DiskFault → raised (device.fault_count before) ≤ device.fault_count after)
-      → (device.failed_writes after ≡ device.failed_writes before) ⊎ ((fault ≡ DiskFault) × (device.failed_writes after ≡ raised (device.failed_writes before)))
       → (IsTrue device.is_transparent → HoldsNone (device.reads before file) → LeavesOnly device before after (λ c. device.images before c ⊎ HoldsNone (c file)))
       → IsJournalCreateRefusal device file before after fault
-  not_prepared file before after fault only exists cause writes moments =
-      ⊎_elim (λ is. subst (IsJournalCreateRefusal device file before after) (sym is) (where_exists is)) (λ is. subst (IsJournalCreateRefusal device file before after) (sym is) (where_failed is)) only
-    where
-      where_exists : fault ≡ Exists → IsJournalCreateRefusal device file before after Exists
-      where_exists is = (λ transparent. exists transparent is, ⊎_elim (λ same. same) (λ failed. absurd (cc (failed.0, is))) writes)
-
-      where_failed : fault ≡ DiskFault → IsJournalCreateRefusal device file before after DiskFault
-      where_failed is = record {
-        rose = cause is;
-        wrote_most = ⊎_elim (λ same. omega (arith, same)) (λ failed. omega (arith, failed.1)) writes;
-        closed = λ few transparent none c left. at_end device before after _ (moments transparent none) c left;
-      }
-
-  -- the refusals of a making,
-  pub create_refusals : (file : ℕ) (before after : D) (fault : JournalFault) → IsJournalCreateRefusal device file before after fault → (fault ≡ Exists) ⊎ ((fault ≡ DiskFault) ⊎ (fault ≡ OutOfMemory))
-  create_refusals file before after Exists refusal = inl refl
-  create_refusals file before after NoArchive refusal = absurd refusal
-  create_refusals file before after (Damaged at) refusal = absurd refusal
-  create_refusals file before after (NeedsReopen faults) refusal = absurd refusal
-  create_refusals file before after Limit refusal = absurd refusal
-  create_refusals file before after DiskFault refusal = inr (inl refl)
-  create_refusals file before after OutOfMemory refusal = inr (inr refl)
-
-  -- and the failed writes by them
-  pub create_counted : (file : ℕ) (before after : D) (fault : JournalFault) → IsJournalCreateRefusal device file before after fault → (device.failed_writes after ≢ device.failed_writes before) → fault ≡ DiskFault
-  create_counted file before after Exists refusal differs = absurd (differs refusal.1)
-  create_counted file before after NoArchive refusal differs = absurd refusal
-  create_counted file before after (Damaged at) refusal differs = absurd refusal
-  create_counted file before after (NeedsReopen faults) refusal differs = absurd refusal
-  create_counted file before after Limit refusal differs = absurd refusal
-  create_counted file before after DiskFault refusal differs = refl
-  create_counted file before after OutOfMemory refusal differs = absurd (differs (ap device.failed_writes refusal))
-
-  pub create_wrote_most : (file : ℕ) (before after : D) (fault : JournalFault) → IsJournalCreateRefusal device file before after fault → device.failed_writes after ≤ raised (raised (device.failed_writes before))
-  create_wrote_most file before after Exists refusal = omega (arith, refusal.1)
-  create_wrote_most file before after NoArchive refusal = absurd refusal
-  create_wrote_most file before after (Damaged at) refusal = absurd refusal
-  create_wrote_most file before after (NeedsReopen faults) refusal = absurd refusal
-  create_wrote_most file before after Limit refusal = absurd refusal
-  create_wrote_most file before after DiskFault refusal = refusal.wrote_most
-  create_wrote_most file before after OutOfMemory refusal = omega (arith, ap device.failed_writes refusal)
+  not_prepared file before after Exists refusal exists moments = (λ transparent. exists transparent refl, refusal)
+  not_prepared file before after NoArchive refusal exists moments = absurd refusal
+  not_prepared file before after (Damaged at) refusal exists moments = absurd refusal
+  not_prepared file before after (NeedsReopen faults) refusal exists moments = absurd refusal
+  not_prepared file before after Limit refusal exists moments = absurd refusal
+  not_prepared file before after (DiskFault wrote) refusal exists moments = (
+    record {
+      rose = refusal.rose;
+      wrote_most = one_most wrote (device.failed_writes before) (device.failed_writes after) refusal.writes;
+      closed = λ few transparent none c left. at_end device before after _ (moments transparent none) c left;
+    },
+    tells_writes before after wrote refusal.writes,
+  )
+  not_prepared file before after OutOfMemory refusal exists moments = absurd refusal
 
   -- other files over two runs of calls
   pub others_on : (old mid new : D) (file : ℕ) → LeavesOthers device file old mid → LeavesOthers device file mid new → LeavesOthers device file old new
@@ -257,7 +237,7 @@ module _ {D : Type 0} (device : Device D) where
   not_begun file before after (Damaged at) refusal = absurd refusal
   not_begun file before after (NeedsReopen faults) refusal = absurd refusal
   not_begun file before after Limit refusal = absurd refusal
-  not_begun file before after DiskFault refusal = refusal
+  not_begun file before after (DiskFault wrote) refusal = refusal
   not_begun file before after OutOfMemory refusal = absurd refusal
 
   -- nor does one that didn't come to the end of the file
@@ -271,29 +251,32 @@ module _ {D : Type 0} (device : Device D) where
   )
   not_read file old mid new opening (NeedsReopen faults) begun reads later looked refusal = absurd refusal
   not_read file old mid new opening Limit begun reads later looked refusal = absurd refusal
-  not_read file old mid new opening DiskFault begun reads later looked refusal = record { rose = omega (arith, later, refusal); wrote_most = inl (looked.no_write ∙ begun.no_failed_write) }
+  not_read file old mid new opening (DiskFault true) begun reads later looked refusal = absurd refusal
+  not_read file old mid new opening (DiskFault false) begun reads later looked refusal = record { rose = omega (arith, later, refusal); writes = looked.no_write ∙ begun.no_failed_write }
   not_read file old mid new opening OutOfMemory begun reads later looked refusal = looked.no_write ∙ begun.no_failed_write
 
   -- why no header of a record was read
-  pub no_header : (opening : Opening) (before after : D) (fault : JournalFault) → IsReadFault fault → (fault ≡ DiskFault → raised (device.fault_count before) ≤ device.fault_count after)
+  pub no_header : (opening : Opening) (before after : D) (fault : JournalFault) → IsReadFault fault → (fault ≡ DiskFault false → raised (device.fault_count before) ≤ device.fault_count after)
       → (IsTrue device.is_transparent → (at : ℕ) → fault ≡ Damaged at → (at ≡ gate_of opening) × IsCutShortAt (content_read device opening before) (read_so_far device opening before)) → IsNextRefusal device opening before after fault
   no_header opening before after Exists only cause damaged = absurd only
   no_header opening before after NoArchive only cause damaged = absurd only
   no_header opening before after (Damaged at) only cause damaged = λ transparent. damaged transparent at refl
   no_header opening before after (NeedsReopen faults) only cause damaged = absurd only
   no_header opening before after Limit only cause damaged = absurd only
-  no_header opening before after DiskFault only cause damaged = cause refl
+  no_header opening before after (DiskFault true) only cause damaged = absurd only
+  no_header opening before after (DiskFault false) only cause damaged = cause refl
   no_header opening before after OutOfMemory only cause damaged = tt
 
   -- or no file whole
-  pub not_whole : (opening : Opening) (before after : D) (fault : JournalFault) → IsReadFault fault → (fault ≡ DiskFault → raised (device.fault_count before) ≤ device.fault_count after)
+  pub not_whole : (opening : Opening) (before after : D) (fault : JournalFault) → IsReadFault fault → (fault ≡ DiskFault false → raised (device.fault_count before) ≤ device.fault_count after)
       → (IsTrue device.is_transparent → (at : ℕ) → fault ≡ Damaged at → IsDamagedAt (content_read device opening before) at) → IsReadWholeRefusal device opening before after fault
   not_whole opening before after Exists only cause damaged = absurd only
   not_whole opening before after NoArchive only cause damaged = absurd only
   not_whole opening before after (Damaged at) only cause damaged = λ transparent. damaged transparent at refl
   not_whole opening before after (NeedsReopen faults) only cause damaged = absurd only
   not_whole opening before after Limit only cause damaged = absurd only
-  not_whole opening before after DiskFault only cause damaged = cause refl
+  not_whole opening before after (DiskFault true) only cause damaged = absurd only
+  not_whole opening before after (DiskFault false) only cause damaged = cause refl
   not_whole opening before after OutOfMemory only cause damaged = tt
 
   module _ (old : Journal) (bodies : List (List ℕ)) (pending : List ℕ) (before : D) (transparent : IsTrue device.is_transparent) (keeps : HasOnDisk device old bodies pending before) where

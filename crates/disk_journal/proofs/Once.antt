@@ -1,11 +1,12 @@
 -- A file's octets mean one thing.
-use Rattle.std.proofs.Common.{◌≡◌, ◌⊎◌, inl, inr, ℕ, ◌+◌, ◌^◌, ◌<◌, ◌≤◌, List, [], ◌∷◌, ◌++◌, length, take, drop, refl, sym, ◌∙◌, ap, subst, arith, append_assoc, length-append}
+use Rattle.std.proofs.Common.{◌≡◌, inl, inr, ℕ, ◌+◌, ◌^◌, ◌<◌, ◌≤◌, List, [], ◌∷◌, ◌++◌, length, take, drop, refl, sym, ◌∙◌, ap, subst, arith, append_assoc, length-append}
 use Rattle.std.proofs.lemmas.List.{take_at, drop_at}
 use Rattle.std.proofs.lemmas.Nat.{from_be_bytes-to_be_bytes_4}
 use Rattle.std.specs.Int.{w32, to_be_bytes, from_be_bytes}
 use Rattle.disk_journal.specs.Format.{framed, written, AreSmall, IsClosed, HasRecords, IsDamagedAt, HoldsNone}
-use Rattle.std.specs.Prelude.{Result, Ok, Err, IfOk, IfErr, IsErrAnd, IsTrue}
+use Rattle.std.specs.Prelude.{Result, Ok, Err, IfOk, IfErr, IsErrAnd, IsTrue, true, false}
 use Rattle.arch_disk.specs.Disk.{Device}
+use Rattle.disk_journal.specs.Faults.{IsFailure}
 use Rattle.disk_journal.specs.Calls.{BeginsOpen, IsOrFails, IsReadWhole, IsReadWholeRefusal, content_read}
 use Rattle.disk_journal.specs.declared.journal.Journal.{Journal}
 use Rattle.disk_journal.specs.declared.opening.Opening.{Opening}
@@ -104,19 +105,21 @@ module _ {D : Type 0} (device : Device D) (opening : Opening) (before after : D)
   exactly at (Err (Damaged other)) d ok refused = inl (ap Damaged (place_once (content_read device opening before) other at (refused transparent) d))
   exactly at (Err (NeedsReopen faults)) d ok refused = absurd refused
   exactly at (Err Limit) d ok refused = absurd refused
-  exactly at (Err DiskFault) d ok refused = inr (inl refl)
-  exactly at (Err OutOfMemory) d ok refused = inr (inr refl)
+  exactly at (Err (DiskFault true)) d ok refused = absurd refused
+  exactly at (Err (DiskFault false)) d ok refused = inr tt
+  exactly at (Err OutOfMemory) d ok refused = inr tt
 
   -- and reading one with records
-  pub undamaged : (bodies : List (List ℕ)) (r : Result Journal JournalFault) → HasRecords (content_read device opening before) bodies → IfErr r (IsReadWholeRefusal device opening before after) → IfErr r (λ fault. (fault ≡ DiskFault) ⊎ (fault ≡ OutOfMemory))
+  pub undamaged : (bodies : List (List ℕ)) (r : Result Journal JournalFault) → HasRecords (content_read device opening before) bodies → IfErr r (IsReadWholeRefusal device opening before after) → IfErr r IsFailure
   undamaged bodies (Ok journal) has refused = tt
   undamaged bodies (Err Exists) has refused = absurd refused
   undamaged bodies (Err NoArchive) has refused = absurd refused
   undamaged bodies (Err (Damaged other)) has refused = absurd (no_records (content_read device opening before) bodies other has (refused transparent))
   undamaged bodies (Err (NeedsReopen faults)) has refused = absurd refused
   undamaged bodies (Err Limit) has refused = absurd refused
-  undamaged bodies (Err DiskFault) has refused = inl refl
-  undamaged bodies (Err OutOfMemory) has refused = inr refl
+  undamaged bodies (Err (DiskFault true)) has refused = absurd refused
+  undamaged bodies (Err (DiskFault false)) has refused = tt
+  undamaged bodies (Err OutOfMemory) has refused = tt
 
 -- a file without a journal doesn't begin with an open gate
 pub none_not_open : (content : List ℕ) → HoldsNone content → BeginsOpen content → ⊥

@@ -1,8 +1,9 @@
 -- What the calls of a journal answer, and what each answer leaves on the disk.
-use Rattle.std.specs.Prelude.{◌≡◌, ◌≢◌, ◌⊎◌, ℕ, ◌+◌, ◌-◌, ◌^◌, ◌<◌, ◌≤◌, ◌++◌, List, [], ◌∷◌, length, take, drop, map, get_or, min, IsTrue, Option, Some, None, Result, IfErr, IsErrAnd}
+use Rattle.std.specs.Prelude.{◌≡◌, ◌≢◌, ◌⊎◌, ℕ, ◌+◌, ◌-◌, ◌^◌, ◌<◌, ◌≤◌, ◌++◌, List, [], ◌∷◌, length, take, drop, map, get_or, min, true, false, IsTrue, Option, Some, None, Result, IfErr, IsErrAnd}
 use Rattle.std.specs.Int.{w32, from_be_bytes}
 use Rattle.arch_disk.specs.Image.{Image, AgreesBut}
 use Rattle.arch_disk.specs.Disk.{Device, IsDurable, LeavesOnly, NoWriteFailed, raised}
+use Rattle.disk_journal.specs.Faults.{IsDiskFault, IsFailure, TellsWrites}
 use Rattle.disk_journal.specs.Format.{HasRecords, IsDamagedAt, HoldsNone}
 use Rattle.disk_journal.specs.Reading.{IsAt, IsCutShortAt, gate_of, file_read}
 use Rattle.disk_journal.specs.State.{HasOnDisk, HasRoom, IsOldBut, IsReadFrom, count_of, file_of, unhealed_fault}
@@ -69,7 +70,7 @@ pub record IsAppended {D : Type 0} (device : Device D) (old new : Journal) (befo
   pub no_pending_fault : unhealed_fault new ≡ None
   pub no_failed_write : NoWriteFailed device before after
 
--- the disk failed: the records are as before, and the new one may follow them until a heal
+-- a write failed: the records are as before, and the new one may follow them until a heal
 pub record IsAppendFailed {D : Type 0} (device : Device D) (old new : Journal) (before after : D)
     (body : List ℕ) : Type 0 where
   pub healed : unhealed_fault old ≡ None
@@ -87,7 +88,7 @@ IsAppendRefusal device old new before after body (NeedsReopen faults) =
     (unhealed_fault old ≡ Some faults) × (new ≡ old) × (after ≡ before)
 IsAppendRefusal device old new before after body Limit =
     (unhealed_fault old ≡ None) × (2 ^ 32 - 1 ≤ count_of old) × (new ≡ old) × (after ≡ before)
-IsAppendRefusal device old new before after body DiskFault = IsAppendFailed device old new before after body
+IsAppendRefusal device old new before after body (DiskFault true) = IsAppendFailed device old new before after body
 IsAppendRefusal device old new before after body _ = ⊥
 
 -- no failure is pending, all else of the journal is as before, and its records stand alone; where nothing was pending
@@ -98,7 +99,7 @@ pub record IsHealed {D : Type 0} (device : Device D) (old new : Journal) (before
   pub no_call : unhealed_fault old ≡ None → after ≡ before
   pub no_failed_write : NoWriteFailed device before after
 
--- the disk failed again: the journal is as before, and the record whose append failed may still follow the others
+-- a write failed again: the journal is as before, and the record whose append failed may still follow the others
 pub record IsHealFailed {D : Type 0} (device : Device D) (old new : Journal) (before after : D) : Type 0 where
   pub unhealed : unhealed_fault old ≢ None
   pub journal : new ≡ old
@@ -107,9 +108,9 @@ pub record IsHealFailed {D : Type 0} (device : Device D) (old new : Journal) (be
   pub rose : raised (device.fault_count before) ≤ device.fault_count after
   pub wrote : device.failed_writes after ≡ raised (device.failed_writes before)
 
--- a heal is refused for a fault of the disk alone
+-- a heal is refused for a write that failed alone
 abbrev pub IsHealRefusal : {D : Type 0} → Device D → Journal → Journal → D → D → JournalFault → Type 0
-IsHealRefusal device old new before after DiskFault = IsHealFailed device old new before after
+IsHealRefusal device old new before after (DiskFault true) = IsHealFailed device old new before after
 IsHealRefusal device old new before after _ = ⊥
 
 -- the file begins with an open gate, and an octet stands behind it
@@ -140,12 +141,19 @@ pub record IsJournalCreateFailed {D : Type 0} (device : Device D) (file : ℕ) (
   pub closed : device.fault_count after < raised (raised (device.fault_count before)) →
       IsClosedAgain device file before after
 
+-- why a file wasn't made ready: it begins with an open gate, or the disk failed
+abbrev pub IsPrepareRefusal : {D : Type 0} → Device D → D → D → JournalFault → Type 0
+IsPrepareRefusal device before after Exists = NoWriteFailed device before after
+IsPrepareRefusal device before after (DiskFault wrote) = IsDiskFault device before after wrote
+IsPrepareRefusal device before after _ = ⊥
+
 -- why no journal was made, and what is left: Exists where the file begins with an open gate
 abbrev pub IsJournalCreateRefusal : {D : Type 0} → Device D → ℕ → D → D → JournalFault → Type 0
 IsJournalCreateRefusal device file before after Exists =
     (IsTrue device.is_transparent → BeginsOpen (device.reads before file) × (device.reads after ≡ device.reads before))
     × NoWriteFailed device before after
-IsJournalCreateRefusal device file before after DiskFault = IsJournalCreateFailed device file before after
+IsJournalCreateRefusal device file before after (DiskFault wrote) =
+    IsJournalCreateFailed device file before after × TellsWrites device before after wrote
 IsJournalCreateRefusal device file before after OutOfMemory = after ≡ before
 IsJournalCreateRefusal device file before after _ = ⊥
 
@@ -167,7 +175,7 @@ pub record IsJournalOpened {D : Type 0} (device : Device D) (file : ℕ) (before
   pub no_pending_fault : unhealed_fault journal ≡ None
   pub no_failed_write : NoWriteFailed device before after
 
--- the disk failed: a read, or the sync at the beginning
+-- the disk failed, for who keeps no flag of it: a read, or the sync at the beginning
 pub record IsJournalOpenFailed {D : Type 0} (device : Device D) (before after : D) : Type 0 where
   pub rose : raised (device.fault_count before) ≤ device.fault_count after
   pub wrote_most : NoWriteFailed device before after
@@ -181,20 +189,19 @@ IsJournalOpenRefusal device file before after NoArchive =
 IsJournalOpenRefusal device file before after (Damaged at) =
     (IsTrue device.is_transparent → BeginsOpen (device.reads before file) × IsDamagedAt (device.reads before file) at)
     × NoWriteFailed device before after
-IsJournalOpenRefusal device file before after DiskFault = IsJournalOpenFailed device before after
+IsJournalOpenRefusal device file before after (DiskFault wrote) = IsDiskFault device before after wrote
 IsJournalOpenRefusal device file before after OutOfMemory = NoWriteFailed device before after
 IsJournalOpenRefusal device file before after _ = ⊥
 
 -- this refusal, or one that may come whatever the file holds
 abbrev pub IsOrFails : JournalFault → JournalFault → Type 0
-IsOrFails wanted fault = (fault ≡ wanted) ⊎ ((fault ≡ DiskFault) ⊎ (fault ≡ OutOfMemory))
+IsOrFails wanted fault = (fault ≡ wanted) ⊎ IsFailure fault
 
 -- What the file holds decides the answer of an opening, but for a fault of the disk and want of memory.
 pub record IsDecidedByFile (content : List ℕ) (result : Result Journal JournalFault) : Type 0 where
   pub none : HoldsNone content → IsErrAnd result (IsOrFails NoArchive)
   pub damaged : (at : ℕ) → BeginsOpen content → IsDamagedAt content at → IsErrAnd result (IsOrFails (Damaged at))
-  pub records : (bodies : List (List ℕ)) → BeginsOpen content → HasRecords content bodies →
-      IfErr result (λ fault. (fault ≡ DiskFault) ⊎ (fault ≡ OutOfMemory))
+  pub records : (bodies : List (List ℕ)) → BeginsOpen content → HasRecords content bodies → IfErr result IsFailure
 
 -- ---- a reading record by record
 
@@ -224,7 +231,7 @@ pub record IsOpeningBegun {D : Type 0} (device : Device D) (file : ℕ) (before 
 abbrev pub IsBeginRefusal : {D : Type 0} → Device D → ℕ → D → D → JournalFault → Type 0
 IsBeginRefusal device file before after NoArchive =
     (IsTrue device.is_transparent → HoldsNone (device.reads before file)) × NoWriteFailed device before after
-IsBeginRefusal device file before after DiskFault = IsJournalOpenFailed device before after
+IsBeginRefusal device file before after (DiskFault wrote) = IsDiskFault device before after wrote
 IsBeginRefusal device file before after _ = ⊥
 
 -- the body is that of the next record, and the opening stands at the gate behind it
@@ -249,7 +256,7 @@ abbrev pub IsNextRefusal : {D : Type 0} → Device D → Opening → D → D →
 IsNextRefusal device old before after (Damaged at) =
     IsTrue device.is_transparent →
     (at ≡ gate_of old) × IsCutShortAt (content_read device old before) (read_so_far device old before)
-IsNextRefusal device old before after DiskFault = raised (device.fault_count before) ≤ device.fault_count after
+IsNextRefusal device old before after (DiskFault false) = raised (device.fault_count before) ≤ device.fault_count after
 IsNextRefusal device old before after OutOfMemory = Unit {0}
 IsNextRefusal device old before after _ = ⊥
 
@@ -264,13 +271,13 @@ pub record IsReadWhole {D : Type 0} (device : Device D) (opening : Opening) (dis
 abbrev pub IsReadWholeRefusal : {D : Type 0} → Device D → Opening → D → D → JournalFault → Type 0
 IsReadWholeRefusal device opening before after (Damaged at) =
     IsTrue device.is_transparent → IsDamagedAt (content_read device opening before) at
-IsReadWholeRefusal device opening before after DiskFault =
+IsReadWholeRefusal device opening before after (DiskFault false) =
     raised (device.fault_count before) ≤ device.fault_count after
 IsReadWholeRefusal device opening before after OutOfMemory = Unit {0}
 IsReadWholeRefusal device opening before after _ = ⊥
 
 -- why a record was not read again: a read failed, or memory is wanting
 abbrev pub IsRecordRefusal : {D : Type 0} → Device D → D → D → JournalFault → Type 0
-IsRecordRefusal device before after DiskFault = raised (device.fault_count before) ≤ device.fault_count after
+IsRecordRefusal device before after (DiskFault false) = raised (device.fault_count before) ≤ device.fault_count after
 IsRecordRefusal device before after OutOfMemory = Unit {0}
 IsRecordRefusal device before after _ = ⊥

@@ -1,5 +1,5 @@
 -- How a journal in memory and its file belong together.
-use Rattle.std.specs.Prelude.{◌≡◌, ℕ, ◌+◌, ◌<◌, List, [], ◌∷◌, length, Option, Some, None, vec_len, vec_capacity}
+use Rattle.std.specs.Prelude.{◌≡◌, ℕ, ◌+◌, ◌<◌, false, List, [], ◌∷◌, length, Option, Some, None, vec_len, vec_capacity}
 use Rattle.arch_disk.specs.Image.{Image, AgreesBut}
 use Rattle.arch_disk.specs.Disk.{Device, IsDurable, AddsNoImage, LeavesOnly}
 use Rattle.disk_journal.specs.Format.{written, HasRecords, HasStaged}
@@ -87,6 +87,6 @@ pub record IsReadFrom (content : List ℕ) (journal : Journal) : Type 0 where
 -- the errors of reading records
 abbrev pub IsReadFault : JournalFault → Type 0
 IsReadFault (Damaged at) = Unit {0}
-IsReadFault DiskFault = Unit {0}
+IsReadFault (DiskFault false) = Unit {0}
 IsReadFault OutOfMemory = Unit {0}
 IsReadFault _ = ⊥

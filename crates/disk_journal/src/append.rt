@@ -19,7 +19,7 @@ impl Journal {
         // Ok: the record is the last one, and durable.
         ensures appended { IfOk result (IsAppended D.device self.old self.new disk.old disk.new frame.now) }
 
-        // Refused, all is as it was; but where the disk failed the new record may follow those from before until a heal.
+        // Refused, all is as it was; but where a write failed the new record may follow those from before until a heal.
         ensures refused { IfErr result (IsAppendRefusal D.device self.old self.new disk.old disk.new frame.now) }
 
         // Power lost at any moment of the call leaves the records from before it, or these and the new one,
@@ -44,13 +44,13 @@ impl Journal {
         let octets = frame.octets();
         let size = frame.len();
         let behind = self.end.saturating_add(1);
-        if let Err(_) = put(disk, self.file, behind, octets) {
+        if let Err(fault) = put(disk, self.file, behind, octets) {
             self.pending_fault = PendingFault::GateClosed(disk.faults());
-            return Err(JournalFault::DiskFault);
+            return Err(fault);
         }
-        if let Err(_) = put(disk, self.file, self.end, &[1]) {
+        if let Err(fault) = put(disk, self.file, self.end, &[1]) {
             self.pending_fault = PendingFault::GateWritten(disk.faults());
-            return Err(JournalFault::DiskFault);
+            return Err(fault);
         }
         self.extents.push_reserved(Extent {
             at: self.end.saturating_add(5),
@@ -68,7 +68,7 @@ impl Journal {
         // Ok: no failure is pending, and the records stand alone.
         ensures healed { OnOk result (IsHealed D.device self.old self.new disk.old disk.new) }
 
-        // Refused, for a fault of the disk alone, the journal is as before, and so is what may follow its records.
+        // Refused, for a write that failed alone, the journal is as before, and so is what may follow its records.
         ensures refused { IfErr result (IsHealRefusal D.device self.old self.new disk.old disk.new) }
 
         // Power lost at any moment of the call leaves the records, or these and the one whose append failed,
@@ -88,14 +88,14 @@ impl Journal {
                     self.pending_fault = PendingFault::Absent;
                     Ok(())
                 }
-                Err(_) => Err(JournalFault::DiskFault),
+                Err(fault) => Err(fault),
             },
             PendingFault::GateWritten(_) => match put(disk, self.file, self.end, &[0]) {
                 Ok(()) => {
                     self.pending_fault = PendingFault::Absent;
                     Ok(())
                 }
-                Err(_) => Err(JournalFault::DiskFault),
+                Err(fault) => Err(fault),
             },
         }
     }

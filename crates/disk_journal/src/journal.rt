@@ -1,14 +1,15 @@
 // The records of one file.
-ghost use Rattle.std.specs.Prelude.{◌≡◌, ◌≢◌, ◌+◌, ◌<◌, ◌≤◌, ◌⊎◌, ◌++◌, [], ◌∷◌, List, ℕ, None, IsTrue, length, get_or, OnOk, OnErr, IfOk, IfErr, IfSome, slice_get};
+ghost use Rattle.std.specs.Prelude.{◌≡◌, ◌≢◌, ◌+◌, ◌<◌, ◌≤◌, ◌⊎◌, ◌++◌, [], ◌∷◌, List, ℕ, None, IsTrue, false, true, length, get_or, OnOk, OnErr, IfOk, IfErr, IfSome, slice_get};
 ghost use Rattle.arch_disk.specs.Image.{Image};
 ghost use Rattle.arch_disk.specs.Disk.{IsDurable, LeavesOnly, NoWriteFailed, OnlyReads, HasCause, raised};
 ghost use Rattle.disk_journal.specs.Format.{HasRecords, IsDamagedAt, HoldsNone, IsBeforeOrAfter};
-ghost use Rattle.disk_journal.specs.Calls.{BeginsOpen, LeavesOthers};
+ghost use Rattle.disk_journal.specs.Calls.{BeginsOpen, IsPrepareRefusal, LeavesOthers};
+ghost use Rattle.disk_journal.specs.declared.fault.JournalFault.TheVariants.{DiskFault};
 ghost use Rattle.disk_journal.specs.State.{IsUntouched};
 
 use crate::steps::{flush, len_of, octet_at, octets_at, put};
 use crate::{Frame, JournalFault, Opening};
-use arch_disk::{Disk, Failed};
+use arch_disk::Disk;
 use std::alloc::{AllocError, Global};
 
 /// Where the body of a record stands: its first octet in the file, and its length.
@@ -39,7 +40,7 @@ pub struct Journal {
 }
 
 // The length of a file that begins with an open gate, and has an octet behind it.
-pub(crate) fn begins_open<D: Disk>(disk: &mut D, file: u32) -> Result<Option<u64>, Failed>
+pub(crate) fn begins_open<D: Disk>(disk: &mut D, file: u32) -> Result<Option<u64>, JournalFault>
     ensures none { IsTrue D.device.is_transparent → IfOk result (λ len. len ≡ None →
         HoldsNone (D.device.reads disk.old file)) }
     ensures some { IsTrue D.device.is_transparent →
@@ -48,6 +49,7 @@ pub(crate) fn begins_open<D: Disk>(disk: &mut D, file: u32) -> Result<Option<u64
     ensures two { IfOk result (λ len. IfSome len (λ n. 2 ≤ n)) }
     ensures looked { OnlyReads D.device disk.old disk.new }
     ensures cause { HasCause D.device disk.old disk.new result }
+    ensures only { IfErr result (λ e. e ≡ DiskFault false) }
 {
     let len = len_of(disk, file)?;
     if len < 2 {
@@ -70,15 +72,11 @@ fn prepare<D: Disk>(disk: &mut D, file: u32) -> Result<(), JournalFault>
     ensures moments { IsTrue D.device.is_transparent → HoldsNone (D.device.reads disk.old file) →
         LeavesOnly D.device disk.old disk.new (λ c. D.device.images disk.old c ⊎ HoldsNone (c file)) }
     ensures others { LeavesOthers D.device file disk.old disk.new }
-    ensures only { IfErr result (λ e. (e ≡ JournalFault.Exists) ⊎ (e ≡ JournalFault.DiskFault)) }
+    ensures refused { IfErr result (IsPrepareRefusal D.device disk.old disk.new) }
     ensures kept { IsTrue D.device.is_transparent → BeginsOpen (D.device.reads disk.old file) →
         IsUntouched D.device disk.old disk.new }
-    ensures cause { result ≡ Err JournalFault.DiskFault →
-        raised (D.device.fault_count disk.old) ≤ D.device.fault_count disk.new }
     ensures later { D.device.fault_count disk.old ≤ D.device.fault_count disk.new }
-    ensures writes { NoWriteFailed D.device disk.old disk.new
-        ⊎ ((result ≡ Err JournalFault.DiskFault) ×
-        (D.device.failed_writes disk.new ≡ raised (D.device.failed_writes disk.old))) }
+    ensures no_failed_write { OnOk result (NoWriteFailed D.device disk.old disk.new) }
 {
     flush(disk, file)?;
     let len = len_of(disk, file)?;
@@ -137,7 +135,7 @@ impl Journal {
 
     // Adds the first record. An open gate that the system reads and the device lacks would have a later program build on
     // it, so a failed one is closed again.
-    fn append_first<D: Disk>(&mut self, disk: &mut D, first: &Frame) -> Result<(), Failed>
+    fn append_first<D: Disk>(&mut self, disk: &mut D, first: &Frame) -> Result<(), JournalFault>
         requires room { HasRoom self.old }
         requires no_pending_fault { (unhealed_fault self.old ≡ None) × (count_of self.old ≡ 0) }
         requires kept { IsTrue D.device.is_transparent → HasOnDisk D.device self.old [] [] disk.old }
@@ -152,16 +150,17 @@ impl Journal {
             → (c : Image) → D.device.images disk.new c → HoldsNone (c (file_of self.old))) }
         ensures others { LeavesOthers D.device (file_of self.old) disk.old disk.new }
         ensures cause { HasCause D.device disk.old disk.new result }
+        ensures only { IfErr result (λ e. e ≡ DiskFault true) }
         ensures no_failed_write { OnOk result (NoWriteFailed D.device disk.old disk.new) }
         ensures counted { OnErr result ((raised (D.device.failed_writes disk.old) ≤ D.device.failed_writes disk.new)
             × (D.device.failed_writes disk.new ≤ raised (raised (D.device.failed_writes disk.old)))) }
     {
         match self.append(disk, first) {
             Ok(_) => Ok(()),
-            Err(_) => {
+            Err(fault) => {
                 // That it fails too shows in the disk's count of faults.
                 let _ = self.heal(disk);
-                Err(Failed)
+                Err(fault)
             }
         }
     }

@@ -1,7 +1,8 @@
 // A journal that is being read, record after record, in one pass.
-ghost use Rattle.std.specs.Prelude.{◌≡◌, ◌≢◌, ◌+◌, ◌<◌, ◌^◌, ◌≤◌, ◌⊎◌, ◌++◌, [], ◌∷◌, List, ℕ, IsTrue, length, get_or, take, drop, OnOk, IfOk, IfErr, IfSome, None};
+ghost use Rattle.std.specs.Prelude.{◌≡◌, ◌≢◌, ◌+◌, ◌<◌, ◌^◌, ◌≤◌, ◌⊎◌, ◌++◌, [], ◌∷◌, List, ℕ, IsTrue, false, length, get_or, take, drop, OnOk, IfOk, IfErr, IfSome, None};
 ghost use Rattle.arch_disk.specs.Disk.{OnlyReads, raised};
 ghost use Rattle.disk_journal.specs.State.{IsReadFault, IsUntouched};
+ghost use Rattle.disk_journal.specs.declared.fault.JournalFault.TheVariants.{DiskFault};
 
 use crate::JournalFault;
 use crate::journal::{Extent, Journal, PendingFault, begins_open};
@@ -68,7 +69,7 @@ impl Opening {
         ensures place { (gate_of self.new ≡ gate_of self.old) × (file_read self.new ≡ file_read self.old) }
         ensures looked { OnlyReads D.device disk.old disk.new }
         ensures only { IfErr result IsReadFault }
-        ensures cause { result ≡ Err JournalFault.DiskFault →
+        ensures cause { result ≡ Err (DiskFault false) →
             raised (D.device.fault_count disk.old) ≤ D.device.fault_count disk.new }
     {
         if self.at > 0 && self.reader.octet(disk, self.at)? != 1 {

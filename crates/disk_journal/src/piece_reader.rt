@@ -1,11 +1,11 @@
 // A file that is read front to back in pieces, so that a call of the disk is paid once a piece and not for each look.
-ghost use Rattle.std.specs.Prelude.{◌≡◌, ◌+◌, ◌^◌, ◌<◌, ◌≤◌, ◌⊎◌, None, IsTrue, length, take, drop, get_or, OnOk, IfOk, IfErr, IfSome};
+ghost use Rattle.std.specs.Prelude.{◌≡◌, ◌+◌, ◌^◌, ◌<◌, ◌≤◌, ◌⊎◌, None, IsTrue, false, length, take, drop, get_or, OnOk, IfOk, IfErr, IfSome};
 ghost use Rattle.std.specs.Int.{w32, from_be_bytes, to_be_bytes};
 ghost use Rattle.arch_disk.specs.Disk.{OnlyReads, raised};
 ghost use Rattle.disk_journal.specs.declared.fault.JournalFault.TheVariants.{DiskFault, OutOfMemory};
 
 use crate::JournalFault;
-use crate::steps::number_of;
+use crate::steps::{number_of, read_at};
 use arch_disk::Disk;
 use arch_types::octets::Octets;
 use std::alloc::{AllocError, Global};
@@ -83,8 +83,8 @@ impl PieceReader {
             IsPieceOf self.new (D.device.reads disk.old self.old.file) }
         ensures file { (self.new.file ≡ self.old.file) × (self.new.len ≡ self.old.len) }
         ensures looked { OnlyReads D.device disk.old disk.new }
-        ensures only { IfErr result (λ e. (e ≡ DiskFault) ⊎ (e ≡ OutOfMemory)) }
-        ensures cause { result ≡ Err JournalFault.DiskFault →
+        ensures only { IfErr result (λ e. (e ≡ DiskFault false) ⊎ (e ≡ OutOfMemory)) }
+        ensures cause { result ≡ Err (DiskFault false) →
             raised (D.device.fault_count disk.old) ≤ D.device.fault_count disk.new }
     {
         if self.held(at).len() >= size {
@@ -93,7 +93,7 @@ impl PieceReader {
         let left = self.len.saturating_sub(at).min(PIECE_LEN);
         let mut octets = Vec::new(self.alloc);
         octets.resize((left as usize).max(size), 0)?;
-        disk.read_at(self.file, at, &mut octets)?;
+        read_at(disk, self.file, at, &mut octets)?;
         self.piece = Some(Octets::from_vec(self.alloc, octets)?);
         self.at = at;
         Ok(())
@@ -109,8 +109,8 @@ impl PieceReader {
             IsPieceOf self.new (D.device.reads disk.old self.old.file) }
         ensures file { (self.new.file ≡ self.old.file) × (self.new.len ≡ self.old.len) }
         ensures looked { OnlyReads D.device disk.old disk.new }
-        ensures only { IfErr result (λ e. (e ≡ DiskFault) ⊎ (e ≡ OutOfMemory)) }
-        ensures cause { result ≡ Err JournalFault.DiskFault →
+        ensures only { IfErr result (λ e. (e ≡ DiskFault false) ⊎ (e ≡ OutOfMemory)) }
+        ensures cause { result ≡ Err (DiskFault false) →
             raised (D.device.fault_count disk.old) ≤ D.device.fault_count disk.new }
     {
         self.hold(disk, at, 1)?;
@@ -128,8 +128,8 @@ impl PieceReader {
             IsPieceOf self.new (D.device.reads disk.old self.old.file) }
         ensures file { (self.new.file ≡ self.old.file) × (self.new.len ≡ self.old.len) }
         ensures looked { OnlyReads D.device disk.old disk.new }
-        ensures only { IfErr result (λ e. (e ≡ DiskFault) ⊎ (e ≡ OutOfMemory)) }
-        ensures cause { result ≡ Err JournalFault.DiskFault →
+        ensures only { IfErr result (λ e. (e ≡ DiskFault false) ⊎ (e ≡ OutOfMemory)) }
+        ensures cause { result ≡ Err (DiskFault false) →
             raised (D.device.fault_count disk.old) ≤ D.device.fault_count disk.new }
     {
         self.hold(disk, at, 4)?;
@@ -152,8 +152,8 @@ impl PieceReader {
             octets ≡ take size (drop at (D.device.reads disk.old self.now.file))) }
         ensures long { IfOk result (λ octets. length octets ≡ size) }
         ensures looked { OnlyReads D.device disk.old disk.new }
-        ensures only { IfErr result (λ e. (e ≡ DiskFault) ⊎ (e ≡ OutOfMemory)) }
-        ensures cause { result ≡ Err JournalFault.DiskFault →
+        ensures only { IfErr result (λ e. (e ≡ DiskFault false) ⊎ (e ≡ OutOfMemory)) }
+        ensures cause { result ≡ Err (DiskFault false) →
             raised (D.device.fault_count disk.old) ≤ D.device.fault_count disk.new }
     {
         let size = size as usize;
@@ -167,7 +167,7 @@ impl PieceReader {
         octets.extend_from_slice(held)?;
         octets.resize(size, 0)?;
         let rest = held.len();
-        disk.read_at(self.file, at + rest as u64, &mut octets[rest..])?;
+        read_at(disk, self.file, at + rest as u64, &mut octets[rest..])?;
         Ok(Octets::from_vec(alloc, octets)?)
     }
 }

@@ -1,16 +1,17 @@
-// Runs of few calls of a disk: a write that is durable once it is answered Ok, and looks at a file.
-ghost use Rattle.std.specs.Prelude.{◌≡◌, ◌+◌, ◌<◌, ◌≤◌, ◌⊎◌, IsTrue, length, take, drop, get_or, OnOk, IfOk, IfErr};
+// Runs of few calls of a disk: a write that is durable once it is answered Ok, and looks at a file. A fault says which of
+// them failed: no other function here makes a call of a disk that can fail.
+ghost use Rattle.std.specs.Prelude.{◌≡◌, ◌+◌, ◌<◌, ◌≤◌, ◌⊎◌, IsTrue, false, true, length, take, drop, get_or, OnOk, IfOk, IfErr};
 ghost use Rattle.std.specs.Int.{w32, from_be_bytes, to_be_bytes};
 ghost use Rattle.arch_disk.specs.Image.{Image, AgreesBut, Torn, InFile, Becomes, overwritten};
 ghost use Rattle.arch_disk.specs.Disk.{AddsNoImage, IsDurable, LeavesOnly, OnlyReads, HasCause, CountsFailure, raised};
 ghost use Rattle.disk_journal.specs.declared.fault.JournalFault.TheVariants.{DiskFault, OutOfMemory};
 
 use crate::JournalFault;
-use arch_disk::{Disk, Failed};
+use arch_disk::Disk;
 use std::alloc::Global;
 
 // A write and a sync.
-pub fn put<D: Disk>(disk: &mut D, file: u32, at: u64, octets: &[u8]) -> Result<(), Failed>
+pub fn put<D: Disk>(disk: &mut D, file: u32, at: u64, octets: &[u8]) -> Result<(), JournalFault>
     requires { IsTrue D.device.is_transparent → at ≤ length (D.device.reads disk.old file) }
     ensures written { OnOk result (IsTrue D.device.is_transparent →
         InFile (Becomes (overwritten at octets.now)) file (D.device.reads disk.old) (D.device.reads disk.new)) }
@@ -23,33 +24,65 @@ pub fn put<D: Disk>(disk: &mut D, file: u32, at: u64, octets: &[u8]) -> Result<(
         (λ c. (d : Image) × D.device.images disk.old d × InFile (Torn at (length octets.now)) file d c) }
     ensures cause { HasCause D.device disk.old disk.new result }
     ensures writes { CountsFailure D.device disk.old disk.new result }
+    ensures only { IfErr result (λ e. e ≡ DiskFault true) }
 {
-    disk.write_at(file, at, octets)?;
-    disk.sync(file)
+    let Ok(()) = disk.write_at(file, at, octets) else {
+        return Err(JournalFault::DiskFault { wrote: true });
+    };
+    match disk.sync(file) {
+        Ok(()) => Ok(()),
+        Err(_) => Err(JournalFault::DiskFault { wrote: true }),
+    }
 }
 
 // A sync.
-pub fn flush<D: Disk>(disk: &mut D, file: u32) -> Result<(), Failed>
+pub fn flush<D: Disk>(disk: &mut D, file: u32) -> Result<(), JournalFault>
     ensures durable { OnOk result (IsDurable D.device file (D.device.reads disk.new file) disk.new) }
     ensures reads { D.device.reads disk.new ≡ D.device.reads disk.old }
     ensures moments { LeavesOnly D.device disk.old disk.new (D.device.images disk.old) }
     ensures images { AddsNoImage D.device disk.old disk.new }
     ensures cause { HasCause D.device disk.old disk.new result }
     ensures writes { CountsFailure D.device disk.old disk.new result }
+    ensures only { IfErr result (λ e. e ≡ DiskFault true) }
 {
-    disk.sync(file)
+    match disk.sync(file) {
+        Ok(()) => Ok(()),
+        Err(_) => Err(JournalFault::DiskFault { wrote: true }),
+    }
+}
+
+// Octets from a place on, as many as `into` has.
+pub fn read_at<D: Disk>(
+    disk: &mut D,
+    file: u32,
+    at: u64,
+    into: &mut [u8],
+) -> Result<(), JournalFault>
+    requires { IsTrue D.device.is_transparent → at + length into.old ≤ length (D.device.reads disk.old file) }
+    ensures octets { OnOk result (IsTrue D.device.is_transparent →
+        into.new ≡ take (length into.old) (drop at (D.device.reads disk.old file))) }
+    ensures len { length into.new ≡ length into.old }
+    ensures looked { OnlyReads D.device disk.old disk.new }
+    ensures cause { HasCause D.device disk.old disk.new result }
+    ensures only { IfErr result (λ e. e ≡ DiskFault false) }
+{
+    match disk.read_at(file, at, into) {
+        Ok(()) => Ok(()),
+        Err(_) => Err(JournalFault::DiskFault { wrote: false }),
+    }
 }
 
 // One octet.
-pub fn octet_at<D: Disk>(disk: &mut D, file: u32, at: u64) -> Result<u8, Failed>
+pub fn octet_at<D: Disk>(disk: &mut D, file: u32, at: u64) -> Result<u8, JournalFault>
     requires { IsTrue D.device.is_transparent → at < length (D.device.reads disk.old file) }
     ensures octet { IfOk result (λ octet. IsTrue D.device.is_transparent →
         octet ≡ get_or (D.device.reads disk.old file) at 0) }
     ensures looked { OnlyReads D.device disk.old disk.new }
     ensures cause { HasCause D.device disk.old disk.new result }
+    ensures only { IfErr result (λ e. e ≡ DiskFault false) }
 {
     let mut octets = [0; 1];
-    disk.read_at(file, at, &mut octets)?;
+    read_at(disk, file, at, &mut octets)?;
     Ok(octets[0])
 }
 
@@ -63,12 +96,16 @@ pub fn number_of(octets: &[u8]) -> u32
 }
 
 // The length of a file.
-pub fn len_of<D: Disk>(disk: &mut D, file: u32) -> Result<u64, Failed>
+pub fn len_of<D: Disk>(disk: &mut D, file: u32) -> Result<u64, JournalFault>
     ensures len { IfOk result (λ n. IsTrue D.device.is_transparent → n ≡ length (D.device.reads disk.old file)) }
     ensures looked { OnlyReads D.device disk.old disk.new }
     ensures cause { HasCause D.device disk.old disk.new result }
+    ensures only { IfErr result (λ e. e ≡ DiskFault false) }
 {
-    disk.len(file)
+    match disk.len(file) {
+        Ok(len) => Ok(len),
+        Err(_) => Err(JournalFault::DiskFault { wrote: false }),
+    }
 }
 
 // A run of octets.
@@ -84,15 +121,13 @@ pub fn octets_at<D: Disk>(
         octets.items ≡ take size (drop at (D.device.reads disk.old file))) }
     ensures long { IfOk result (λ octets. length octets.items ≡ size) }
     ensures looked { OnlyReads D.device disk.old disk.new }
-    ensures only { IfErr result (λ e. (e ≡ DiskFault) ⊎ (e ≡ OutOfMemory)) }
-    ensures cause { result ≡ Err JournalFault.DiskFault →
+    ensures only { IfErr result (λ e. (e ≡ DiskFault false) ⊎ (e ≡ OutOfMemory)) }
+    ensures cause { result ≡ Err (DiskFault false) →
         raised (D.device.fault_count disk.old) ≤ D.device.fault_count disk.new }
 {
     let Ok(mut octets) = vec![in alloc; 0u8; size as usize] else {
         return Err(JournalFault::OutOfMemory);
     };
-    match disk.read_at(file, at, &mut octets) {
-        Ok(()) => Ok(octets),
-        Err(_) => Err(JournalFault::DiskFault),
-    }
+    read_at(disk, file, at, &mut octets)?;
+    Ok(octets)
 }

@@ -1,5 +1,5 @@
 -- Fills at their places.
-use Rattle.std.proofs.Common.{◌≡◌, ℕ, zero, suc, ℤ, ◌<◌, List, [], ◌∷◌, ◌++◌, length, Bool, true, false, true≢false, Option, Some, None, option_map, refl, sym, ap, subst, ◌∙◌, arith, length-append}
+use Rattle.std.proofs.Common.{◌≡◌, ℕ, zero, suc, ℤ, ◌<◌, List, [], ◌∷◌, ◌++◌, length, Bool, true, false, true≢false, Option, Some, None, refl, sym, ap, subst, ◌∙◌, arith, length-append}
 use Rattle.std.specs.Prelude.{slice_get, set, if◌then◌else◌}
 use Rattle.std.specs.BTreeMap.{is_at, insert_entry}
 use Rattle.std.proofs.Math.Path.{fun_ext}
@@ -10,9 +10,8 @@ use Rattle.history_items.specs.Fills.{is_same}
 use Rattle.intervals.specs.Interval.{interval_cmp}
 use Rattle.intervals.proofs.Ranks.{interval_cmp_total}
 use Rattle.late_marks.proofs.IntervalOrder.{apart}
-use Rattle.store_fills.specs.Sound.{with_filling}
 use Rattle.store_fills.specs.declared.last_fills.LastFill.{LastFill}
-use Rattle.store_fills.specs.LastFills.{ArePlaced, place_in, filling_of, filling_at}
+use Rattle.store_fills.specs.LastFills.{ArePlaced, place_in, slot_at, with_slot}
 
 same_is : (a b : Interval) → is_same a b ≡ true → a ≡ b
 same_is a b e = ap (λ (n : ℤ). let i : Interval = record { 0 = n } in i) ((Decides-int_eq a.0 b.0).0 e)
@@ -66,16 +65,16 @@ module _ (entries : List (Interval × ℕ)) (slots : List LastFill) (i : Interva
   there : (j : Interval) → is_same j i ≡ false → place_in new_entries j ≡ place_in entries j
   there j e = lookup-insert_entry_other interval_cmp_total j i (length slots) entries (other j i e)
 
-  front : (o : Option ℕ) → ((at : ℕ) → o ≡ Some at → at < length slots) → filling_at (slots ++ one ∷ []) o ≡ filling_at slots o
+  front : (o : Option ℕ) → ((at : ℕ) → o ≡ Some at → at < length slots) → slot_at (slots ++ one ∷ []) o ≡ slot_at slots o
   front None within = refl
-  front (Some at) within = ap (option_map filling_of) (get_front slots one at (within at refl))
+  front (Some at) within = get_front slots one at (within at refl)
 
-  pub fillings_new : (λ (j : Interval). filling_at (slots ++ one ∷ []) (place_in new_entries j)) ≡ with_filling (λ j. filling_at slots (place_in entries j)) i (filling_of one)
-  fillings_new = fun_ext (λ j. at j (is_same j i) refl)
+  pub slots_new : (λ (j : Interval). slot_at (slots ++ one ∷ []) (place_in new_entries j)) ≡ with_slot (λ j. slot_at slots (place_in entries j)) i one
+  slots_new = fun_ext (λ j. at j (is_same j i) refl)
     where
-      at : (j : Interval) (b : Bool) → is_same j i ≡ b → filling_at (slots ++ one ∷ []) (place_in new_entries j) ≡ (if b then Some (filling_of one) else filling_at slots (place_in entries j))
-      at j true e = ap (λ (k : Interval). filling_at (slots ++ one ∷ []) (place_in new_entries k)) (same_is j i e) ∙ ap (filling_at (slots ++ one ∷ [])) here ∙ ap (option_map filling_of) (get_last slots one)
-      at j false e = ap (filling_at (slots ++ one ∷ [])) (there j e) ∙ front (place_in entries j) (placed.there j)
+      at : (j : Interval) (b : Bool) → is_same j i ≡ b → slot_at (slots ++ one ∷ []) (place_in new_entries j) ≡ (if b then Some one else slot_at slots (place_in entries j))
+      at j true e = ap (λ (k : Interval). slot_at (slots ++ one ∷ []) (place_in new_entries k)) (same_is j i e) ∙ ap (slot_at (slots ++ one ∷ [])) here ∙ get_last slots one
+      at j false e = ap (slot_at (slots ++ one ∷ [])) (there j e) ∙ front (place_in entries j) (placed.there j)
 
   pub placed_new : ArePlaced new_entries (slots ++ one ∷ [])
   placed_new = record { there = λ j at is. within j at (is_same j i) refl is; apart = λ j k at is too. one_place j k at (is_same j i) refl (is_same k i) refl is too }
@@ -98,17 +97,17 @@ module _ (entries : List (Interval × ℕ)) (slots : List LastFill) (i : Interva
 -- ---- a fill in a place that is there
 
 module _ (entries : List (Interval × ℕ)) (slots : List LastFill) (i : Interval) (p : ℕ) (one : LastFill) (placed : ArePlaced entries slots) (found : place_in entries i ≡ Some p) where
-  same_front : (o : Option ℕ) → (o ≡ Some p → ⊥) → filling_at (set slots p one) o ≡ filling_at slots o
+  same_front : (o : Option ℕ) → (o ≡ Some p → ⊥) → slot_at (set slots p one) o ≡ slot_at slots o
   same_front None apart = refl
-  same_front (Some at) apart = ap (option_map filling_of) (get_set_other slots p at one (λ e. apart (ap Some e)))
+  same_front (Some at) apart = get_set_other slots p at one (λ e. apart (ap Some e))
 
-  pub fillings_set : (λ (j : Interval). filling_at (set slots p one) (place_in entries j)) ≡ with_filling (λ j. filling_at slots (place_in entries j)) i (filling_of one)
-  fillings_set = fun_ext (λ j. at j (is_same j i) refl)
+  pub slots_set : (λ (j : Interval). slot_at (set slots p one) (place_in entries j)) ≡ with_slot (λ j. slot_at slots (place_in entries j)) i one
+  slots_set = fun_ext (λ j. at j (is_same j i) refl)
     where
-      at : (j : Interval) (b : Bool) → is_same j i ≡ b → filling_at (set slots p one) (place_in entries j) ≡ (if b then Some (filling_of one) else filling_at slots (place_in entries j))
+      at : (j : Interval) (b : Bool) → is_same j i ≡ b → slot_at (set slots p one) (place_in entries j) ≡ (if b then Some one else slot_at slots (place_in entries j))
       at j true e =
-          ap (λ (k : Interval). filling_at (set slots p one) (place_in entries k)) (same_is j i e) ∙ ap (filling_at (set slots p one)) found
-          ∙ ap (option_map filling_of) (get_set slots p one (placed.there i p found))
+          ap (λ (k : Interval). slot_at (set slots p one) (place_in entries k)) (same_is j i e) ∙ ap (slot_at (set slots p one)) found
+          ∙ get_set slots p one (placed.there i p found)
       at j false e = same_front (place_in entries j)
           (λ is. true≢false (sym (subst (λ (k : Interval). is_same j k ≡ true) (placed.apart j i p is found) (is_itself j)) ∙ e))
 

@@ -1,6 +1,6 @@
 //! Fills that are built.
 
-ghost use Rattle.std.specs.Prelude.{◌≡◌, OnOk, IfOk, IfErr};
+ghost use Rattle.std.specs.Prelude.{◌≡◌, ◌↔◌, IsTrue, OnOk, IfOk, IfErr};
 ghost use Rattle.std.specs.Arc.{arc_value};
 ghost use Rattle.field_codec.specs.declared.entry.Entry.TheVariants as entries;
 ghost use Rattle.field_codec.specs.Entries.{IsArchiveEntry};
@@ -10,6 +10,7 @@ ghost use Rattle.param_segments.specs.Octets.{rows_in_octets, set_octets};
 ghost use Rattle.store_fills.specs.Filled.{HoldsRows};
 ghost use Rattle.store_fills.specs.Built.{IsTaskRows};
 
+use crate::last_fills::LastFill;
 use crate::task::FillTask;
 use arch_types::row::Rows;
 use disk_journal::Frame;
@@ -21,11 +22,14 @@ use std::alloc::{AllocError, Global};
 use std::marker::Model;
 use std::sync::Arc;
 
-/// A fill that is built: its set, and the record that stands for it on a disk, so that an install copies nothing.
+/// A fill that is built: its set, with the database and the exponent that it is of, and the record that stands for it on
+/// a disk, so that an install copies nothing.
 #[derive(Drop)]
 pub struct Filled {
     interval: Interval,
+    exponent: Exponent,
     base: u64,
+    mdb: Mdb,
     set: Arc<SegSet, Global>,
     frame: Frame,
 }
@@ -36,9 +40,9 @@ impl Model for Filled {
 
     ghost Value = { BuiltFill };
 
-    ghost view = { λ f. built_fill f.interval f.base (arc_value f.set) };
+    ghost view = { λ f. built_fill f.interval f.exponent f.base f.mdb (arc_value f.set) };
 
-    ghost invariant = { λ f. IsBuilt f.interval f.base (arc_value f.set) f.frame };
+    ghost invariant = { λ f. IsBuilt f.interval f.exponent f.base f.mdb (arc_value f.set) f.frame };
 }
 
 /// The record of a fill. One that is longer than a record may be is refused like want of memory (D-247).
@@ -54,7 +58,7 @@ fn fill_frame(alloc: Global, interval: Interval, base: u64, set: &[u8]) -> Resul
     Frame::finish(octets)
 }
 
-/// The fill of an interval by its rows among the first `base` items of a history.
+/// The fill of an interval by its rows among the first `base` items of a history. It keeps the database.
 fn build(
     alloc: Global,
     interval: Interval,
@@ -65,6 +69,7 @@ fn build(
 ) -> Result<Filled, AllocError>
     requires { IsTaskRows exponent interval rows.now }
     ensures place { IfOk result (λ f. (f.interval ≡ interval) × (f.base ≡ base)) }
+    ensures origin { IfOk result (λ f. (f.exponent ≡ exponent) × (f.mdb ≡ mdb.now)) }
     ensures rows { IfOk result (λ f. f.set ≡ extracted_rows mdb.now rows.now) }
     ensures fits { IfOk result (λ f. IsSetOf mdb.now exponent interval.0 f.set) }
     ensures holds { IfOk result (λ f. HoldsRows mdb.now f.set rows.now) }
@@ -72,9 +77,12 @@ fn build(
     let set = SegSet::build(alloc, interval, exponent, rows, mdb)?;
     let octets = set.to_bytes()?;
     let frame = fill_frame(alloc, interval, base, octets.as_slice())?;
+    let kept = mdb.copy()?;
     Ok(Filled {
         interval,
+        exponent,
         base,
+        mdb: kept,
         set: Arc::new(alloc, set)?,
         frame,
     })
@@ -89,6 +97,7 @@ impl Filled {
         requires rows { IsTaskRows task.exponent task.interval task.rows }
         requires mdb { mdb.now ≡ arc_value task.mdb }
         ensures of_task { IfOk result (λ f. (f.interval ≡ task.interval) × (f.base ≡ task.base)) }
+        ensures origin { IfOk result (λ f. (f.exponent ≡ task.exponent) × (f.mdb ≡ arc_value task.mdb)) }
         ensures rows { IfOk result (λ f. f.set ≡ extracted_rows mdb.now task.rows) }
         ensures fits { IfOk result (λ f. IsSetOf mdb.now task.exponent task.interval.0 f.set) }
         ensures holds { IfOk result (λ f. HoldsRows mdb.now f.set task.rows) }
@@ -121,13 +130,29 @@ impl Filled {
         self.base
     }
 
-    /// The record that is appended, and the set that is kept.
-    pub fn into_parts(self) -> (Frame, Arc<SegSet, Global>)
+    /// Whether it is of this database, by the same items, and of this exponent.
+    pub fn is_of(&self, mdb: &Mdb, exponent: Exponent) -> bool
+        ensures { IsTrue result ↔ ((self.now.mdb ≡ mdb.now) × (self.now.exponent ≡ exponent)) }
+    {
+        self.exponent == exponent && self.mdb.equals(mdb)
+    }
+
+    /// The record that is appended, and the fill that is kept, which is said to be the store's own or not.
+    pub fn into_parts(self, own: bool) -> (Frame, LastFill)
         ensures frame { result.0 ≡ entry_octets (entries.Fill self.interval self.base (set_octets self.set)) }
         ensures fits { IsArchiveEntry (entries.Fill self.interval self.base (set_octets self.set)) }
-        ensures set { arc_value result.1 ≡ self.set }
+        ensures slot { (result.1.base ≡ self.base) × (result.1.own ≡ own) × (result.1.exponent ≡ self.exponent)
+            × (result.1.mdb ≡ self.mdb) × (arc_value result.1.set ≡ self.set) }
         ensures value { rows_in_octets (set_octets self.set) ≡ self.set }
+        ensures inside { IsSetOf self.mdb self.exponent self.interval.0 self.set }
     {
-        (self.frame, self.set)
+        let slot = LastFill {
+            base: self.base,
+            exponent: self.exponent,
+            mdb: self.mdb,
+            own,
+            set: self.set,
+        };
+        (self.frame, slot)
     }
 }

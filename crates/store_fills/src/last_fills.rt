@@ -1,21 +1,24 @@
 //! The last fills of intervals.
 
 ghost use Rattle.std.specs.Prelude.{◌≡◌, ◌≤◌, [], Some, None, OnOk, IfSome, IfNone};
-ghost use Rattle.std.specs.Arc.{arc_value};
-ghost use Rattle.store_fills.specs.Sound.{with_filling};
-ghost use Rattle.store_fills.specs.LastFills.{fill_over, fillings_in, filling_of};
+ghost use Rattle.store_fills.specs.LastFills.{slots_in, with_slot};
 
 use block_map::index::Index;
-use intervals::Interval;
+use intervals::{Exponent, Interval};
+use mdb_model::Mdb;
 use param_segments::SegSet;
 use std::alloc::{AllocError, Global};
 use std::marker::Model;
 use std::sync::Arc;
 
-/// The last fill of an interval: its base and its set.
+/// The last fill of an interval: its base and its set, with the exponent and the database that this is of.
 #[derive(Drop)]
 pub struct LastFill {
     pub base: u64,
+    pub exponent: Exponent,
+    pub mdb: Mdb,
+    /// Whether exponent and database are those of the store. A fill of others is passed over.
+    pub own: bool,
     pub set: Arc<SegSet, Global>,
 }
 
@@ -58,12 +61,10 @@ impl LastFills {
     }
 
     /// The fill of an interval is this one from now on. Takes no memory.
-    pub fn put(&mut self, interval: Interval, base: u64, set: Arc<SegSet, Global>)
+    pub fn put(&mut self, interval: Interval, slot: LastFill)
         requires { 1 ≤ self.old.room }
-        ensures { fillings_in self.new.filled ≡ with_filling (fillings_in self.old.filled) interval
-            (fill_over base (arc_value set)) }
+        ensures { slots_in self.new.filled ≡ with_slot (slots_in self.old.filled) interval slot }
     {
-        let slot = LastFill { base, set };
         match self.places.get(interval) {
             Some(at) => self.slots[at] = slot,
             None => {
@@ -74,10 +75,10 @@ impl LastFills {
         }
     }
 
-    /// The fill of an interval.
+    /// The fill of an interval, of whatever database.
     pub fn get(&self, interval: Interval) -> Option<&LastFill>
-        ensures some { IfSome result (λ slot. fillings_in self.now.filled interval ≡ Some (filling_of slot.now)) }
-        ensures none { IfNone result (fillings_in self.now.filled interval ≡ None) }
+        ensures some { IfSome result (λ fill. slots_in self.now.filled interval ≡ Some fill.now) }
+        ensures none { IfNone result (slots_in self.now.filled interval ≡ None) }
     {
         let at = self.places.get(interval)?;
         Some(&self.slots[at])

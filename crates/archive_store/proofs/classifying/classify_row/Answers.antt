@@ -6,6 +6,7 @@ use Rattle.octet_fields.specs.Exact.{IsOctets}
 use Rattle.arch_types.specs.declared.inserted.Inserted.{Inserted}
 use Rattle.arch_types.specs.declared.inserted.Inserted.TheVariants.{New, Duplicate}
 use Rattle.arch_types.specs.declared.row.Row.{Row}
+use Rattle.history_items.specs.Items.{items_of}
 use Rattle.history_items.specs.Outcomes.{Says, fresh_of}
 use Rattle.archive_store.specs.Batches.{in_table}
 use Rattle.archive_store.specs.Classifying.{IsClassified, NoneAbove}
@@ -18,7 +19,7 @@ returns-in-Duplicate c rows s =
     let items = c.args.history.now.items in
     let old = c.args.classified.now in
     let row : Row = in_table c.args.row.now c.args.table in
-    let says = subst (λ (l : List Row). Says (items ++ l) row (Duplicate c.in-Duplicate.field-0)) s.fresh (subst (Says (items ++ old.fresh) row) c.in-Duplicate.is (c.outcome-outcome.ensures.says row refl)) in
+    let says = subst (λ (l : List Row). Says (items ++ items_of l) row (Duplicate c.in-Duplicate.field-0)) s.fresh (subst (Says (items ++ items_of old.fresh) row) c.in-Duplicate.is (c.outcome-outcome.ensures.says row refl)) in
     let outcomes = outcomes_more items rows row (Duplicate c.in-Duplicate.field-0) c.outcome-outcome.ensures.history says in
     let fresh = fresh_more items rows row (Duplicate c.in-Duplicate.field-0) c.outcome-outcome.ensures.history says in
     record {
@@ -34,7 +35,7 @@ returns-in_ok-fresh-in-New c rows s =
     let old = c.args.classified.now in
     let n = c.in-New.field-0 in
     let row : Row = in_table c.args.row.now c.args.table in
-    let says = subst (λ (l : List Row). Says (items ++ l) row (New n)) s.fresh (subst (Says (items ++ old.fresh) row) c.in-New.is (c.outcome-outcome.ensures.says row refl)) in
+    let says = subst (λ (l : List Row). Says (items ++ items_of l) row (New n)) s.fresh (subst (Says (items ++ items_of old.fresh) row) c.in-New.is (c.outcome-outcome.ensures.says row refl)) in
     let outcomes = outcomes_more items rows row (New n) c.outcome-outcome.ensures.history says in
     let fresh = fresh_more items rows row (New n) c.outcome-outcome.ensures.history says in
     on_both c.keep.result (c.keep.new.classified.fresh ≡ old.fresh ++ c.in_ok-fresh-in-New.fresh ∷ []) (NoneAbove c.keep.new.classified.last c.keep.new.classified.fresh) (IsClassified items (rows ++ row ∷ []) c.keep.new.classified)

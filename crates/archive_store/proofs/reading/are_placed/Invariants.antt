@@ -6,6 +6,6 @@ use Rattle.archive_store.proofs.reading.are_placed.Given as goal
 
 abbrev pub invariant-loop-row : goal.invariant-loop-row
 invariant-loop-row l = record {
-  placed : AllByRecursion (IsPlaced l.head) (take l.row-index l.rows);
+  placed : AllByRecursion (IsPlaced l.made.head l.made.history.items) (take l.row-index l.rows);
   octets : AllByRecursion (λ row. IsOctets row.packet) (take l.row-index l.rows);
 }

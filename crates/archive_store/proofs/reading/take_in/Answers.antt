@@ -2,11 +2,13 @@ use Rattle.std.proofs.Common.{◌≡◌, ◌++◌, [], ◌∷◌, append-nil, Li
 use Rattle.std.specs.Option.{is_some}
 use Rattle.arch_types.specs.declared.row.Row.{Row}
 use Rattle.history_items.specs.declared.fills.Fill.{Fill}
-use Rattle.history_items.specs.Items.{Item}
+use Rattle.history_items.specs.declared.items.Item.{Item}
+use Rattle.history_items.specs.Items.{items_of}
 use Rattle.field_codec.specs.declared.entry.Entry.{Entry}
 use Rattle.field_codec.specs.declared.entry.Entry.TheVariants as kinds
 use Rattle.field_codec.specs.Entries.{IsArchiveEntry}
-use Rattle.field_codec.specs.Spelling.{entry_octets, format_1_exponent}
+use Rattle.intervals.specs.Interval.{format_1_exponent}
+use Rattle.field_codec.specs.Spelling.{entry_octets}
 use Rattle.store_fills.specs.LastFills.{PlacedFills, fillings_in}
 use Rattle.store_fills.specs.Sound.{no_fillings}
 use Rattle.archive_store.specs.declared.head.Head.{Head}
@@ -36,7 +38,7 @@ none_told (Some before) none = absurd (true≢false none)
 -- rows that are admitted
 takes_rows : (was : Option PartialArchive) (made now : PartialArchive) (rows : List Row) (body : List ℕ) → was ≡ Some made → body ≡ entry_octets (kinds.Rows rows) → (now.head ≡ made.head) × (now.sets.filled ≡ made.sets.filled)
     → now.history.exponent ≡ made.history.exponent → now.tracker.fills ≡ made.tracker.fills
-    → AreAdmitted (archive made.head made.history.exponent made.history.items) rows × (now.history.items ≡ made.history.items ++ rows) → IsTaken was body (Some now)
+    → AreAdmitted (archive made.head made.history.exponent made.history.items) rows × (now.history.items ≡ made.history.items ++ items_of rows) → IsTaken was body (Some now)
 takes_rows was made now rows body is spelled same alike told ok = (
   kinds.Rows rows,
   spelled,
@@ -47,7 +49,7 @@ takes_rows was made now rows body is spelled same alike told ok = (
     ap (λ (h : Head). filled_archive h now.history.exponent now.history.items (fillings_in now.sets.filled)) same.0
         ∙ ap (λ (e : ℕ). filled_archive made.head e now.history.items (fillings_in now.sets.filled)) alike
         ∙ ap (λ (l : List Item). filled_archive made.head made.history.exponent l (fillings_in now.sets.filled)) ok.1
-        ∙ ap (λ (f : PlacedFills). filled_archive made.head made.history.exponent (made.history.items ++ rows) (fillings_in f)) same.1,
+        ∙ ap (λ (f : PlacedFills). filled_archive made.head made.history.exponent (made.history.items ++ items_of rows) (fillings_in f)) same.1,
   ),
   told ∙ sym (ap fills_made is) ∙ sym (append-nil (fills_made was)),
 )
@@ -84,7 +86,7 @@ returns-in-Some-clause-yes c =
     let body : List ℕ = c.args.body.now in
     let now : PartialArchive = c.admit.new.made in
     let spelled = rw c.in-Ok-Rows.field-0-is at c.in-Ok-Rows.ensures.spelled in
-    if_ok c.admit.result (λ ok. ok ≡ true → AreAdmitted (archive made.head made.history.exponent made.history.items) rows × (now.history.items ≡ made.history.items ++ rows)) (λ ok. ok ≡ true → IsTaken c.args.made.now body (Some now))
+    if_ok c.admit.result (λ ok. ok ≡ true → AreAdmitted (archive made.head made.history.exponent made.history.items) rows × (now.history.items ≡ made.history.items ++ items_of rows)) (λ ok. ok ≡ true → IsTaken c.args.made.now body (Some now))
     (λ ok p is. takes_rows c.args.made.now made now rows body c.in-Some.is spelled.1 c.admit.ensures.head c.admit.ensures.tables.1 c.admit.ensures.fills (p is))
     c.admit.ensures.yes
 

@@ -4,13 +4,13 @@ use Rattle.std.specs.List.{filter_map}
 use Rattle.std.specs.Arc.{arc_value}
 use Rattle.arch_types.specs.declared.row.Row.{Row}
 use Rattle.container_extract.specs.Extraction.{cell_of}
+use Rattle.history_items.specs.Databases.{database_in}
 use Rattle.history_items.specs.Late.{IsLate}
 use Rattle.interval_fills.specs.Intervals.{rows_of_interval}
 use Rattle.mdb_items.specs.Database.{Database}
 use Rattle.param_segments.specs.Cells.{set_cells}
 use Rattle.param_segments.specs.Rows.{SetRow}
 use Rattle.store_fills.specs.LastFills.{fill_over, fillings_in}
-use Rattle.archive_store.specs.declared.head.Head.{Head}
 use Rattle.archive_store.specs.CurrentSets.{IsCurrentSet}
 use Rattle.archive_store.specs.StoreView.{filled_of}
 use Rattle.archive_verify.specs.ComparedSets.{IsFirstSetDifference}
@@ -40,15 +40,16 @@ returns-clause-some g c =
     let store = c.args.store.now in
     let i = c.args.interval in
     let set = arc_value c.in-Some.stored in
-    let named = c.head.result.now.mdb in
-    let same_db : named ≡ store.head.mdb = ap (λ (h : Head). h.mdb) c.head.ensures.head in
+    let db = database_in store.head.mdb store.history in
+    let named = c.mdb-mdb.result.now in
+    let same_db : named ≡ db = c.mdb-mdb.ensures in
     let current : IsCurrentSet store i set = subst (λ o. IfSome o (λ s. IsCurrentSet store i (arc_value s))) c.in-Some.is c.in_ok-stored.ensures.some in
-    let fill = current_of store i set c.front.ensures.bases current in
+    let fill = current_of store i set c.front.ensures.bases c.requires current in
     let replayed = c.in_ok-replayed.replayed in
-    let gives = gives_named store.head.mdb named c.in_ok-rows.rows (rows_of_interval store.exponent i store.history) replayed same_db c.in_ok-rows.ensures.rows c.in_ok-replayed.ensures.cells in
+    let gives = gives_named db named c.in_ok-rows.rows (rows_of_interval store.exponent i store.history) replayed same_db c.in_ok-rows.ensures.rows c.in_ok-replayed.ensures.cells in
     let found = subst (λ (x : Database). IfOk c.set_difference.result (λ o. IfSome o (IsFirstSetDifference x set replayed))) same_db
     (subst (λ (s : List SetRow). IfOk c.set_difference.result (λ o. IfSome o (IsFirstSetDifference named s replayed))) c.deref.ensures c.set_difference.ensures.some) in
-    some_weaker (IsFirstSetDifference store.head.mdb set replayed) (IsIntervalMismatch (filled_of store) i)
+    some_weaker (IsFirstSetDifference db set replayed) (IsIntervalMismatch (filled_of store) i)
     (λ d is. mismatch_of_sets (filled_of store) i (fill_over current.base set) replayed d fill gives is) c.set_difference.result found
 
 pub returns-clause-none : goal.returns-clause-none
@@ -56,15 +57,16 @@ returns-clause-none g c =
     let store = c.args.store.now in
     let i = c.args.interval in
     let set = arc_value c.in-Some.stored in
-    let named = c.head.result.now.mdb in
-    let same_db : named ≡ store.head.mdb = ap (λ (h : Head). h.mdb) c.head.ensures.head in
+    let db = database_in store.head.mdb store.history in
+    let named = c.mdb-mdb.result.now in
+    let same_db : named ≡ db = c.mdb-mdb.ensures in
     let current : IsCurrentSet store i set = subst (λ o. IfSome o (λ s. IsCurrentSet store i (arc_value s))) c.in-Some.is c.in_ok-stored.ensures.some in
-    let fill = current_of store i set c.front.ensures.bases current in
+    let fill = current_of store i set c.front.ensures.bases c.requires current in
     let replayed = c.in_ok-replayed.replayed in
-    let gives = gives_named store.head.mdb named c.in_ok-rows.rows (rows_of_interval store.exponent i store.history) replayed same_db c.in_ok-rows.ensures.rows c.in_ok-replayed.ensures.cells in
+    let gives = gives_named db named c.in_ok-rows.rows (rows_of_interval store.exponent i store.history) replayed same_db c.in_ok-rows.ensures.rows c.in_ok-replayed.ensures.cells in
     let same = subst (λ (x : Database). IfOk c.set_difference.result (λ o. IfNone o ((q : ℕ) → set_cells x q set ≡ set_cells x q replayed))) same_db
     (subst (λ (s : List SetRow). IfOk c.set_difference.result (λ o. IfNone o ((q : ℕ) → set_cells named q s ≡ set_cells named q replayed))) c.deref.ensures c.set_difference.ensures.none) in
-    none_weaker ((q : ℕ) → set_cells store.head.mdb q set ≡ set_cells store.head.mdb q replayed) (HoldsWhereCurrent (filled_of store) i)
+    none_weaker ((q : ℕ) → set_cells db q set ≡ set_cells db q replayed) (HoldsWhereCurrent (filled_of store) i)
     (λ all. holds_of_sets (filled_of store) i (fill_over current.base set) replayed fill gives all) c.set_difference.result same
 
 pub returns-in_default-clause-none : goal.returns-in_default-clause-none

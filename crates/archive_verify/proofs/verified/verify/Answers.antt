@@ -3,7 +3,7 @@ use Rattle.std.specs.Prelude.{IfNone, IfSome, filter}
 use Rattle.std.specs.List.{AllByRecursion}
 use Rattle.intervals.specs.declared.interval.Interval.{Interval}
 use Rattle.history_items.specs.Late.{is_late_in}
-use Rattle.archive_store.specs.declared.head.Head.{Head}
+use Rattle.mdb_items.specs.Database.{Database}
 use Rattle.archive_store.specs.StoreView.{filled_of}
 use Rattle.archive_verify.specs.Verified.{HoldBelow, HoldsWhereCurrent, IsIntervalMismatch, IsMismatchOf}
 use Rattle.archive_verify.proofs.Counting.{as_many_intervals, as_many_passed}
@@ -35,4 +35,4 @@ returns-in-Some-clause-refused g c =
     let is = c.in_ok-intervals.intervals.items in
     let d = c.in-Some.difference in
     let found = subst (λ o. IfSome o (λ x. IsIntervalMismatch (filled_of store) x.interval x.sets × HoldBelow (filled_of store) c.as_slice.result.now x.interval)) c.in-Some.is c.in_ok-difference.ensures.some in
-    named_refusal store is d.interval d.sets c.in_ok-mismatch_of.field-0 c.in_ok-intervals.ensures.filled found.0 (subst (λ (l : List Interval). HoldBelow (filled_of store) l d.interval) c.as_slice.ensures.value found.1) (subst (λ (h : Head). IsMismatchOf h.mdb d.interval d.sets c.in_ok-mismatch_of.field-0) c.head.ensures.head c.in_ok-mismatch_of.ensures)
+    named_refusal store is d.interval d.sets c.in_ok-mismatch_of.field-0 c.in_ok-intervals.ensures.filled found.0 (subst (λ (l : List Interval). HoldBelow (filled_of store) l d.interval) c.as_slice.ensures.value found.1) (subst (λ (db : Database). IsMismatchOf db d.interval d.sets c.in_ok-mismatch_of.field-0) c.mdb.ensures c.in_ok-mismatch_of.ensures)

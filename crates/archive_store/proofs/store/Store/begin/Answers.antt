@@ -24,7 +24,7 @@ prepare_task-prepared-requires-clause-interval g c =
     let s = c.self.inside in
     let i = c.in-Some.interval in
     let next : IsNextToFill s.history.exponent (state_of s.history.items s.tracker.fills) (Some i) = subst (IsNextToFill s.history.exponent (state_of s.history.items s.tracker.fills)) c.in-Some.is (c.next.ensures.next s.history.exponent s.history.items c.self.invariant.3) in
-    stands_in_clock s.head s.history.exponent s.history.items i next.0.late.position c.self.invariant.0.rows next.0.late.stands
+    stands_in_clock s.head s.history.exponent s.history.items i next.0.late.row.position c.self.invariant.0.rows next.0.late.row.stands
 
 pub invariant_of-self-2 : goal.invariant_of-self-2
 invariant_of-self-2 g c =
@@ -41,7 +41,7 @@ invariant_of-self-2 g c =
       k.1,
       k.2,
       c.begin.ensures.marks s.history.exponent s.history.items mid,
-      holds_same s.head s.history.exponent s.tracker.fills c.begin.new.self.fills s.sets.filled k.4 (λ j. ap (base_in j) fills ∙ base_after_item j s.tracker.fills (Begun i base)),
+      holds_same s.head s.history.exponent s.history.items s.tracker.fills c.begin.new.self.fills s.sets.filled k.4 (λ j. ap (base_in j) fills ∙ base_after_item j s.tracker.fills (Begun i base)),
     )
 
 pub invariant_of-self : goal.invariant_of-self
@@ -54,7 +54,7 @@ invariant_of-self g c =
       k.1,
       k.2,
       subst (λ (m : Marks). AreMarksOf s.history.exponent s.history.items c.prepare_task-prepared.new.tracker.fills m) (sym same.1) (subst (λ (l : List Fill). AreMarksOf s.history.exponent s.history.items l s.tracker.marks) (sym same.0) k.3),
-      subst (λ (l : List Fill). HoldsFills s.head s.history.exponent l s.sets.filled) (sym same.0) k.4,
+      subst (λ (l : List Fill). HoldsFills s.head s.history.exponent s.history.items l s.sets.filled) (sym same.0) k.4,
     )
 
 pub begin-requires-clause-free : goal.begin-requires-clause-free

@@ -1,10 +1,12 @@
-use Rattle.std.proofs.Common.{◌≡◌, None, subst}
+use Rattle.std.proofs.Common.{◌≡◌, true, None, Some, subst}
 use Rattle.std.specs.List.{AllByRecursion}
 use Rattle.intervals.specs.declared.interval.Interval.{Interval}
 use Rattle.history_items.specs.Fills.{base_in, pending_fault_of}
 use Rattle.history_items.specs.Items.{rows_in}
-use Rattle.store_fills.specs.LastFills.{fillings_in}
-use Rattle.store_fills.specs.Sound.{base_of_filling}
+use Rattle.store_fills.specs.LastFills.{AreOwn, base_of_slot, slots_in}
+use Rattle.store_fills.specs.declared.last_fills.LastFill.{LastFill}
+use Rattle.std.specs.Prelude.{◌↔◌}
+use Rattle.archive_store.specs.CurrentSets.{IsOfHistory}
 use Rattle.archive_store.specs.Entries.{IsArchivedRow, IsSoundArchive}
 use Rattle.archive_store.specs.Stands.{IsSoundImage}
 use Rattle.archive_store.specs.StoreView.{StoreView, CrashInvariant, IsKeptWithFills, filled_of}
@@ -19,7 +21,7 @@ returns-clause-images g c transparent =
     subst (λ (x : StoreView g.row.D.Denot). CrashInvariant device x) c.self.view_is (crash_of device s.disk s.opened.value s.journal s.head s.history.exponent s.history.items s.tracker.fills s.sets.filled s.pending_fault c.self.invariant.0 transparent)
 
 pub returns-clause-rows : goal.returns-clause-rows
-returns-clause-rows g c = subst (λ (x : StoreView g.row.D.Denot). AllByRecursion (IsArchivedRow x.head) (rows_in x.history)) c.self.view_is c.self.invariant.0.rows
+returns-clause-rows g c = subst (λ (x : StoreView g.row.D.Denot). AllByRecursion (IsArchivedRow x.head x.history) (rows_in x.history)) c.self.view_is c.self.invariant.0.rows
 
 pub returns-clause-sound : goal.returns-clause-sound
 returns-clause-sound g c transparent =
@@ -30,7 +32,14 @@ returns-clause-sound g c transparent =
 
 pub returns-clause-bases : goal.returns-clause-bases
 returns-clause-bases g c =
-    subst (λ (x : StoreView g.row.D.Denot). (i : Interval) → base_in i x.fills ≡ base_of_filling (fillings_in x.filled) i) c.self.view_is c.self.invariant.4.bases
+    subst (λ (x : StoreView g.row.D.Denot). (i : Interval) → base_in i x.fills ≡ base_of_slot (slots_in x.filled) i) c.self.view_is c.self.invariant.4.bases
+
+pub returns-clause-own : goal.returns-clause-own
+returns-clause-own g c =
+    subst (λ (x : StoreView g.row.D.Denot). (i : Interval) (slot : LastFill) → slots_in x.filled i ≡ Some slot → (slot.own ≡ true) ↔ IsOfHistory x.head x.exponent x.history slot) c.self.view_is c.self.invariant.4.own
+
+pub returns-clause-all_own : goal.returns-clause-all_own
+returns-clause-all_own g c transparent = subst (λ (x : StoreView g.row.D.Denot). AreOwn x.filled) c.self.view_is (c.self.invariant.0.own transparent)
 
 pub returns-clause-kept : goal.returns-clause-kept
 returns-clause-kept g c transparent =

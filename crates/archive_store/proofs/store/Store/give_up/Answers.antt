@@ -19,7 +19,7 @@ invariant_of-self g c =
       k.1,
       k.2,
       c.free.ensures.marks s.history.exponent s.history.items k.3,
-      subst (λ (l : List Fill). HoldsFills s.head s.history.exponent l s.sets.filled) (sym c.free.ensures.fills) (holds_same s.head s.history.exponent s.tracker.fills (freed i s.tracker.fills) s.sets.filled k.4 (λ j. freed_bases i j s.tracker.fills)),
+      subst (λ (l : List Fill). HoldsFills s.head s.history.exponent s.history.items l s.sets.filled) (sym c.free.ensures.fills) (holds_same s.head s.history.exponent s.history.items s.tracker.fills (freed i s.tracker.fills) s.sets.filled k.4 (λ j. freed_bases i j s.tracker.fills)),
     )
 
 pub returns : goal.returns

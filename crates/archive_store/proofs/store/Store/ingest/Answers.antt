@@ -4,7 +4,8 @@ use Rattle.arch_types.specs.declared.row.Row.{Row}
 use Rattle.std.specs.List.{AllByRecursion}
 use Rattle.octet_fields.specs.Exact.{IsOctets}
 use Rattle.history_items.specs.Fills.{pending_fault_of}
-use Rattle.history_items.specs.Items.{Item}
+use Rattle.history_items.specs.declared.items.Item.{Item}
+use Rattle.history_items.specs.Items.{rows_in}
 use Rattle.history_items.specs.Outcomes.{outcomes_of, fresh_of}
 use Rattle.archive_store.specs.Batches.{batch_rows, IsBatch}
 use Rattle.archive_store.specs.Calls.{AreIngested, IsIngestRefusal, archive_with}
@@ -19,12 +20,13 @@ use Rattle.archive_store.proofs.Batching.{admitted, sortable}
 use Rattle.archive_store.proofs.Calls.{passed_on, rows_refused}
 use Rattle.archive_store.proofs.Ingesting.{added, nothing_added, none_new, below_none, below_some}
 use Rattle.archive_store.proofs.KeptFills.{filled_now}
+use Rattle.archive_store.proofs.RowsAlone.{few_names}
 use Rattle.archive_store.proofs.store.Store.ingest.Goals as goal
 
 pub classify-requires : goal.classify-requires
 classify-requires g c =
-    sortable c.self.inside.head c.args.batch.now c.self.inside.history.tables c.self.invariant.1
-    (subst (λ (x : StoreView g.row.D.Denot). IsBatch x.head c.args.batch.now) (sym c.self.view_is) c.requires)
+    sortable c.self.inside.head c.self.inside.history.items c.args.batch.now c.self.inside.history.tables c.self.invariant.1
+    (subst (λ (x : StoreView g.row.D.Denot). IsBatch x.head x.history c.args.batch.now) (sym c.self.view_is) c.requires)
 
 pub append-requires-clause-admitted : goal.append-requires-clause-admitted
 append-requires-clause-admitted g c =
@@ -32,13 +34,13 @@ append-requires-clause-admitted g c =
     let now = c.args.self.now in
     let s = c.self.inside in
     let classified = c.in-Ok.classified in
-    let fits = subst (λ (x : StoreView g.row.D.Denot). IsBatch x.head c.args.batch.now) (sym c.self.view_is) c.requires in
+    let fits = subst (λ (x : StoreView g.row.D.Denot). IsBatch x.head x.history c.args.batch.now) (sym c.self.view_is) c.requires in
     let some : 1 ≤ length (fresh_of s.history.items rows) = omega (arith, ap length c.in-Ok.ensures.fresh, c.len.ensures, c.if-len-eq0.false) in
-    let within_now : IsWithin now.exponent (now.history ++ classified.fresh) = subst (λ (l : List Row). IsWithin now.exponent (now.history ++ l)) c.as_slice.ensures c.in_default-limit_passed.ensures.none.0 in
-    let within : IsWithin s.history.exponent (s.history.items ++ fresh_of s.history.items rows) =
-    subst (λ (l : List Row). IsWithin s.history.exponent (s.history.items ++ l)) c.in-Ok.ensures.fresh (subst (λ (x : StoreView g.row.D.Denot). IsWithin x.exponent (x.history ++ classified.fresh)) (sym c.self.view_is) within_now) in
+    let within_now : IsWithin now.exponent (rows_in now.history ++ classified.fresh) = subst (λ (l : List Row). IsWithin now.exponent (rows_in now.history ++ l)) c.as_slice.ensures c.in_default-limit_passed.ensures.none.0 in
+    let within : IsWithin s.history.exponent (rows_in s.history.items ++ fresh_of s.history.items rows) =
+    subst (λ (l : List Row). IsWithin s.history.exponent (rows_in s.history.items ++ l)) c.in-Ok.ensures.fresh (subst (λ (x : StoreView g.row.D.Denot). IsWithin x.exponent (rows_in x.history ++ classified.fresh)) (sym c.self.view_is) within_now) in
     let octets = subst (AllByRecursion (λ row. IsOctets row.packet)) c.in-Ok.ensures.fresh c.in-Ok.ensures.octets in
-    let done = admitted s.head s.history.exponent s.history.items c.args.batch.now c.self.invariant.0.head_is (omega (arith, c.containers-names.ensures, c.containers-names.type_inv)) fits some within octets in
+    let done = admitted s.head s.history.exponent s.history.items c.args.batch.now c.self.invariant.0.head_is (omega (arith, c.containers-names.ensures, c.containers-names.type_inv, few_names s.head.mdb s.history.items c.self.invariant.0.alone)) fits some within octets in
     subst (λ (x : StoreView g.row.D.Denot). AreAdmitted (archive x.head x.exponent x.history) classified.fresh) c.self.view_is
     (subst (AreAdmitted (archive s.head s.history.exponent s.history.items)) (sym c.in-Ok.ensures.fresh) done)
 

@@ -3,7 +3,7 @@ use Rattle.arch_disk.specs.Disk.{LeavesOnly}
 use Rattle.intervals.specs.declared.interval.Interval.{Interval}
 use Rattle.history_items.specs.Fills.{pending_fault_of}
 use Rattle.history_items.specs.Late.{last_in}
-use Rattle.interval_fills.specs.Intervals.{NoRowSince}
+use Rattle.interval_fills.specs.Intervals.{NoneSince}
 use Rattle.archive_store.specs.Inside.{view_of}
 use Rattle.archive_store.specs.Installs.{IsAbandoned, IsInstallable, filled_with}
 use Rattle.archive_store.specs.Stands.{StandsFilled}
@@ -21,7 +21,7 @@ pub append_fill-requires-clause-none : goal.append_fill-requires-clause-none
 append_fill-requires-clause-none g c =
     let now = c.args.self.now in
     let done = c.args.done in
-    let none = at_done done c.interval-interval.result c.base-base.result c.interval-interval.ensures c.base-base.ensures (λ j n. NoRowSince now.exponent j n now.history) c.in_default.ensures.none in
+    let none = at_done done c.interval-interval.result c.base-base.result c.interval-interval.ensures c.base-base.ensures (λ j n. NoneSince now.exponent j n now.history) c.in_default.ensures.none in
     none
 
 -- ---- a failed write is pending
@@ -118,7 +118,7 @@ returns-then-is_full-clause-refused g c =
     let now = c.args.self.now in
     let done = c.args.done in
     let healed : pending_fault_of now.fills ≡ None = subst (λ (x : StoreView g.row.D.Denot). pending_fault_of x.fills ≡ None) c.self.view_is (sym c.self.invariant.0.pending_fault_is ∙ c.in-None.is) in
-    let none = at_done done c.interval-interval.result c.base-base.result c.interval-interval.ensures c.base-base.ensures (λ j n. NoRowSince now.exponent j n now.history) c.in_default.ensures.none in
+    let none = at_done done c.interval-interval.result c.base-base.result c.interval-interval.ensures c.base-base.ensures (λ j n. NoneSince now.exponent j n now.history) c.in_default.ensures.none in
     let up : IsAbandoned now c.give_up-then-is_full.new.self done.interval = subst (λ (j : Interval). IsAbandoned now c.give_up-then-is_full.new.self j) c.interval-interval.ensures c.give_up-then-is_full.ensures in
     (healed, none, refl, c.limit.ensures, c.is_full.ensures.0 c.if-is_full.true, up)
 
@@ -174,7 +174,7 @@ returns-in-Err-clause-refused g c =
     let done = c.args.done in
     let healed : pending_fault_of now.fills ≡ None = subst (λ (x : StoreView g.row.D.Denot). pending_fault_of x.fills ≡ None) c.self.view_is (sym c.self.invariant.0.pending_fault_is ∙ c.in-None.is) in
     let able : IsInstallable now = record { healed = healed; below = below_limit _ _ (λ full. true≢false (sym (c.is_full.ensures.1 full) ∙ c.if-is_full.false)) } in
-    let none = at_done done c.interval-interval.result c.base-base.result c.interval-interval.ensures c.base-base.ensures (λ j n. NoRowSince now.exponent j n now.history) c.in_default.ensures.none in
+    let none = at_done done c.interval-interval.result c.base-base.result c.interval-interval.ensures c.base-base.ensures (λ j n. NoneSince now.exponent j n now.history) c.in_default.ensures.none in
     let up : IsAbandoned c.append_fill.new.self c.give_up-in-Err.new.self done.interval = subst (λ (j : Interval). IsAbandoned c.append_fill.new.self c.give_up-in-Err.new.self j) c.interval-interval.ensures c.give_up-in-Err.ensures in
     install_refused device now c.append_fill.new.self c.give_up-in-Err.new.self done c.in-Err.refusal able none c.in-Err.ensures.refused up
 

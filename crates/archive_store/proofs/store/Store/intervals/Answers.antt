@@ -5,7 +5,7 @@ use Rattle.std.specs.List.{list_any, AllByRecursion}
 use Rattle.archive_history.proofs.Steps.{if_ok}
 use Rattle.intervals.specs.declared.interval.Interval.{Interval}
 use Rattle.history_items.specs.Fills.{is_same}
-use Rattle.history_items.specs.Items.{Item}
+use Rattle.history_items.specs.declared.items.Item.{Item}
 use Rattle.history_items.specs.Late.{StandsIn, last_in}
 use Rattle.fill_tracker.specs.FillTracker.{AreMarksOf}
 use Rattle.interval_walks.specs.Turns.{CoverRange}
@@ -44,5 +44,5 @@ returns-clause-filled g c =
     (if_ok r (λ (is : Vec Interval). (history : List Item) → AreMarksOf s.history.exponent history s.tracker.fills s.tracker.marks → CoverRange s.history.exponent is.items (pos 0) (pos 9223372036854775807) history)
     (λ (is : Vec Interval). (i : Interval) → IsSome (fillings_in s.sets.filled i) → list_any (is_same i) is.items ≡ true)
     (λ is covers i some.
-    let stands = filled_stands s.head s.history.exponent s.history.items s.tracker.fills s.tracker.marks s.sets.filled i c.self.invariant.3 c.self.invariant.4 some in
-    covers s.history.items c.self.invariant.3 i stands.0 stands.1 (meets_all s.head s.history.exponent s.history.items i stands.0 c.self.invariant.0.rows stands.1)) cover)
+    let row = filled_stands s.head s.history.exponent s.history.items s.tracker.fills s.tracker.marks s.sets.filled i c.self.invariant.3 c.self.invariant.4 some in
+    covers s.history.items c.self.invariant.3 i row.position row.stands (meets_all s.head s.history.exponent s.history.items i row.position c.self.invariant.0.rows row.stands)) cover)

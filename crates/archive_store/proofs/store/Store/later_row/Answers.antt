@@ -1,7 +1,7 @@
 use Rattle.std.proofs.Common.{◌≡◌, ◌≤◌, Option, None, Some, sym, ◌∙◌, subst}
 use Rattle.std.specs.Prelude.{IfNone}
 use Rattle.history_items.specs.Late.{last_in}
-use Rattle.interval_fills.specs.Intervals.{NoRowSince}
+use Rattle.interval_fills.specs.Intervals.{NoneSince}
 use Rattle.archive_store.specs.StoreView.{StoreView}
 use Rattle.archive_store.proofs.Installs.{never_since, none_since_last}
 use Rattle.archive_store.proofs.store.Store.later_row.Goals as goal
@@ -14,14 +14,14 @@ at_none (Some x) P p = tt
 pub returns-in_err-last-clause-none : goal.returns-in_err-last-clause-none
 returns-in_err-last-clause-none g c =
     let s = c.self.inside in
-    at_none c.from_residual.result (NoRowSince c.args.self.now.exponent c.args.interval c.args.base c.args.self.now.history)
-    (subst (λ (x : StoreView g.row.D.Denot). NoRowSince x.exponent c.args.interval c.args.base x.history) c.self.view_is
-    (never_since s.history.exponent c.args.interval c.args.base s.history.items c.last.result (c.last.ensures.last s.history.exponent s.history.items c.self.invariant.3) c.in_err-last.was))
+    at_none c.from_residual.result (NoneSince c.args.self.now.exponent c.args.interval c.args.base c.args.self.now.history)
+    (subst (λ (x : StoreView g.row.D.Denot). NoneSince x.exponent c.args.interval c.args.base x.history) c.self.view_is
+    (never_since s.history.exponent c.args.interval c.args.base s.history.items c.last.result (c.last.ensures.last s.history.exponent s.history.items c.self.invariant.3) c.self.invariant.0.alone c.in_err-last.was))
 
 pub returns-then-last-base-clause-none : goal.returns-then-last-base-clause-none
 returns-then-last-base-clause-none g c =
     let s = c.self.inside in
-    subst (λ (x : StoreView g.row.D.Denot). NoRowSince x.exponent c.args.interval c.args.base x.history) c.self.view_is
+    subst (λ (x : StoreView g.row.D.Denot). NoneSince x.exponent c.args.interval c.args.base x.history) c.self.view_is
     (none_since_last s.history.exponent c.args.interval c.args.base s.history.items c.last.result (c.last.ensures.last s.history.exponent s.history.items c.self.invariant.3) c.in_ok-last.last c.in_ok-last.was c.if-last-base.true)
 
 pub returns-clause-later : goal.returns-clause-later

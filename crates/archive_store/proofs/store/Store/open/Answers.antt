@@ -11,6 +11,7 @@ use Rattle.archive_store.specs.Stands.{StandsFilled}
 use Rattle.archive_store.specs.Inside.{StoreInvariant}
 use Rattle.archive_store.proofs.Calls.{decided_refused, decided_opened}
 use Rattle.archive_store.proofs.Opened.{kept_open, stands_found, stands_since}
+use Rattle.archive_store.proofs.RowsAlone.{in_force}
 use Rattle.archive_store.proofs.Refusals.{begin_refused, read_refused}
 use Rattle.archive_store.proofs.store.Store.open.Goals as goal
 
@@ -45,10 +46,10 @@ invariant_of-result g c =
     let mid = c.begin.new.disk in
     let f = c.in-Ok-read_archive.found in
     let r = c.in-Ok-read_archive.ensures.read in
-    let done = kept_open device disk mid f.journal f.made.head f.made.history.exponent f.made.history.items f.made.tracker.fills f.made.sets.filled r.tables.1 r.rows r.archive_is r.marks.0 r.no_pending_fault r.in_file c.in-Ok.ensures.begun.durable c.read_archive.ensures.looked in (
+    let done = kept_open device disk mid f.journal f.made.head f.made.history.exponent f.made.history.items f.made.tracker.fills f.made.sets.filled r.marks.3 r.marks.4 r.tables.1 r.rows r.archive_is r.marks.0 r.no_pending_fault r.in_file c.in-Ok.ensures.begun.durable c.read_archive.ensures.looked in (
       subst (λ o. StoreInvariant device disk o f.journal f.made.head f.made.history.exponent f.made.history.items f.made.tracker.fills f.made.sets.filled None) (sym c.of-opened.ensures) done,
       r.tables.0.0,
-      c.in-Ok-shared.ensures,
+      c.in-Ok-shared.ensures ∙ sym (in_force f.made.head.mdb f.made.history.items r.marks.4),
       r.marks.1,
       r.marks.2,
     )
@@ -68,6 +69,7 @@ returns-clause-opened g c =
       fills = c.in-Ok-read_archive.ensures.read.marks.0;
       dones = λ transparent. let f = found transparent in (f.entries, subst (λ (x : Image). HasRecords (x 0) (map entry_octets f.entries)) same f.has, c.in-Ok-read_archive.ensures.read.dones transparent);
       filled = stands;
+      own = c.in-Ok-read_archive.ensures.read.marks.3;
       opening = ap device.reads c.of-opened.ensures ∙ same;
       since = λ transparent. subst (λ o. LeavesOnly device o c.read_archive.new.disk (λ (x : Image). StandsFilled x (filled_made made))) (sym c.of-opened.ensures)
           (stands_since device c.read_archive.new.disk c.begin.new.disk c.in-Ok-read_archive.found.journal (filled_made made) (found transparent) c.in-Ok.ensures.begun.durable c.read_archive.ensures.looked);

@@ -5,7 +5,7 @@ use Rattle.intervals.specs.declared.interval.Interval.{Interval}
 use Rattle.history_items.specs.Late.{last_in}
 use Rattle.interval_walks.specs.Turns.{CoverRange, IntervalsRise}
 use Rattle.archive_store.specs.Plans.{IsRangeInterval, plan_intervals}
-use Rattle.archive_store.proofs.Planning.{asked_have_rows, plan_archived, planned_over}
+use Rattle.archive_store.proofs.Planning.{asked_have_rows, few_left, plan_archived, planned_over}
 use Rattle.archive_store.proofs.store.Store.planned.Goals as goal
 
 pub parts_of-requires : goal.parts_of-requires
@@ -32,6 +32,12 @@ returns-clause-planned g c =
       cover = λ less. subst (λ (l : List Interval). CoverRange store.exponent l request.from request.to store.history) (sym same) (asked.cover less);
       archived = plan_archived store c.front.ensures.rows parts c.in_ok-parts.ensures.each;
     }
+
+pub returns-clause-steps : goal.returns-clause-steps
+returns-clause-steps g c =
+    let store = c.args.self.now in
+    let request = c.args.request.now in
+    few_left store request.from request.to c.front.ensures.bases _ (returns-clause-planned g c)
 
 pub returns-clause-over : goal.returns-clause-over
 returns-clause-over g c transparent image =

@@ -6,7 +6,7 @@ use Rattle.std.proofs.lemmas.Int.{ints, to_z-of_z}
 use Rattle.archive_history.proofs.Steps.{if_ok, if_ok_both}
 use Rattle.intervals.specs.declared.interval.Interval.{Interval}
 use Rattle.fill_tracker.specs.FillTracker.{AreMarksOf}
-use Rattle.history_items.specs.Items.{Item}
+use Rattle.history_items.specs.declared.items.Item.{Item}
 use Rattle.interval_walks.specs.Turns.{CoverRange, IntervalsRise, MeetsRange}
 use Rattle.late_marks.specs.Marks.{has_rows}
 use Rattle.archive_store.specs.Plans.{IsRangeInterval}

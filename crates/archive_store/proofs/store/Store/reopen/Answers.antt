@@ -3,7 +3,7 @@ use Rattle.std.specs.Prelude.{IsTrue}
 use Rattle.arch_disk.specs.Disk.{LeavesOnly, raised}
 use Rattle.history_items.specs.declared.fills.Fill.{Fill}
 use Rattle.history_items.specs.Fills.{base_in, pending_fault_of, reopened, unacknowledged_in}
-use Rattle.history_items.specs.Items.{Item}
+use Rattle.history_items.specs.declared.items.Item.{Item}
 use Rattle.history_items.proofs.FillLists.{base_in-reopened, pending_fault_of-reopened}
 use Rattle.disk_journal.specs.State.{HasOnDisk as JournalHasOnDisk}
 use Rattle.disk_journal.specs.State.{unhealed_fault, count_of}
@@ -40,7 +40,7 @@ invariant_of-self g c =
       c.self.invariant.1,
       c.self.invariant.2,
       marks,
-      holds_same s.head s.history.exponent s.tracker.fills c.clear_failed_writes.new.self.fills s.sets.filled c.self.invariant.4 (λ i. ap (base_in i) fills ∙ base_in-reopened i s.tracker.fills),
+      holds_same s.head s.history.exponent s.history.items s.tracker.fills c.clear_failed_writes.new.self.fills s.sets.filled c.self.invariant.4 (λ i. ap (base_in i) fills ∙ base_in-reopened i s.tracker.fills),
     )
 
 pub invariant_of-self-in-Err : goal.invariant_of-self-in-Err

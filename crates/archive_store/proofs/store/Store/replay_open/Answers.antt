@@ -2,9 +2,11 @@ use Rattle.std.proofs.Common.{◌≡◌, ◌<◌, ◌∙◌, List, length, sym, 
 use Rattle.std.specs.Prelude.{Result, Ok, Err, IfOk, Some}
 use mathlib.Core.List.{IsPrefix}
 use Rattle.asks.specs.Names.{table_number}
-use Rattle.history_items.specs.Items.{Item, rows_in}
+use Rattle.history_items.specs.declared.items.Item.{Item}
+use Rattle.history_items.specs.Items.{rows_in}
 use Rattle.replay_merge.specs.Cursor.{CursorView, rest_of}
-use Rattle.archive_store.specs.Replays.{IsReplayOpened, replay_asked}
+use Rattle.replay_merge.specs.Replay.{replay_of}
+use Rattle.archive_store.specs.Replays.{IsReplayOpened}
 use Rattle.archive_store.specs.StoreView.{StoreView}
 use Rattle.archive_store.proofs.store.Store.replay_open.Goals as goal
 
@@ -26,11 +28,11 @@ returns-clause-opened g c =
     let table = subst (λ (x : StoreView g.row.D.Denot). table_number x.head.tables request.table ≡ Some found.table) (sym c.self.view_is) c.requires.found.table in
     subst (λ (x : StoreView g.row.D.Denot). IfOk c.cursor_at_front.result (IsReplayOpened x.head x.history request)) c.self.view_is
     (all_three c.cursor_at_front.result (λ (cursor : CursorView). cursor.table ≡ found.table) (λ (cursor : CursorView). cursor.front ≡ length s.history.items)
-    (λ (cursor : CursorView). (later : List Item) → IsPrefix s.history.items later → rest_of cursor (rows_in later) ≡ replay_asked s.head request found.table (rows_in s.history.items))
+    (λ (cursor : CursorView). (later : List Item) → IsPrefix s.history.items later → rest_of cursor (rows_in later) ≡ replay_of s.head.mdb found.table request (rows_in s.history.items))
     (IsReplayOpened s.head s.history.items request)
     (λ cursor same front replay. record {
       table = table ∙ ap Some (sym same);
       front = front;
-      replay = λ later begins. replay later begins ∙ ap (λ t. replay_asked s.head request t (rows_in s.history.items)) (sym same);
+      replay = λ later begins. replay later begins ∙ ap (λ t. replay_of s.head.mdb t request (rows_in s.history.items)) (sym same);
     })
     c.cursor_at_front.ensures.table c.cursor_at_front.ensures.front c.cursor_at_front.ensures.replay)

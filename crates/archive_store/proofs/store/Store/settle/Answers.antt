@@ -19,7 +19,7 @@ invariant_of-self g c =
       k.1,
       k.2,
       c.settle.ensures.marks s.history.exponent s.history.items k.3,
-      subst (λ (l : List Fill). HoldsFills s.head s.history.exponent l s.sets.filled) (sym c.settle.ensures.fills) (holds_same s.head s.history.exponent s.tracker.fills (all_freed s.tracker.fills) s.sets.filled k.4 (λ j. all_freed_bases j s.tracker.fills)),
+      subst (λ (l : List Fill). HoldsFills s.head s.history.exponent s.history.items l s.sets.filled) (sym c.settle.ensures.fills) (holds_same s.head s.history.exponent s.history.items s.tracker.fills (all_freed s.tracker.fills) s.sets.filled k.4 (λ j. all_freed_bases j s.tracker.fills)),
     )
 
 pub returns-clause-freed : goal.returns-clause-freed

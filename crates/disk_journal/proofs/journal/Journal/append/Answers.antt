@@ -3,14 +3,14 @@ use Rattle.std.specs.Prelude.{IsTrue}
 use Rattle.arch_disk.specs.Image.{Image}
 use Rattle.arch_disk.specs.Disk.{LeavesOnly}
 use Rattle.arch_disk.proofs.Moments.{joins, weakens, started, at_end}
-use Rattle.disk_journal.specs.Format.{framed, written, HasRecords, HasStaged, IsBeforeOrAfter}
+use Rattle.disk_journal.specs.Format.{framed, HasRecords, HasStaged, IsBeforeOrAfter}
 use Rattle.disk_journal.specs.Calls.{LeavesOthers, records_of}
 use Rattle.disk_journal.specs.State.{StateIs, faults_of}
 use Rattle.disk_journal.specs.declared.journal.PendingFault.{PendingFault}
 use Rattle.disk_journal.proofs.Files.{length-framed, length-written, opened_done, record_inside, staged_either, sum_is}
 use Rattle.disk_journal.proofs.Reading.{pushed}
 use Rattle.disk_journal.proofs.Appending.{extent, first_moments, first_done, gate_moments, elsewhere_two}
-use Rattle.disk_journal.proofs.Calls.{has_records, left_alone}
+use Rattle.disk_journal.proofs.Calls.{append_failed, append_refused, has_records, left_alone}
 use Rattle.disk_journal.proofs.journal.Journal.append.Given.{Over}
 use Rattle.disk_journal.proofs.journal.Journal.append.Goals.{After-put, After-put-2}
 use Rattle.disk_journal.proofs.journal.Journal.append.Goals as goal
@@ -50,7 +50,7 @@ returns-then-place-ge-MAX_RECORDS-clause-crash g c no_pending_fault transparent 
     started g.D.Disk.device c.args.disk.now _ (λ i left. inl (left_alone g.D.Disk.device c.args.self.now c.args.disk.now transparent (c.requires.sound transparent) c.in-Absent.is refl i left))
 
 pub returns-in-Err-clause-refused : goal.returns-in-Err-clause-refused
-returns-in-Err-clause-refused g c = record {
+returns-in-Err-clause-refused g c = append_refused g.D.Disk.device c.in-Err.ensures.only (record {
   healed = ap faults_of c.in-Absent.is;
   below = search rules;
   count = refl;
@@ -61,17 +61,17 @@ returns-in-Err-clause-refused g c = record {
   pending_fault = search rules;
   rose = search rules;
   wrote = search rules;
-}
+})
 
 pub returns-in-Err-clause-crash : goal.returns-in-Err-clause-crash
 returns-in-Err-clause-crash g c no_pending_fault transparent =
     weakens g.D.Disk.device c.args.disk.now c.put.new.disk _ _ (first g (goal.at.returns-in-Err-clause-crash g c).After-put transparent) (λ i has. inl has)
 
 pub returns-in-Err-clause-sound : goal.returns-in-Err-clause-sound
-returns-in-Err-clause-sound g c transparent = record { bodies = _; pending = _; keeps = (returns-in-Err-clause-refused g c).records transparent }
+returns-in-Err-clause-sound g c transparent = record { bodies = _; pending = _; keeps = (append_failed g.D.Disk.device c.in-Err.ensures.only (returns-in-Err-clause-refused g c)).records transparent }
 
 pub returns-in-Err-put-clause-refused : goal.returns-in-Err-put-clause-refused
-returns-in-Err-put-clause-refused g c = record {
+returns-in-Err-put-clause-refused g c = append_refused g.D.Disk.device c.in-Err-put.ensures.only (record {
   healed = ap faults_of c.in-Absent.is;
   below = search rules;
   count = refl;
@@ -82,7 +82,7 @@ returns-in-Err-put-clause-refused g c = record {
   pending_fault = search rules;
   rose = search rules;
   wrote = search rules;
-}
+})
 
 pub returns-in-Err-put-clause-crash : goal.returns-in-Err-put-clause-crash
 returns-in-Err-put-clause-crash g c no_pending_fault transparent =
@@ -92,7 +92,7 @@ pub returns-in-Err-put-clause-others : goal.returns-in-Err-put-clause-others
 returns-in-Err-put-clause-others g c = others g (goal.at.returns-in-Err-put-clause-others g c).After-put-2
 
 pub returns-in-Err-put-clause-sound : goal.returns-in-Err-put-clause-sound
-returns-in-Err-put-clause-sound g c transparent = record { bodies = _; pending = _; keeps = (returns-in-Err-put-clause-refused g c).records transparent }
+returns-in-Err-put-clause-sound g c transparent = record { bodies = _; pending = _; keeps = (append_failed g.D.Disk.device c.in-Err-put.ensures.only (returns-in-Err-put-clause-refused g c)).records transparent }
 
 pub returns-clause-appended : goal.returns-clause-appended
 returns-clause-appended g c = record {

@@ -14,7 +14,7 @@ returns-in-Err-clause-any_moment g c transparent =
     let mid = c.append.new.disk in
     let first = c.args.first.now in
     let keeps = c.requires.kept transparent in
-    let failed = refusal_failed device c.args.self.now c.append.new.self old mid first c.in-Err.field-0 c.requires.no_pending_fault.0 (omega (arith, c.requires.no_pending_fault.1)) c.in-Err.ensures.refused in
+    let failed = refusal_failed device c.args.self.now c.append.new.self old mid first c.in-Err.fault c.requires.no_pending_fault.0 (omega (arith, c.requires.no_pending_fault.1)) c.in-Err.ensures.refused in
     let then = append_failed_on device c.args.self.now [] [] old transparent keeps c.append.new.self mid first failed.1 in
     joins device old mid c.heal.new.disk _ _
     (append_crash_on device c.args.self.now [] [] old transparent keeps mid first (c.append.ensures.crash c.requires.no_pending_fault.0))

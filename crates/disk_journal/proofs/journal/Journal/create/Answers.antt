@@ -1,4 +1,5 @@
-use Rattle.std.proofs.Common.{[], ℕ, inl, inr, ⊎_elim, refl, subst, arith}
+use Rattle.std.proofs.Common.{[], ℕ, inr, refl, sym, subst, arith}
+use Rattle.std.specs.Prelude.{true}
 use Rattle.disk_journal.specs.Calls.{LeavesOthers, IsJournalCreateRefusal}
 use Rattle.disk_journal.specs.Format.{HoldsNone}
 use Rattle.disk_journal.specs.declared.fault.JournalFault.TheVariants.{DiskFault}
@@ -17,21 +18,24 @@ returns-in_err-prepare-clause-refused g c =
     let fault = c.in_err-prepare.field-0.0 in
     let e = c.in_err-prepare.ensures in
     handed_on c.from_residual-in_err-prepare.result fault (IsJournalCreateRefusal device c.args.file c.args.disk.now c.prepare.new.disk) c.from_residual-in_err-prepare.ensures.1
-    (not_prepared device c.args.file c.args.disk.now c.prepare.new.disk fault e.only (λ transparent is. e.exists transparent (cc (is))) (λ is. e.cause (cc (is)))
-    (⊎_elim (λ same. inl same) (λ failed. inr (cc (failed.0), failed.1)) e.writes) e.moments)
+    (not_prepared device c.args.file c.args.disk.now c.prepare.new.disk fault e.refused (λ transparent is. e.exists transparent (cc (is))) e.moments)
 
 pub returns-in_err-append_first-clause-refused : goal.returns-in_err-append_first-clause-refused
 returns-in_err-append_first-clause-refused g c =
     let device = g.D.Disk.device in
     let e = c.in_err-append_first.ensures in
     let later = c.prepare.ensures.later in
-    let writes = ⊎_elim (λ same. same) (λ failed. absurd (cc (failed.0))) c.in_ok-prepare.ensures.writes in
-    handed_on c.from_residual-in_err-append_first.result DiskFault (IsJournalCreateRefusal device c.args.file c.args.disk.now c.append_first.new.disk) c.from_residual-in_err-append_first.ensures.1
-    (record {
-      rose = omega (arith, later, e.cause.failed);
-      wrote_most = omega (arith, writes, e.counted.1);
-      closed = λ few transparent none c' left. inr (subst (λ (f : ℕ). HoldsNone (c' f)) c.reserve.ensures.same.file (e.closed transparent (omega (arith, few, later)) c' left));
-    })
+    let writes = c.in_ok-prepare.ensures.no_failed_write in
+    let refusal = IsJournalCreateRefusal device c.args.file c.args.disk.now c.append_first.new.disk in
+    let failed : refusal (DiskFault true) = (
+      record {
+        rose = omega (arith, later, e.cause.failed);
+        wrote_most = omega (arith, writes, e.counted.1);
+        closed = λ few transparent none c' left. inr (subst (λ (f : ℕ). HoldsNone (c' f)) c.reserve.ensures.same.file (e.closed transparent (omega (arith, few, later)) c' left));
+      },
+      omega (arith, writes, e.counted.0),
+    ) in
+    handed_on c.from_residual-in_err-append_first.result c.in_err-append_first.field-0.0 refusal c.from_residual-in_err-append_first.ensures.1 (subst refusal (sym e.only) failed)
 
 pub returns-in_err-append_first-clause-others : goal.returns-in_err-append_first-clause-others
 returns-in_err-append_first-clause-others g c =

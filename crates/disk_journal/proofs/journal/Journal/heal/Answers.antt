@@ -9,7 +9,7 @@ use Rattle.disk_journal.specs.State.{faults_of}
 use Rattle.disk_journal.specs.declared.journal.PendingFault.{PendingFault}
 use Rattle.disk_journal.proofs.Files.{closed_done}
 use Rattle.disk_journal.proofs.Appending.{touched_state, gate_moments, keeps_state}
-use Rattle.disk_journal.proofs.Calls.{has_records, alone, left_now, left_alone, left_staged}
+use Rattle.disk_journal.proofs.Calls.{has_records, alone, heal_failed, heal_refused, left_now, left_alone, left_staged}
 use Rattle.disk_journal.proofs.journal.Journal.heal.Given.{Over}
 use Rattle.disk_journal.proofs.journal.Journal.heal.Goals.{In-GateClosed, After-put}
 use Rattle.disk_journal.proofs.journal.Journal.heal.Goals as goal
@@ -58,7 +58,7 @@ returns-in-Ok-clause-crash g c transparent =
     weakens g.D.Disk.device c.args.disk.now c.flush.new.disk _ _ c.flush.ensures.moments (left_now g.D.Disk.device c.args.self.now c.args.disk.now transparent (c.requires.sound transparent))
 
 pub returns-in-Err-clause-refused : goal.returns-in-Err-clause-refused
-returns-in-Err-clause-refused g c = record {
+returns-in-Err-clause-refused g c = heal_refused g.D.Disk.device c.in-Err.ensures.only (record {
   unhealed = λ none. cc (ap faults_of c.in-GateClosed.is, none);
   journal = refl;
   records = λ transparent.
@@ -66,7 +66,7 @@ returns-in-Err-clause-refused g c = record {
       keeps_state g.D.Disk.device c.flush.new.disk (has_records g.D.Disk.device c.args.self.now c.args.disk.now transparent (c.requires.sound transparent)) c.in-GateClosed.is (λ i left. has i (c.flush.ensures.images i left));
   rose = search rules;
   wrote = search rules;
-}
+})
 
 pub returns-in-Err-clause-crash : goal.returns-in-Err-clause-crash
 returns-in-Err-clause-crash g c transparent =
@@ -94,7 +94,7 @@ pub returns-in-Ok-put-clause-crash : goal.returns-in-Ok-put-clause-crash
 returns-in-Ok-put-clause-crash g c = crash g (goal.at.returns-in-Ok-put-clause-crash g c).After-put
 
 pub returns-in-Err-put-clause-refused : goal.returns-in-Err-put-clause-refused
-returns-in-Err-put-clause-refused g c = record {
+returns-in-Err-put-clause-refused g c = heal_refused g.D.Disk.device c.in-Err-put.ensures.only (record {
   unhealed = λ none. cc (ap faults_of c.in-GateWritten.is, none);
   journal = refl;
   records = λ transparent.
@@ -102,10 +102,10 @@ returns-in-Err-put-clause-refused g c = record {
       keeps_state g.D.Disk.device c.put.new.disk (has_records g.D.Disk.device c.args.self.now c.args.disk.now transparent (c.requires.sound transparent)) c.in-GateWritten.is left;
   rose = search rules;
   wrote = search rules;
-}
+})
 
 pub returns-in-Err-put-clause-sound : goal.returns-in-Err-put-clause-sound
-returns-in-Err-put-clause-sound g c transparent = record { bodies = _; pending = _; keeps = (returns-in-Err-put-clause-refused g c).records transparent }
+returns-in-Err-put-clause-sound g c transparent = record { bodies = _; pending = _; keeps = (heal_failed g.D.Disk.device c.in-Err-put.ensures.only (returns-in-Err-put-clause-refused g c)).records transparent }
 
 pub returns-in-Err-put-clause-crash : goal.returns-in-Err-put-clause-crash
 returns-in-Err-put-clause-crash g c = crash g (goal.at.returns-in-Err-put-clause-crash g c).After-put
