@@ -15,6 +15,10 @@ abbrev pub counts_line : ℕ → ℕ → ℕ → ℕ → List ℕ
 counts_line packets rows duplicates idle =
     (codes "scan packets " ++ decimal packets ++ codes " rows " ++ decimal rows) ++ (codes " duplicates " ++ decimal duplicates ++ codes " idle " ++ decimal idle ++ codes "\n")
 
+-- the octets for which there is room behind its first half
+abbrev pub half_line : ℕ
+half_line = 256
+
 -- the rows of packets of link 1, all in table 0 and without a packet name
 abbrev pub scanned_rows : List (List ℕ) → ℤ → List Row
 scanned_rows packets moment = arrivals 1 moment (λ p. 0) (λ p. 0 ∷ []) packets

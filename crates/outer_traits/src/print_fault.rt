@@ -3,11 +3,15 @@
 use crate::fault::Failed;
 use std::alloc::AllocError;
 
-/// Why a text isn't printed to its end.
+/// Why a text isn't printed to its end. Texts of rows in memory have neither of the faults of a disk.
 #[derive(Clone, Copy, Debug, PartialEq, Eq)]
 pub enum PrintFault {
     /// A write failed.
     Write,
+    /// The disk failed where what is printed is read from it.
+    DiskFault,
+    /// The file that is printed from breaks its format at this octet.
+    Damaged { file: u32, at: u64 },
     OutOfMemory,
 }
 

@@ -38,4 +38,6 @@ refusal_of_rows fault.OutOfMemory = OutOfMemory
 -- the refusal of a text that wasn't printed to its end
 abbrev pub refusal_of_print : PrintFault → Refusal
 refusal_of_print unprinted.Write = WriteFault
+refusal_of_print unprinted.DiskFault = DiskFault
+refusal_of_print (unprinted.Damaged file at) = Damaged file at
 refusal_of_print unprinted.OutOfMemory = OutOfMemory

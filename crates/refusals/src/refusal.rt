@@ -230,6 +230,8 @@ impl From<PrintFault> for Refusal {
     fn from(fault: PrintFault) -> Refusal {
         match fault {
             PrintFault::Write => Refusal::WriteFault,
+            PrintFault::DiskFault => Refusal::DiskFault,
+            PrintFault::Damaged { file, at } => Refusal::Damaged { file, at },
             PrintFault::OutOfMemory => Refusal::OutOfMemory,
         }
     }

@@ -1,5 +1,5 @@
 -- A fill of a late interval changes no answer.
-use Rattle.std.proofs.Common.{◌≡◌, ◌⊎◌, inl, inr, ℕ, suc, ℤ, Bool, true, false, List, [], ◌∷◌, ◌++◌, length, Option, Some, None, true≢false, refl, sym, ◌∙◌, ap, arith}
+use Rattle.std.proofs.Common.{◌≡◌, ◌⊎◌, ◌<◌, inl, inr, ℕ, suc, ℤ, Bool, true, false, List, [], ◌∷◌, ◌++◌, length, Option, Some, None, true≢false, refl, sym, ◌∙◌, ap, arith}
 use Rattle.std.specs.Prelude.{IsSome, filter, flat_map, if◌then◌else◌, unwrap_or}
 use Rattle.std.specs.List.{AllByRecursion}
 use Rattle.std.specs.Option.{is_some, option_map, option_map_or}
@@ -11,17 +11,21 @@ use Rattle.asks.specs.declared.ask.Request.{Request}
 use Rattle.asks.specs.Names.{parameter_number}
 use Rattle.arch_types.specs.declared.cell.Cell.{Cell}
 use Rattle.intervals.specs.declared.interval.Interval.{Interval}
-use Rattle.history_items.specs.Items.{Item}
-use Rattle.history_items.specs.Late.{IsLastIn, last_in}
+use Rattle.history_items.specs.declared.items.Item.{Item}
+use Rattle.history_items.specs.Databases.{database_in}
+use Rattle.history_items.specs.Items.{database_item, row_item}
+use Rattle.history_items.specs.Late.{ChangesAt, IsLastIn, last_in}
 use Rattle.history_items.proofs.Late.{last_is_greatest}
 use Rattle.interval_fills.specs.Intervals.{rows_of_interval}
 use Rattle.late_marks.specs.Mark.{is_late_by}
 use Rattle.param_segments.specs.Rows.{SetRow}
 use Rattle.store_fills.specs.LastFills.{fill_over}
 use Rattle.store_fills.specs.Sound.{Filling, Fillings}
+use Rattle.mdb_items.specs.Database.{Database}
 use Rattle.archive_store.specs.declared.head.Head.{Head}
 use Rattle.archive_store.specs.AddedFills.{AddsWholeFills, IsWholeFill}
-use Rattle.retrieval.specs.AnswerText.{answer_lines, as_asked}
+use Rattle.container_extract.specs.Answer.{as_asked}
+use Rattle.retrieval.specs.AnswerText.{answer_lines}
 use Rattle.retrieval.specs.AskText.{ask_text, asks_text}
 use Rattle.retrieval.specs.FilledAnswer.{cells_of_fill, cells_of_interval, filled_answer, intervals_of_range}
 use Rattle.retrieval.specs.Laws.{AddedFillsAnswerAlike}
@@ -31,54 +35,62 @@ use Rattle.retrieval.proofs.OverRows.{timely_cells}
 use Rattle.archive_store.specs.LateFills.{is_late_by_fill}
 
 module _ (head : Head) (exponent : ℕ) (history : List Item) (old new : Fillings (List SetRow)) (adds : AddsWholeFills head exponent history old new) where
+  -- the database in force
+  abbrev db : Database
+  db = database_in head.mdb history
+
   module _ (q : ℕ) (low high : ℤ) where
     abbrev of_rows : Interval → List Cell
-    of_rows i = cells_of_rows head.mdb q low high (rows_of_interval exponent i history)
+    of_rows i = cells_of_rows db q low high (rows_of_interval exponent i history)
 
     -- an interval that was late, and one behind its fill
-    was_late : (fillings : Fillings (List SetRow)) (i : Interval) → is_late_by_fill exponent history fillings i ≡ true → cells_of_interval head.mdb q low high exponent history fillings i ≡ of_rows i
-    was_late fillings i late = ap (λ (b : Bool). if b then of_rows i else cells_of_fill head.mdb q low high (fillings i)) late
+    was_late : (fillings : Fillings (List SetRow)) (i : Interval) → is_late_by_fill exponent history fillings i ≡ true → cells_of_interval db q low high exponent history fillings i ≡ of_rows i
+    was_late fillings i late = ap (λ (b : Bool). if b then of_rows i else cells_of_fill db q low high (fillings i)) late
+
+    change_within : (i : Interval) (l : ℕ) → ChangesAt exponent i l history → l < length history
+    change_within i l (inl row) = slice_get_within history l (row_item row.row) row.there
+    change_within i l (inr database) = slice_get_within history l (database_item database.0) database.1
 
     is_punctual : (i : Interval) (o : Option ℕ) → IsLastIn exponent i history o → is_some o ≡ true → (set : List SetRow)
         → option_map_or (λ last. is_late_by last (option_map (λ f. f.base) (Some (fill_over (length history) set)))) o false ≡ false
     is_punctual i None last some set = absurd (true≢false (sym some))
     is_punctual i (Some l) last some set =
-        let within = slice_get_within history l last.0.row last.0.there in
+        let within = change_within i l last.1 in
         grind (arith, nat_tests, within)
 
-    whole_cells : (i : Interval) → is_some (last_in exponent i history) ≡ true → IsWholeFill head exponent history old i (new i) → cells_of_interval head.mdb q low high exponent history new i ≡ of_rows i
+    whole_cells : (i : Interval) → is_some (last_in exponent i history) ≡ true → IsWholeFill head exponent history old i (new i) → cells_of_interval db q low high exponent history new i ≡ of_rows i
     whole_cells i some whole =
         let set = whole.1.0 in
         let punctual : is_late_by_fill exponent history new i ≡ false =
         ap (λ (f : Option (Filling (List SetRow))). option_map_or (λ last. is_late_by last (option_map (λ g. g.base) f)) (last_in exponent i history) false) whole.1.1
         ∙ is_punctual i (last_in exponent i history) (last_is_greatest exponent i history) some set in
-        ap (λ (b : Bool). if b then of_rows i else cells_of_fill head.mdb q low high (new i)) punctual
-        ∙ ap (cells_of_fill head.mdb q low high) whole.1.1
-        ∙ ap (filter (is_cell_in_range low high)) (whole.1.2 q) ∙ timely_cells head.mdb q low high (rows_of_interval exponent i history)
+        ap (λ (b : Bool). if b then of_rows i else cells_of_fill db q low high (new i)) punctual
+        ∙ ap (cells_of_fill db q low high) whole.1.1
+        ∙ ap (filter (is_cell_in_range low high)) (whole.1.2 q) ∙ timely_cells db q low high (rows_of_interval exponent i history)
 
-    interval_same : (i : Interval) → is_some (last_in exponent i history) ≡ true → cells_of_interval head.mdb q low high exponent history new i ≡ cells_of_interval head.mdb q low high exponent history old i
+    interval_same : (i : Interval) → is_some (last_in exponent i history) ≡ true → cells_of_interval db q low high exponent history new i ≡ cells_of_interval db q low high exponent history old i
     interval_same i some = go (adds i)
       where
-        go : (new i ≡ old i) ⊎ IsWholeFill head exponent history old i (new i) → cells_of_interval head.mdb q low high exponent history new i ≡ cells_of_interval head.mdb q low high exponent history old i
+        go : (new i ≡ old i) ⊎ IsWholeFill head exponent history old i (new i) → cells_of_interval db q low high exponent history new i ≡ cells_of_interval db q low high exponent history old i
         go (inl same) =
-            ap (λ (f : Option (Filling (List SetRow))). if option_map_or (λ last. is_late_by last (option_map (λ g. g.base) f)) (last_in exponent i history) false then of_rows i else cells_of_fill head.mdb q low high f) same
+            ap (λ (f : Option (Filling (List SetRow))). if option_map_or (λ last. is_late_by last (option_map (λ g. g.base) f)) (last_in exponent i history) false then of_rows i else cells_of_fill db q low high f) same
         go (inr whole) = whole_cells i some whole ∙ sym (was_late old i whole.0)
 
     intervals_same : (is : List Interval) → AllByRecursion (λ i. IsSome (last_in exponent i history)) is
-        → flat_map (cells_of_interval head.mdb q low high exponent history new) is ≡ flat_map (cells_of_interval head.mdb q low high exponent history old) is
+        → flat_map (cells_of_interval db q low high exponent history new) is ≡ flat_map (cells_of_interval db q low high exponent history old) is
     intervals_same [] all = refl
     intervals_same (i ∷ is) all =
-        ap (λ (l : List Cell). l ++ flat_map (cells_of_interval head.mdb q low high exponent history new) is) (interval_same i all.0)
-        ∙ ap (λ (l : List Cell). cells_of_interval head.mdb q low high exponent history old i ++ l) (intervals_same is all.1)
+        ap (λ (l : List Cell). l ++ flat_map (cells_of_interval db q low high exponent history new) is) (interval_same i all.0)
+        ∙ ap (λ (l : List Cell). cells_of_interval db q low high exponent history old i ++ l) (intervals_same is all.1)
 
-  answer_same : (number : ℕ) (request : Request) → filled_answer head.mdb number request exponent history new ≡ filled_answer head.mdb number request exponent history old
+  answer_same : (number : ℕ) (request : Request) → filled_answer db number request exponent history new ≡ filled_answer db number request exponent history old
   answer_same number request =
       ap (as_asked request) (intervals_same number request.from request.to (intervals_of_range exponent request.from request.to history) (asked_have exponent request.from request.to history))
 
   text_same : (k : ℕ) (ask : Ask) → ask_text head exponent history new k ask ≡ ask_text head exponent history old k ask
   text_same k (Values request) =
-      let number = unwrap_or (parameter_number head.mdb request.parameter) 0 in
-      ap (answer_lines k (length history) head.mdb number) (answer_same number request)
+      let number = unwrap_or (parameter_number db request.parameter) 0 in
+      ap (answer_lines k (length history) db number) (answer_same number request)
   text_same k (Replay request) = refl
 
   pub same_texts : (k : ℕ) (asks : List Ask) → asks_text head exponent history new k asks ≡ asks_text head exponent history old k asks

@@ -3,7 +3,7 @@ use Rattle.std.proofs.Common.{◌≡◌, ℕ, ℤ, ◌≤ℤ◌, ◌<ℤ◌, ◌
 use Rattle.std.specs.Prelude.{filter, flat_map, int_lt, not, option_map, IsSome, if◌then◌else◌}
 use Rattle.std.specs.List.{AllByRecursion, filter_map}
 use Rattle.std.specs.Option.{is_some, option_map_or}
-use Rattle.std.proofs.lemmas.Bool.{and_parts, false_from_ne_true}
+use Rattle.std.proofs.lemmas.Bool.{and_parts}
 use Rattle.std.proofs.lemmas.Bool.Decides.{nat_tests}
 use Rattle.std.proofs.lemmas.Int.{ints}
 use Rattle.asks.specs.declared.ask.Request.{Request}
@@ -11,11 +11,12 @@ use Rattle.arch_types.specs.declared.cell.Cell.{Cell}
 use Rattle.intervals.specs.declared.interval.Interval.{Interval}
 use Rattle.arch_types.specs.declared.row.Row.{Row}
 use Rattle.container_extract.specs.Extraction.{cell_of}
+use Rattle.container_extract.specs.Answer.{as_asked}
 use Rattle.history_items.specs.Fills.{base_in}
-use Rattle.history_items.specs.Items.{Item}
-use Rattle.history_items.specs.Late.{IsLastIn, is_late_in, last_in}
-use Rattle.history_items.proofs.Late.{last_is_greatest, late_by_last}
-use Rattle.interval_fills.specs.Intervals.{NoRowSince, rows_of_interval}
+use Rattle.history_items.specs.declared.items.Item.{Item}
+use Rattle.history_items.specs.Late.{IsLastIn, last_in}
+use Rattle.history_items.proofs.Late.{last_is_greatest}
+use Rattle.interval_fills.specs.Intervals.{NoneSince, rows_of_interval}
 use Rattle.interval_walks.specs.Turns.{rows_in_turn}
 use Rattle.interval_walks.proofs.Turns.{ranges}
 use Rattle.late_marks.specs.Mark.{is_late_by}
@@ -25,12 +26,13 @@ use Rattle.param_segments.specs.declared.plan.Part.TheVariants.{Rows, Set}
 use Rattle.param_segments.specs.declared.plan.Plan.{Plan}
 use Rattle.param_segments.specs.Rows.{SetRow}
 use Rattle.store_fills.specs.Filled.{HoldsRows}
-use Rattle.store_fills.specs.LastFills.{fillings_in}
-use Rattle.store_fills.specs.Sound.{AreSound, Filling, Fillings, base_of_filling}
+use Rattle.store_fills.specs.LastFills.{fillings_in, base_of_slot, fill_over, slots_in}
+use Rattle.store_fills.specs.Sound.{AreSound, Filling, Fillings}
+use Rattle.std.specs.Arc.{arc_value}
+use Rattle.archive_store.proofs.CurrentSets.{read_current, read_late}
 use Rattle.archive_store.specs.Plans.{IsPlan, IsPlanPart, interval_of_part, plan_intervals}
 use Rattle.archive_store.specs.StoreView.{StoreView}
-use Rattle.archive_store.proofs.Planning.{none_in_range}
-use Rattle.retrieval.specs.AnswerText.{as_asked}
+use Rattle.archive_store.proofs.Planning.{none_in_range, asked_have_rows}
 use Rattle.retrieval.specs.FilledAnswer.{cells_of_fill, cells_of_interval, filled_answer, intervals_of_range}
 use Rattle.retrieval.specs.Laws.{FilledIsAnswered}
 use Rattle.retrieval.specs.PartCells.{answer_over_parts, cells_of_part, cells_of_rows, is_cell_in_range}
@@ -40,28 +42,24 @@ use Rattle.archive_store.specs.LateFills.{is_late_by_fill}
 
 -- ---- a part has the cells of its interval
 
-module _ {D : Type 0} (store : StoreView D) (bases : (i : Interval) → base_in i store.fills ≡ base_of_filling (fillings_in store.filled) i) (db : Database) (q : ℕ) (low high : ℤ) where
+module _ {D : Type 0} (store : StoreView D) (bases : (i : Interval) → base_in i store.fills ≡ base_of_slot (slots_in store.filled) i) (db : Database) (q : ℕ) (low high : ℤ) where
   abbrev of_interval : Interval → List Cell
   of_interval = cells_of_interval db q low high store.exponent store.history (fillings_in store.filled)
-
-  late_same : (i : Interval) → is_late_in store.exponent i store.history store.fills ≡ is_late_by_fill store.exponent store.history (fillings_in store.filled) i
-  late_same i = ap (λ (base : Option ℕ). option_map_or (λ last. is_late_by last base) (last_in store.exponent i store.history) false) (bases i)
 
   by_lateness : (i : Interval) (b : Bool) → is_late_by_fill store.exponent store.history (fillings_in store.filled) i ≡ b
       → of_interval i ≡ (if b then cells_of_rows db q low high (rows_of_interval store.exponent i store.history) else cells_of_fill db q low high (fillings_in store.filled i))
   by_lateness i b late = ap (λ (t : Bool). if t then cells_of_rows db q low high (rows_of_interval store.exponent i store.history) else cells_of_fill db q low high (fillings_in store.filled i)) late
 
-  part_cells : (part : Part) → IsPlanPart store part → cells_of_part db q low high part ≡ of_interval (interval_of_part part)
-  part_cells (Set i set) current =
-      let punctual : is_late_in store.exponent i store.history store.fills ≡ false = false_from_ne_true (is_late_in store.exponent i store.history store.fills) (λ late. current.current ((late_by_last store.exponent i store.history store.fills).0 late)) in
-      sym (by_lateness i false (sym (late_same i) ∙ punctual) ∙ ap (cells_of_fill db q low high) current.filled)
-  part_cells (Rows i rows) late =
-      ap (cells_of_rows db q low high) late.1 ∙ sym (by_lateness i true (sym (late_same i) ∙ (late_by_last store.exponent i store.history store.fills).1 late.0))
+  part_cells : (part : Part) → IsPlanPart store part → IsSome (last_in store.exponent (interval_of_part part) store.history) → cells_of_part db q low high part ≡ of_interval (interval_of_part part)
+  part_cells (Set i set) current some =
+      sym (by_lateness i false (read_current store.exponent store.history store.fills store.filled i (fill_over current.base (arc_value set)) bases current.filled current.current) ∙ ap (cells_of_fill db q low high) current.filled)
+  part_cells (Rows i rows) late some =
+      ap (cells_of_rows db q low high) late.1 ∙ sym (by_lateness i true (read_late store.exponent store.history store.fills store.filled i bases some late.0))
 
-  pub parts_cells : (parts : List Part) → AllByRecursion (IsPlanPart store) parts → flat_map (cells_of_part db q low high) parts ≡ flat_map of_interval (plan_intervals parts)
-  parts_cells [] all = refl
-  parts_cells (part ∷ parts) all =
-      ap (λ (l : List Cell). l ++ flat_map (cells_of_part db q low high) parts) (part_cells part all.0) ∙ ap (λ (l : List Cell). of_interval (interval_of_part part) ++ l) (parts_cells parts all.1)
+  pub parts_cells : (parts : List Part) → AllByRecursion (IsPlanPart store) parts → AllByRecursion (λ i. IsSome (last_in store.exponent i store.history)) (plan_intervals parts) → flat_map (cells_of_part db q low high) parts ≡ flat_map of_interval (plan_intervals parts)
+  parts_cells [] all have = refl
+  parts_cells (part ∷ parts) all have =
+      ap (λ (l : List Cell). l ++ flat_map (cells_of_part db q low high) parts) (part_cells part all.0 have.0) ∙ ap (λ (l : List Cell). of_interval (interval_of_part part) ++ l) (parts_cells parts all.1 have.1)
 
 -- ---- a range that ends no later than it begins has no cells
 
@@ -100,14 +98,14 @@ module _ (low high : ℤ) (empty : high ≤ℤ low) where
 
 -- ---- the answer
 
-pub plan_filled : {D : Type 0} (store : StoreView D) (q : ℕ) (request : Request) (plan : Plan) → ((i : Interval) → base_in i store.fills ≡ base_of_filling (fillings_in store.filled) i)
+pub plan_filled : {D : Type 0} (store : StoreView D) (db : Database) (q : ℕ) (request : Request) (plan : Plan) → ((i : Interval) → base_in i store.fills ≡ base_of_slot (slots_in store.filled) i)
     → IsPlan store request.from request.to plan
-    → answer_over_parts store.head.mdb q request plan.parts ≡ filled_answer store.head.mdb q request store.exponent store.history (fillings_in store.filled)
-plan_filled store q request plan bases planned =
-    ap (as_asked request) (parts_cells store bases store.head.mdb q request.from request.to plan.parts planned.each ∙ by_range (int_lt request.from request.to) refl)
+    → answer_over_parts db q request plan.parts ≡ filled_answer db q request store.exponent store.history (fillings_in store.filled)
+plan_filled store db q request plan bases planned =
+    ap (as_asked request) (parts_cells store bases db q request.from request.to plan.parts planned.each (asked_have_rows store.exponent store.history request.from request.to (plan_intervals plan.parts) planned.meets) ∙ by_range (int_lt request.from request.to) refl)
   where
     f : Interval → List Cell
-    f = cells_of_interval store.head.mdb q request.from request.to store.exponent store.history (fillings_in store.filled)
+    f = cells_of_interval db q request.from request.to store.exponent store.history (fillings_in store.filled)
 
     asked : List Interval
     asked = intervals_of_range store.exponent request.from request.to store.history
@@ -118,7 +116,7 @@ plan_filled store q request plan bases planned =
         ap (flat_map f) (range_one store.exponent request.from request.to store.history (plan_intervals plan.parts) planned.rising planned.meets (planned.cover less))
     by_range false test =
         let empty : request.to ≤ℤ request.from = grind (arith, ints, test) in
-        let each = λ (i : Interval). interval_none request.from request.to empty store.head.mdb q (rows_of_interval store.exponent i store.history) (fillings_in store.filled i) (is_late_by_fill store.exponent store.history (fillings_in store.filled) i) in
+        let each = λ (i : Interval). interval_none request.from request.to empty db q (rows_of_interval store.exponent i store.history) (fillings_in store.filled i) (is_late_by_fill store.exponent store.history (fillings_in store.filled) i) in
         flat_none f (plan_intervals plan.parts) each ∙ sym (flat_none f asked each)
 
 -- ---- sound fills
@@ -134,7 +132,7 @@ module _ (db : Database) (q : ℕ) (low high : ℤ) (exponent : ℕ) (history : 
   set_holds i (Some l) last some None there punctual = absurd (true≢false punctual)
   set_holds i (Some l) last some (Some f) there punctual =
       let before : l < f.base = grind (arith, nat_tests, punctual) in
-      let since : NoRowSince exponent i f.base history = λ p stands. let most = last.1 p stands in omega (arith, most, before) in
+      let since : NoneSince exponent i f.base history = λ p changes. let most = last.2 p changes in omega (arith, most, before) in
       ap (filter (is_cell_in_range low high)) (sound.each i f there since q) ∙ timely_cells db q low high (rows_of_interval exponent i history)
 
   interval_holds : (i : Interval) → is_some (last_in exponent i history) ≡ true → cells_of_interval db q low high exponent history fillings i ≡ of_rows i

@@ -7,7 +7,7 @@ use Rattle.std.proofs.lemmas.Grind.{flat_map-append}
 use Rattle.std.proofs.lemmas.List.{drop_more, reverse-append, take-append-le}
 use Rattle.std.proofs.lemmas.List.Elements.{filter_map-append}
 use Rattle.arch_types.specs.declared.cell.Cell.{Cell}
-use Rattle.replay_merge.specs.Replay.{truncated}
+use Rattle.arch_types.specs.Directions.{truncated}
 use Rattle.retrieval.specs.AnswerText.{cell_list, is_full}
 
 take_front : (n : ℕ) (xs ys : List Cell) → take n (take n xs ++ ys) ≡ take n (xs ++ ys)

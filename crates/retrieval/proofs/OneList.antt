@@ -16,18 +16,19 @@ use Rattle.arch_types.specs.Order.{is_before, place_by}
 use Rattle.arch_types.specs.Table.{table_of}
 use Rattle.arch_types.proofs.Ordered.{IsAscending}
 use Rattle.history_items.specs.Fills.{is_same}
-use Rattle.history_items.specs.Items.{Item, is_row_of_interval, rows_in}
+use Rattle.history_items.specs.declared.items.Item.{Item}
+use Rattle.history_items.specs.Items.{is_of_interval, is_row_of_interval, rows_in}
 use Rattle.history_items.specs.Late.{IsLastIn, last_in}
-use Rattle.history_items.specs.Places.{last_place, last_with}
-use Rattle.history_items.proofs.Late.{last_is_greatest}
+use Rattle.history_items.proofs.ItemLists.{any_row_with}
+use Rattle.history_items.proofs.Late.{last_is_greatest, no_row, some_row}
 use Rattle.interval_fills.proofs.Steps.{same_interval}
-use Rattle.interval_walks.specs.Counts.{intervals_in, item_interval, with_interval}
+use Rattle.interval_walks.specs.Counts.{row_interval, with_interval}
 use Rattle.interval_walks.specs.Turns.{CoverRange, IntervalsRise, MeetsRange, meets_range}
 use Rattle.interval_walks.proofs.Covering.{AllBelow, rising_push}
 use Rattle.interval_walks.proofs.Rising.{interval_rises, not_before, table_ascending}
 use Rattle.archive_store.specs.Plans.{IsRangeInterval}
 use Rattle.archive_store.proofs.Planning.{rise_filtered}
-use Rattle.retrieval.specs.FilledAnswer.{intervals_of_range}
+use Rattle.retrieval.specs.FilledAnswer.{intervals_of_range, intervals_of_rows}
 
 -- ---- truth values
 
@@ -88,30 +89,29 @@ kept_any p outside (row ∷ rows) = go (is_in_table 0 row) refl (kept_any p outs
 zero_flipped : (t : ℕ) → (t == 0) ≡ (0 == t)
 zero_flipped t = both_ways (t == 0) (0 == t) (λ e. eq-eqb 0 t (sym (eqb-true t 0 e))) (λ e. eq-eqb t 0 (sym (eqb-true 0 t e)))
 
-table_any : (exponent : ℕ) (i : Interval) (history : List Item) → list_any (is_row_of_interval exponent i) (table_of 0 (rows_in history)) ≡ list_any (is_row_of_interval exponent i) (rows_in history)
-table_any exponent i history =
-    order_any (is_row_of_interval exponent i) [] (filter (is_in_table 0) (rows_in history))
-    ∙ kept_any (is_row_of_interval exponent i) (λ row out. ap (λ (t : Bool). t && int_eq (interval_of exponent row.key.time) i.0) (zero_flipped row.table ∙ out)) (rows_in history)
+table_any : (exponent : ℕ) (i : Interval) (rows : List Row) → list_any (is_of_interval exponent i) (table_of 0 rows) ≡ list_any (is_of_interval exponent i) rows
+table_any exponent i rows =
+    order_any (is_of_interval exponent i) [] (filter (is_in_table 0) rows)
+    ∙ kept_any (is_of_interval exponent i) (λ row out. ap (λ (t : Bool). t && int_eq (interval_of exponent row.key.time) i.0) (zero_flipped row.table ∙ out)) rows
 
--- a last one is there where one is
-last_any : (test : Item → Bool) (items : List Item) → is_some (last_place test items) ≡ list_any test items
-last_any test [] = refl
-last_any test (x ∷ xs) = go (test x) (last_place test xs) (list_any test xs) (last_any test xs)
+-- an interval has a last change where it has a row
+last_any : (exponent : ℕ) (i : Interval) (history : List Item) → is_some (last_in exponent i history) ≡ list_any (is_row_of_interval exponent i) history
+last_any exponent i history = go (last_in exponent i history) (last_is_greatest exponent i history) (list_any (is_row_of_interval exponent i) history) refl
   where
-    go : (head : Bool) (last : Option ℕ) (any : Bool) → is_some last ≡ any → is_some (last_with head last) ≡ (head || any)
-    go true (Some n) any e = refl
-    go false (Some n) any e = e
-    go true None any e = refl
-    go false None any e = e
+    go : (o : Option ℕ) → IsLastIn exponent i history o → (b : Bool) → list_any (is_row_of_interval exponent i) history ≡ b → is_some o ≡ b
+    go None never true any = absurd (never (some_row exponent i history any))
+    go None never false any = refl
+    go (Some l) last true any = refl
+    go (Some l) last false any = absurd (no_row exponent i history last.0.position any last.0.stands)
 
 -- ---- the intervals that have rows
 
 -- an interval is among them where one of its rows is there
-with_any : (exponent : ℕ) (i : Interval) (so_far : List Interval) (item : Item) → list_any (is_same i) (with_interval exponent so_far item) ≡ (list_any (is_same i) so_far || is_row_of_interval exponent i item)
-with_any exponent i so_far item = go (item.table == 0) (list_any (is_same j) so_far) refl
+with_any : (exponent : ℕ) (i : Interval) (so_far : List Interval) (row : Row) → list_any (is_same i) (with_interval exponent so_far row) ≡ (list_any (is_same i) so_far || is_of_interval exponent i row)
+with_any exponent i so_far row = go (row.table == 0) (list_any (is_same j) so_far) refl
   where
     j : Interval
-    j = item_interval exponent item
+    j = row_interval exponent row
 
     there : Bool
     there = list_any (is_same i) so_far
@@ -128,14 +128,15 @@ with_any exponent i so_far item = go (item.table == 0) (list_any (is_same j) so_
     go true true e = known (int_eq j.0 i.0) refl e
     go true false e = list_any-append (is_same i) so_far (j ∷ []) ∙ ap (λ (t : Bool). there || t) (or_false (is_same i j) ∙ flipped i.0 j.0)
 
-fold_any : (exponent : ℕ) (i : Interval) (so_far : List Interval) (rows : List Item) → list_any (is_same i) (fold (with_interval exponent) so_far rows) ≡ (list_any (is_same i) so_far || list_any (is_row_of_interval exponent i) rows)
+fold_any : (exponent : ℕ) (i : Interval) (so_far : List Interval) (rows : List Row) → list_any (is_same i) (fold (with_interval exponent) so_far rows) ≡ (list_any (is_same i) so_far || list_any (is_of_interval exponent i) rows)
 fold_any exponent i so_far [] = sym (or_false (list_any (is_same i) so_far))
 fold_any exponent i so_far (row ∷ rows) =
-    fold_any exponent i (with_interval exponent so_far row) rows ∙ ap (λ (t : Bool). t || list_any (is_row_of_interval exponent i) rows) (with_any exponent i so_far row)
-    ∙ or_grouped (list_any (is_same i) so_far) (is_row_of_interval exponent i row) (list_any (is_row_of_interval exponent i) rows)
+    fold_any exponent i (with_interval exponent so_far row) rows ∙ ap (λ (t : Bool). t || list_any (is_of_interval exponent i) rows) (with_any exponent i so_far row)
+    ∙ or_grouped (list_any (is_same i) so_far) (is_of_interval exponent i row) (list_any (is_of_interval exponent i) rows)
 
-in_order_any : (exponent : ℕ) (i : Interval) (history : List Item) → list_any (is_same i) (intervals_in exponent (table_of 0 (rows_in history))) ≡ is_some (last_in exponent i history)
-in_order_any exponent i history = fold_any exponent i [] (table_of 0 (rows_in history)) ∙ table_any exponent i history ∙ sym (last_any (is_row_of_interval exponent i) history)
+in_order_any : (exponent : ℕ) (i : Interval) (history : List Item) → list_any (is_same i) (intervals_of_rows exponent (table_of 0 (rows_in history))) ≡ is_some (last_in exponent i history)
+in_order_any exponent i history =
+    fold_any exponent i [] (table_of 0 (rows_in history)) ∙ table_any exponent i (rows_in history) ∙ sym (any_row_with (is_of_interval exponent i) history) ∙ sym (last_any exponent i history)
 
 -- they rise, since the rows do
 below_all : (i : Interval) (is : List Interval) → AllByRecursion (λ j. j.0 ≤ℤ i.0) is → list_any (is_same i) is ≡ false → AllBelow is i.0
@@ -154,17 +155,17 @@ at_most_push : (t : ℤ) (is : List Interval) (i : Interval) → AllByRecursion 
 at_most_push t [] i all here = (here, tt)
 at_most_push t (j ∷ is) i all here = (all.0, at_most_push t is i all.1 here)
 
-no_later_push : (exponent : ℕ) (so_far : List Interval) (row : Row) (rows : List Row) → NoLater exponent so_far rows → AllByRecursion (λ z. is_before z row ≡ false) rows → NoLater exponent (so_far ++ item_interval exponent row ∷ []) rows
+no_later_push : (exponent : ℕ) (so_far : List Interval) (row : Row) (rows : List Row) → NoLater exponent so_far rows → AllByRecursion (λ z. is_before z row ≡ false) rows → NoLater exponent (so_far ++ row_interval exponent row ∷ []) rows
 no_later_push exponent so_far row [] all up = tt
 no_later_push exponent so_far row (z ∷ rows) all up =
-    (at_most_push (interval_of exponent z.key.time) so_far (item_interval exponent row) all.0 (interval_rises exponent row.key.time z.key.time (not_before z row up.0)), no_later_push exponent so_far row rows all.1 up.1)
+    (at_most_push (interval_of exponent z.key.time) so_far (row_interval exponent row) all.0 (interval_rises exponent row.key.time z.key.time (not_before z row up.0)), no_later_push exponent so_far row rows all.1 up.1)
 
 with_rises : (exponent : ℕ) (so_far : List Interval) (row : Row) (rows : List Row) → IntervalsRise so_far → AllByRecursion (λ j. j.0 ≤ℤ interval_of exponent row.key.time) so_far → NoLater exponent so_far rows → AllByRecursion (λ z. is_before z row ≡ false) rows
     → IntervalsRise (with_interval exponent so_far row) × NoLater exponent (with_interval exponent so_far row) rows
 with_rises exponent so_far row rows rising here later up = go (row.table == 0) (list_any (is_same j) so_far) refl
   where
     j : Interval
-    j = item_interval exponent row
+    j = row_interval exponent row
 
     go : (tm has : Bool) → list_any (is_same j) so_far ≡ has
         → IntervalsRise (if tm && not has then so_far ++ j ∷ [] else so_far) × NoLater exponent (if tm && not has then so_far ++ j ∷ [] else so_far) rows
@@ -182,7 +183,7 @@ no_later_none : (exponent : ℕ) (rows : List Row) → NoLater exponent [] rows
 no_later_none exponent [] = tt
 no_later_none exponent (row ∷ rows) = (tt, no_later_none exponent rows)
 
-in_order_rises : (exponent : ℕ) (history : List Item) → IntervalsRise (intervals_in exponent (table_of 0 (rows_in history)))
+in_order_rises : (exponent : ℕ) (history : List Item) → IntervalsRise (intervals_of_rows exponent (table_of 0 (rows_in history)))
 in_order_rises exponent history = fold_rises exponent [] (table_of 0 (rows_in history)) tt (no_later_none exponent (table_of 0 (rows_in history))) (table_ascending (rows_in history))
 
 -- ---- two rising lists of the same intervals
@@ -293,12 +294,12 @@ true_meets exponent low high i test =
 
 -- those that have rows and meet it: they rise,
 pub asked_rises : (exponent : ℕ) (low high : ℤ) (history : List Item) → IntervalsRise (intervals_of_range exponent low high history)
-asked_rises exponent low high history = rise_filtered (meets_range exponent low high) (intervals_in exponent (table_of 0 (rows_in history))) (in_order_rises exponent history)
+asked_rises exponent low high history = rise_filtered (meets_range exponent low high) (intervals_of_rows exponent (table_of 0 (rows_in history))) (in_order_rises exponent history)
 
 -- are these,
 pub asked_any : (exponent : ℕ) (i : Interval) (low high : ℤ) (history : List Item) → list_any (is_same i) (intervals_of_range exponent low high history) ≡ (meets_range exponent low high i && is_some (last_in exponent i history))
 asked_any exponent i low high history =
-    filtered_any (meets_range exponent low high) i (intervals_in exponent (table_of 0 (rows_in history))) ∙ ap (λ (b : Bool). meets_range exponent low high i && b) (in_order_any exponent i history)
+    filtered_any (meets_range exponent low high) i (intervals_of_rows exponent (table_of 0 (rows_in history))) ∙ ap (λ (b : Bool). meets_range exponent low high i && b) (in_order_any exponent i history)
 
 -- cover it,
 pub asked_covers : (exponent : ℕ) (low high : ℤ) (history : List Item) → CoverRange exponent (intervals_of_range exponent low high history) low high history
@@ -306,7 +307,7 @@ asked_covers exponent low high history i position stands meets =
     asked_any exponent i low high history ∙ ap (λ (b : Bool). b && is_some (last_in exponent i history)) (meets_true exponent low high i meets) ∙ there (last_in exponent i history) (last_is_greatest exponent i history)
   where
     there : (o : Option ℕ) → IsLastIn exponent i history o → is_some o ≡ true
-    there None never = absurd (never position stands)
+    there None never = absurd (never (record { position = position; stands = stands }))
     there (Some l) last = refl
 
 or_right : (a b : Bool) → b ≡ true → (a || b) ≡ true
@@ -336,7 +337,7 @@ range_one exponent low high history is rising asked cover =
 
     stands : (i : Interval) (o : Option ℕ) → IsSome o → IsLastIn exponent i history o → MeetsRange exponent low high i → list_any (is_same i) is ≡ true
     stands i None some last meets = absurd (true≢false (sym some))
-    stands i (Some l) some last meets = cover i l last.0 meets
+    stands i (Some l) some last meets = cover i last.0.position last.0.stands meets
 
     back : (i : Interval) → (meets_range exponent low high i && is_some (last_in exponent i history)) ≡ true → list_any (is_same i) is ≡ true
     back i test =

@@ -10,15 +10,17 @@ use Rattle.asks.specs.Names.{parameter_number}
 use Rattle.arch_types.specs.declared.cell.Cell.{Cell}
 use Rattle.arch_types.specs.declared.row.Row.{Row}
 use Rattle.arch_types.specs.Table.{is_in_time_range, range_of}
-use Rattle.history_items.specs.Items.{Item, rows_in}
+use Rattle.history_items.specs.declared.items.Item.{Item}
+use Rattle.history_items.specs.Databases.{database_in}
+use Rattle.history_items.specs.Items.{rows_in}
 use Rattle.mdb_items.specs.Database.{Database}
 use Rattle.container_extract.specs.declared.values.ParameterValue.{ParameterValue}
 use Rattle.container_extract.specs.Extraction.{cell_at, cell_of, extraction}
 use Rattle.container_extract.specs.Values.{value_among}
+use Rattle.container_extract.specs.Answer.{answer_of, as_asked}
 use Rattle.param_segments.specs.declared.plan.Part.{Part}
 use Rattle.param_segments.specs.declared.plan.Part.TheVariants.{Rows, Set}
 use Rattle.param_segments.specs.Plans.{ArePartsOver, IsPartOver}
-use Rattle.retrieval.specs.AnswerText.{answered, as_asked}
 use Rattle.param_segments.specs.Rows.{SetRow}
 use Rattle.store_fills.specs.Sound.{Fillings}
 use Rattle.retrieval.specs.FilledAnswer.{IsFilledAnswer, filled_answer}
@@ -74,13 +76,14 @@ answer_over db q request parts rows over = ap (as_asked request) (parts_over db 
 
 -- over rows of which those in the range are the history's, the answer is that over the history
 pub answer_of_history : (db : Database) (q : ℕ) (request : Request) (rows history : List Row) →
-    filter (is_in_time_range request.from request.to) rows ≡ range_of 0 request.from request.to history → answer_over_rows db q request rows ≡ answered db q request history
+    filter (is_in_time_range request.from request.to) rows ≡ range_of 0 request.from request.to history → answer_over_rows db q request rows ≡ answer_of db q request history
 answer_of_history db q request rows history in_range = ap (λ (timely : List Row). as_asked request (filter_map (cell_of db q) timely)) in_range
 
 -- the answer over a plan is that over the history
 pub planned : PlannedIsAnswered
 planned head history request number plan is =
-    answer_over head.mdb number request plan.parts is.rows is.over ∙ answer_of_history head.mdb number request is.rows (rows_in history) is.in_range
+    let db = database_in head.mdb history in
+    answer_over db number request plan.parts is.rows is.over ∙ answer_of_history db number request is.rows (rows_in history) is.in_range
 
 -- the cells of an answer by one name of them or another
 pub same_cells : (r : Result Answer AllocError) (these those : List Cell) → these ≡ those → IfOk r (λ answer. answer.cells ≡ these) → IfOk r (λ answer. answer.cells ≡ those)

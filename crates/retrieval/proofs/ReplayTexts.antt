@@ -1,13 +1,17 @@
 -- The text of a replay, printed in three parts: the first line, the lines of its rows, and the last.
-use Rattle.std.proofs.Common.{◌≡◌, ◌∙◌, ℕ, List, ◌++◌, length, Option, ap, subst}
+use Rattle.std.proofs.Common.{◌≡◌, ◌∙◌, ℕ, List, ◌++◌, length, ap, subst}
 use Rattle.asks.specs.declared.ask.ReplayRequest.{ReplayRequest}
 use Rattle.arch_types.specs.declared.row.Row.{Row}
-use Rattle.history_items.specs.Items.{Item, rows_in}
+use Rattle.history_items.specs.declared.items.Item.{Item}
+use Rattle.history_items.specs.Items.{rows_in}
 use Rattle.archive_store.specs.declared.head.Head.{Head}
 use Rattle.archive_store.specs.Replays.{IsReplayOpened}
-use Rattle.dump_lines.specs.Output.{IsBuffered}
-use Rattle.dump_lines.proofs.LineBuffers.{buffered_then, buffered_then_some, three_parts, wrote_front}
-use Rattle.outer_traits.specs.Outside.{WritesSome}
+use Rattle.line_buffer.specs.Printed.{IsCutOff, IsPrinted, PrintsText}
+use Rattle.line_buffer.proofs.LineBuffers.{three_parts}
+use Rattle.line_buffer.proofs.PrintedTexts.{cut_front, failed_front, printed_cut, printed_on, printed_then}
+use Rattle.outer_traits.specs.States.{OutputState}
+use Rattle.outer_traits.specs.declared.print_fault.PrintFault.{PrintFault}
+use Rattle.std.specs.Prelude.{Result, Err}
 use Rattle.replay_merge.specs.Cursor.{CursorView, rest_of}
 use Rattle.retrieval.specs.AnswerText.{end_line, front_line}
 use Rattle.retrieval.specs.ReplayText.{packet_lines, replay_lines, replay_text}
@@ -25,28 +29,31 @@ module _ (head : Head) (history : List Item) (k : ℕ) (request : ReplayRequest)
       three_parts held (front_line k (length history)) lines end mid (put ∙ ap (λ (front : ℕ). held ++ front_line k front) is.front)
       ∙ ap (λ (rows : List Row). held ++ replay_lines k (length history) head.mdb request.table rows) (opened_is head history request c is)
 
-  -- some of the first line went on
-  pub front_failed : (w0 w1 : Option (List ℕ)) → WritesSome w0 w1 mid → WritesSome w0 w1 (held ++ replay_text head history k request)
-  front_failed w0 w1 some = subst (WritesSome w0 w1) text_is (wrote_front w0 w1 (mid ++ lines) end (wrote_front w0 w1 mid lines some))
+  -- the first line was cut off
+  pub front_failed : (s0 s1 : OutputState) → IsCutOff s0 s1 mid → IsCutOff s0 s1 (held ++ replay_text head history k request)
+  front_failed s0 s1 cut = subst (IsCutOff s0 s1) text_is (cut_front s0 s1 (mid ++ lines) end (cut_front s0 s1 mid lines cut))
 
-  -- some of the lines of the rows went on
-  pub rest_failed : (w0 w1 w2 : Option (List ℕ)) (left : List ℕ) → IsBuffered w0 w1 mid left → WritesSome w1 w2 (left ++ lines) → WritesSome w0 w2 (held ++ replay_text head history k request)
-  rest_failed w0 w1 w2 left before some = subst (WritesSome w0 w2) text_is (wrote_front w0 w2 (mid ++ lines) end (buffered_then_some w0 w1 w2 mid left lines before some))
+  -- the lines of the rows failed
+  pub rest_failed : {X : Type 0} (Y : Type 0) (r : Result X PrintFault) (e : PrintFault) (s0 s1 s2 : OutputState) (left last : List ℕ) → r ≡ Err e → IsPrinted s0 s1 mid left →
+      PrintsText {X = Y} (Err e) s1 s2 (left ++ lines) last → PrintsText r s0 s2 (held ++ replay_text head history k request) last
+  rest_failed {X} Y r e s0 s1 s2 left last is before failed =
+      subst (λ (text : List ℕ). PrintsText r s0 s2 text last) text_is
+      (failed_front {X = X} Y r e s0 s2 (mid ++ lines) end last last is (printed_then {X = Y} (Err e) s0 s1 s2 mid lines left last before failed))
 
   last_is : (last ended : List ℕ) (count : ℕ) → ended ≡ last ++ end_line count → count ≡ length (rest_of c (rows_in history)) → ended ≡ last ++ end
   last_is last ended count put_end counted = put_end ∙ ap (λ (n : ℕ). last ++ end_line n) counted
 
-  -- some of the last line went on
-  pub end_failed : (w0 w1 w2 w3 : Option (List ℕ)) (left last ended : List ℕ) (count : ℕ) → IsBuffered w0 w1 mid left → IsBuffered w1 w2 (left ++ lines) last →
-      ended ≡ last ++ end_line count → count ≡ length (rest_of c (rows_in history)) → WritesSome w2 w3 ended → WritesSome w0 w3 (held ++ replay_text head history k request)
-  end_failed w0 w1 w2 w3 left last ended count before rest put_end counted some =
-      let rows = buffered_then w0 w1 w2 mid left lines last before rest in
-      subst (WritesSome w0 w3) text_is (buffered_then_some w0 w2 w3 (mid ++ lines) last end rows (subst (WritesSome w2 w3) (last_is last ended count put_end counted) some))
+  -- the last line was cut off
+  pub end_failed : (s0 s1 s2 s3 : OutputState) (left last ended : List ℕ) (count : ℕ) → IsPrinted s0 s1 mid left → IsPrinted s1 s2 (left ++ lines) last →
+      ended ≡ last ++ end_line count → count ≡ length (rest_of c (rows_in history)) → IsCutOff s2 s3 ended → IsCutOff s0 s3 (held ++ replay_text head history k request)
+  end_failed s0 s1 s2 s3 left last ended count before rest put_end counted cut =
+      let rows = printed_on s0 s1 s2 mid lines left last before rest in
+      subst (IsCutOff s0 s3) text_is (printed_cut s0 s2 s3 (mid ++ lines) end last rows (subst (IsCutOff s2 s3) (last_is last ended count put_end counted) cut))
 
   -- all went on but for what is buffered
-  pub all_done : (w0 w1 w2 w3 : Option (List ℕ)) (left last ended still : List ℕ) (count : ℕ) → IsBuffered w0 w1 mid left → IsBuffered w1 w2 (left ++ lines) last →
-      ended ≡ last ++ end_line count → count ≡ length (rest_of c (rows_in history)) → IsBuffered w2 w3 ended still → IsBuffered w0 w3 (held ++ replay_text head history k request) still
-  all_done w0 w1 w2 w3 left last ended still count before rest put_end counted done =
-      let rows = buffered_then w0 w1 w2 mid left lines last before rest in
-      subst (λ (text : List ℕ). IsBuffered w0 w3 text still) text_is
-      (buffered_then w0 w2 w3 (mid ++ lines) last end still rows (subst (λ (text : List ℕ). IsBuffered w2 w3 text still) (last_is last ended count put_end counted) done))
+  pub all_done : (s0 s1 s2 s3 : OutputState) (left last ended still : List ℕ) (count : ℕ) → IsPrinted s0 s1 mid left → IsPrinted s1 s2 (left ++ lines) last →
+      ended ≡ last ++ end_line count → count ≡ length (rest_of c (rows_in history)) → IsPrinted s2 s3 ended still → IsPrinted s0 s3 (held ++ replay_text head history k request) still
+  all_done s0 s1 s2 s3 left last ended still count before rest put_end counted done =
+      let rows = printed_on s0 s1 s2 mid lines left last before rest in
+      subst (λ (text : List ℕ). IsPrinted s0 s3 text still) text_is
+      (printed_on s0 s2 s3 (mid ++ lines) end last still rows (subst (λ (text : List ℕ). IsPrinted s2 s3 text still) (last_is last ended count put_end counted) done))

@@ -9,15 +9,18 @@ use Rattle.arch_types.specs.declared.row.Row.{Row}
 use Rattle.arch_types.specs.History.{is_in_table}
 use Rattle.arch_types.specs.Order.{is_before, order_by, place_by}
 use Rattle.arch_types.specs.Table.{is_in_time_range}
-use Rattle.history_items.specs.Items.{Item, rows_in}
+use Rattle.arch_types.specs.Directions.{truncated}
+use Rattle.history_items.specs.declared.items.Item.{Item}
+use Rattle.history_items.specs.declared.items.Item.TheVariants as items
+use Rattle.history_items.specs.Items.{rows_in}
 use Rattle.archive_store.specs.declared.head.Head.{Head}
 use Rattle.asks.specs.Names.{packet_name_numbers, table_number}
-use Rattle.archive_store.specs.Replays.{IsReplayOpened, replay_asked}
+use Rattle.archive_store.specs.Replays.{IsReplayOpened}
 use Rattle.mdb_items.specs.Database.{Database}
 use Rattle.replay_merge.specs.Cursor.{CursorView, rest_of}
-use Rattle.replay_merge.specs.Replay.{has_listed_name, truncated, replay_of}
-use Rattle.dump_lines.specs.Output.{IsBuffered}
-use Rattle.retrieval.specs.ReplayText.{packet_line, packet_lines, rows_replayed}
+use Rattle.replay_merge.specs.Replay.{has_listed_name, replay_of}
+use Rattle.line_buffer.specs.Output.{IsBuffered}
+use Rattle.retrieval.specs.ReplayText.{packet_line, packet_lines}
 
 -- ---- there are at most as many rows as in the history
 
@@ -45,15 +48,16 @@ few_truncated : (limit : Option ℕ) (rows : List Row) → length (truncated lim
 few_truncated None rows = omega arith
 few_truncated (Some n) rows = omega (arith, length-take n rows)
 
-pub few_replayed : (table : ℕ) (from to : ℤ) (names : Option (List ℕ)) (limit : Option ℕ) (history : List Row) → length (replay_of table from to names limit history) ≤ length history
-few_replayed table from to names limit history =
+pub few_replayed : (db : Database) (table : ℕ) (request : ReplayRequest) (history : List Row) → length (replay_of db table request history) ≤ length history
+few_replayed db table request history =
+    let names = packet_name_numbers db request.names in
     let rows = filter (is_in_table table) history in
     let ordered = order_by is_before rows in
-    let ranged = filter (is_in_time_range from to) ordered in
+    let ranged = filter (is_in_time_range request.from request.to) ordered in
     let named = filter (has_listed_name names) ranged in
-    let e1 = few_truncated limit named in
+    let e1 = few_truncated request.limit named in
     let e2 = few_filter (has_listed_name names) ranged in
-    let e3 = few_filter (is_in_time_range from to) ordered in
+    let e3 = few_filter (is_in_time_range request.from request.to) ordered in
     let e4 = length-order [] rows in
     let e5 = few_filter (is_in_table table) history in
     omega (arith, e1, e2, e3, e4, e5)
@@ -62,17 +66,23 @@ few_replayed table from to names limit history =
 
 -- what it has to give is the replay
 pub opened_is : (head : Head) (history : List Item) (request : ReplayRequest) (c : CursorView) → IsReplayOpened head history request c →
-    rest_of c (rows_in history) ≡ rows_replayed head request (rows_in history)
+    rest_of c (rows_in history) ≡ replay_of head.mdb (unwrap_or (table_number head.tables request.table) 0) request (rows_in history)
 opened_is head history request c is =
     let table : c.table ≡ unwrap_or (table_number head.tables request.table) 0 = sym (ap (λ (place : Option ℕ). unwrap_or place 0) is.table) in
-    is.replay history ([], append-nil history) ∙ ap (λ (number : ℕ). replay_asked head request number (rows_in history)) table
+    is.replay history ([], append-nil history) ∙ ap (λ (number : ℕ). replay_of head.mdb number request (rows_in history)) table
 
--- no more rows than the history has
+-- the rows among items
+few_rows : (history : List Item) → length (rows_in history) ≤ length history
+few_rows [] = omega arith
+few_rows (items.Row row ∷ history) = let few = few_rows history in omega (arith, few)
+few_rows (items.Mdb database ∷ history) = let few = few_rows history in omega (arith, few)
+
+-- no more rows than the history has items
 pub few_rest : (head : Head) (history : List Item) (request : ReplayRequest) (c : CursorView) → IsReplayOpened head history request c → length (rest_of c (rows_in history)) ≤ length history
 few_rest head history request c is =
-    let few = few_replayed c.table request.from request.to (packet_name_numbers head.mdb request.names) request.limit (rows_in history) in
+    let few = few_replayed head.mdb c.table request (rows_in history) in
     let same = ap (λ (rows : List Row). length rows) (is.replay history ([], append-nil history)) in
-    omega (arith, few, same)
+    omega (arith, few, same, few_rows history)
 
 -- ---- a step of it
 

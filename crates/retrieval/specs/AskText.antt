@@ -4,7 +4,8 @@ use Rattle.asks.specs.declared.ask.Ask.{Ask}
 use Rattle.asks.specs.declared.ask.Ask.TheVariants.{Values, Replay}
 use Rattle.asks.specs.Refusals.{ask_refusal}
 use Rattle.refusals.specs.declared.refusal.Refusal.{Refusal}
-use Rattle.history_items.specs.Items.{Item}
+use Rattle.history_items.specs.declared.items.Item.{Item}
+use Rattle.history_items.specs.Databases.{database_in}
 use Rattle.archive_store.specs.declared.head.Head.{Head}
 use Rattle.archive_store.specs.Finding.{refusal_of_ask}
 use Rattle.mdb_items.specs.Checks.{or_else}
@@ -15,7 +16,8 @@ use Rattle.retrieval.specs.ReplayText.{replay_text}
 
 -- the text of the ask with a number
 abbrev pub ask_text : Head → ℕ → List Item → Fillings (List SetRow) → ℕ → Ask → List ℕ
-ask_text head exponent history fillings k (Values request) = request_text head.mdb exponent history fillings k request
+ask_text head exponent history fillings k (Values request) =
+    request_text (database_in head.mdb history) exponent history fillings k request
 ask_text head exponent history fillings k (Replay request) = replay_text head history k request
 
 -- the texts of asks, numbered from k on
@@ -25,7 +27,8 @@ asks_text head exponent history fillings k (ask ∷ asks) =
     ask_text head exponent history fillings k ask ++ asks_text head exponent history fillings (suc k) asks
 
 -- the refusal of the first ask that isn't answered
-abbrev pub asks_refusal : Head → List Ask → Option Refusal
-asks_refusal head [] = None
-asks_refusal head (ask ∷ asks) =
-    or_else (option_map refusal_of_ask (ask_refusal head.tables head.mdb ask)) (asks_refusal head asks)
+abbrev pub asks_refusal : Head → List Item → List Ask → Option Refusal
+asks_refusal head history [] = None
+asks_refusal head history (ask ∷ asks) =
+    or_else (option_map refusal_of_ask (ask_refusal head.tables (database_in head.mdb history) ask))
+    (asks_refusal head history asks)

@@ -1,28 +1,35 @@
 -- The answer over an archive with fills.
-use Rattle.std.specs.Prelude.{◌≡◌, ℕ, ℤ, List, [], filter, flat_map, length, unwrap_or, Option, Some, None, if◌then◌else◌}
+use Rattle.std.specs.Prelude.{◌≡◌, ℕ, ℤ, List, [], filter, flat_map, fold, length, unwrap_or, Option, Some, None, if◌then◌else◌}
 use Rattle.asks.specs.declared.ask.Answer.{Answer}
 use Rattle.asks.specs.declared.ask.Request.{Request}
 use Rattle.asks.specs.Names.{parameter_number}
 use Rattle.arch_types.specs.declared.cell.Cell.{Cell}
 use Rattle.intervals.specs.declared.interval.Interval.{Interval}
+use Rattle.arch_types.specs.declared.row.Row.{Row}
 use Rattle.arch_types.specs.Table.{table_of}
-use Rattle.history_items.specs.Items.{Item, rows_in}
+use Rattle.history_items.specs.declared.items.Item.{Item}
+use Rattle.history_items.specs.Items.{rows_in}
 use Rattle.interval_fills.specs.Intervals.{rows_of_interval}
-use Rattle.interval_walks.specs.Counts.{intervals_in}
+use Rattle.interval_walks.specs.Counts.{with_interval}
 use Rattle.interval_walks.specs.Turns.{meets_range}
 use Rattle.mdb_items.specs.Database.{Database}
 use Rattle.param_segments.specs.Cells.{set_cells}
 use Rattle.param_segments.specs.Rows.{SetRow}
 use Rattle.store_fills.specs.Sound.{Filling, Fillings}
-use Rattle.retrieval.specs.AnswerText.{answer_lines, as_asked}
+use Rattle.container_extract.specs.Answer.{as_asked}
+use Rattle.retrieval.specs.AnswerText.{answer_lines}
 use Rattle.retrieval.specs.PartCells.{cells_of_rows, is_cell_in_range}
 use Rattle.archive_store.specs.LateFills.{is_late_by_fill}
+
+-- the intervals of rows, each once, in the order of their first rows
+abbrev pub intervals_of_rows : ℕ → List Row → List Interval
+intervals_of_rows exponent rows = fold (with_interval exponent) [] rows
 
 -- The intervals that have rows of `tm` and meet a range of times, in the order of their numbers: that in which the rows of
 -- `tm` come in the order of their keys.
 abbrev pub intervals_of_range : ℕ → ℤ → ℤ → List Item → List Interval
 intervals_of_range exponent low high history =
-    filter (meets_range exponent low high) (intervals_in exponent (table_of 0 (rows_in history)))
+    filter (meets_range exponent low high) (intervals_of_rows exponent (table_of 0 (rows_in history)))
 
 -- the cells of a parameter that a fill's set has in a range
 abbrev pub cells_of_fill : Database → ℕ → ℤ → ℤ → Option (Filling (List SetRow)) → List Cell

@@ -3,6 +3,8 @@ use Rattle.std.specs.Prelude.{List, map}
 use Rattle.std.specs.List.{AllByRecursion}
 use Rattle.asks.specs.declared.ask.Ask.{Ask}
 use Rattle.asks.specs.declared.ask.Ask.TheVariants as asked
+use Rattle.history_items.specs.declared.items.Item.{Item}
+use Rattle.history_items.specs.Databases.{database_in}
 use Rattle.archive_store.specs.declared.head.Head.{Head}
 use Rattle.archive_store.specs.Finding.{IsReplayFound, IsRequestFound}
 use Rattle.retrieval.specs.declared.found_asks.FoundAsk.{FoundAsk}
@@ -17,11 +19,11 @@ ask_found (Replay found) = asked.Replay found.request
 abbrev pub asks_found : List FoundAsk → List Ask
 asks_found found = map ask_found found
 
--- an ask was found in a head: a request in its database, a request for rows among its tables
-abbrev pub IsAskFound : Head → FoundAsk → Type 0
-IsAskFound head (Values found) = IsRequestFound head.mdb found
-IsAskFound head (Replay found) = IsReplayFound head.tables found
+-- an ask was found over a history: a request in the database in force, a request for rows among the head's tables
+abbrev pub IsAskFound : Head → List Item → FoundAsk → Type 0
+IsAskFound head history (Values found) = IsRequestFound (database_in head.mdb history) found
+IsAskFound head history (Replay found) = IsReplayFound head.tables found
 
 -- each ask was
-abbrev pub AreFound : Head → List FoundAsk → Type 0
-AreFound head found = AllByRecursion (IsAskFound head) found
+abbrev pub AreFound : Head → List Item → List FoundAsk → Type 0
+AreFound head history found = AllByRecursion (IsAskFound head history) found

@@ -1,9 +1,13 @@
 -- What the definitions come to.
-use Rattle.std.specs.Prelude.{◌≡◌, ℕ, List, IfSome}
+use Rattle.std.specs.Prelude.{◌≡◌, ℕ, List}
 use Rattle.asks.specs.declared.ask.Ask.{Ask}
 use Rattle.asks.specs.declared.ask.Request.{Request}
-use Rattle.history_items.specs.Items.{Item, rows_in}
-use Rattle.mdb_items.specs.Database.{Database, limit_passed}
+use Rattle.history_items.specs.declared.items.Item.{Item}
+use Rattle.history_items.specs.Databases.{database_in}
+use Rattle.history_items.specs.Items.{rows_in}
+use Rattle.mdb_items.specs.declared.fault.MdbLimit.{MdbLimit}
+use Rattle.mdb_items.specs.Database.{Database}
+use Rattle.mdb_items.specs.Limits.{database_limit}
 use Rattle.param_segments.specs.declared.plan.Plan.{Plan}
 use Rattle.param_segments.specs.Rows.{SetRow}
 use Rattle.store_fills.specs.Filled.{HoldsRows}
@@ -11,7 +15,7 @@ use Rattle.store_fills.specs.Sound.{AreSound, Fillings}
 use Rattle.archive_store.specs.declared.head.Head.{Head}
 use Rattle.archive_store.specs.Plans.{IsPlanOver}
 use Rattle.archive_store.specs.AddedFills.{AddsWholeFills}
-use Rattle.retrieval.specs.AnswerText.{answered}
+use Rattle.container_extract.specs.Answer.{answer_of}
 use Rattle.retrieval.specs.AskText.{asks_text}
 use Rattle.retrieval.specs.FilledAnswer.{filled_answer}
 use Rattle.retrieval.specs.Parameter.{limit_of_database}
@@ -22,7 +26,7 @@ use Rattle.refusals.specs.Limits.{limit_of}
 abbrev pub FilledIsAnswered : Type 0
 FilledIsAnswered = (db : Database) (exponent : ℕ) (history : List Item) (fillings : Fillings (List SetRow))
     (request : Request) (number : ℕ) → AreSound exponent (HoldsRows db) history fillings →
-    filled_answer db number request exponent history fillings ≡ answered db number request (rows_in history)
+    filled_answer db number request exponent history fillings ≡ answer_of db number request (rows_in history)
 
 -- fills of late intervals, over the whole history, change nothing of what asks are answered
 abbrev pub AddedFillsAnswerAlike : Type 0
@@ -34,9 +38,9 @@ AddedFillsAnswerAlike = (head : Head) (exponent : ℕ) (history : List Item) (ol
 abbrev pub PlannedIsAnswered : Type 0
 PlannedIsAnswered = (head : Head) (history : List Item) (request : Request) (number : ℕ) (plan : Plan) →
     IsPlanOver head history request.from request.to plan →
-    answer_over_parts head.mdb number request plan.parts ≡ answered head.mdb number request (rows_in history)
+    answer_over_parts (database_in head.mdb history) number request plan.parts
+    ≡ answer_of (database_in head.mdb history) number request (rows_in history)
 
--- the number of a limit that a database passes is that of the archive's
+-- the limits of a database are those of the archive
 abbrev pub DatabaseLimitsAgree : Type 0
-DatabaseLimitsAgree =
-    (db : Database) → IfSome (limit_passed db) (λ passed. passed.1 ≡ limit_of (limit_of_database passed.0))
+DatabaseLimitsAgree = (quantity : MdbLimit) → database_limit quantity ≡ limit_of (limit_of_database quantity)

@@ -8,10 +8,10 @@ use Rattle.arch_types.specs.declared.row.Row.{Row}
 use Rattle.arch_types.specs.Table.{is_in_time_range}
 use Rattle.mdb_items.specs.Database.{Database}
 use Rattle.container_extract.specs.Extraction.{cell_of}
+use Rattle.container_extract.specs.Answer.{as_asked}
 use Rattle.param_segments.specs.declared.plan.Part.{Part}
 use Rattle.param_segments.specs.declared.plan.Part.TheVariants.{Set, Rows}
 use Rattle.param_segments.specs.Cells.{set_cells}
-use Rattle.retrieval.specs.AnswerText.{as_asked}
 
 -- whether a cell's time lies in a half-open range
 abbrev pub is_cell_in_range : ℤ → ℤ → Cell → Bool

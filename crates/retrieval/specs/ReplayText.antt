@@ -5,11 +5,12 @@ use Rattle.asks.specs.declared.ask.ReplayRequest.{ReplayRequest}
 use Rattle.asks.specs.Names.{table_number}
 use Rattle.arch_types.specs.declared.key.Key.{Key}
 use Rattle.arch_types.specs.declared.row.Row.{Row}
-use Rattle.history_items.specs.Items.{Item, rows_in}
+use Rattle.history_items.specs.declared.items.Item.{Item}
+use Rattle.history_items.specs.Items.{rows_in}
 use Rattle.archive_store.specs.declared.head.Head.{Head}
-use Rattle.archive_store.specs.Replays.{replay_asked}
 use Rattle.mdb_items.specs.declared.container.Container.{Container}
 use Rattle.mdb_items.specs.Database.{Database}
+use Rattle.replay_merge.specs.Replay.{replay_of}
 use Rattle.retrieval.specs.AnswerText.{end_line, front_line}
 
 -- a container's name; none has none
@@ -50,12 +51,8 @@ packet_lines db table rows = flat_map (packet_line db table) rows
 abbrev pub replay_lines : ℕ → ℕ → Database → List ℕ → List Row → List ℕ
 replay_lines k front db table rows = front_line k front ++ packet_lines db table rows ++ end_line (length rows)
 
--- the rows that a request asks of a history, where the head has its table
-abbrev pub rows_replayed : Head → ReplayRequest → List Row → List Row
-rows_replayed head request history =
-    replay_asked head request (unwrap_or (table_number head.tables request.table) 0) history
-
 -- the text of the replay of a request, the ask with a number
 abbrev pub replay_text : Head → List Item → ℕ → ReplayRequest → List ℕ
 replay_text head history k request =
-    replay_lines k (length history) head.mdb request.table (rows_replayed head request (rows_in history))
+    let table = unwrap_or (table_number head.tables request.table) 0 in
+    replay_lines k (length history) head.mdb request.table (replay_of head.mdb table request (rows_in history))

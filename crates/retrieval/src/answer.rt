@@ -5,13 +5,14 @@ ghost use Rattle.std.specs.Arc.{arc_value};
 ghost use Rattle.std.specs.List.{AllByRecursion};
 ghost use Rattle.arch_types.specs.declared.row.Row.{Row};
 ghost use Rattle.arch_types.specs.Table.{is_in_time_range};
+ghost use Rattle.history_items.specs.Databases.{database_in};
 ghost use Rattle.history_items.specs.Items.{rows_in};
 ghost use Rattle.param_segments.specs.Plans.{ArePartsOver, HasValuesOf, rows_of_parts};
 ghost use Rattle.store_fills.specs.LastFills.{fillings_in};
 ghost use Rattle.archive_store.specs.Finding.{IsRequestFound};
 ghost use Rattle.archive_store.specs.Plans.{late_rows_of_range};
 ghost use Rattle.archive_store.specs.Stands.{IsSoundImage};
-ghost use Rattle.retrieval.specs.AnswerText.{answered};
+ghost use Rattle.container_extract.specs.Answer.{answer_of};
 ghost use Rattle.retrieval.specs.FilledAnswer.{IsFilledAnswer};
 ghost use Rattle.retrieval.specs.PartCells.{answer_over_parts, answer_over_rows};
 
@@ -67,20 +68,21 @@ pub fn answer_request<D: Disk, L: Ledger>(
     found: &FoundRequest,
     steps: &mut Steps<L>,
 ) -> Result<Answer, AllocError>
-    requires found { IsRequestFound store.old.head.mdb found.now }
-    ensures filled { IfOk result (IsFilledAnswer store.old.head.mdb store.old.exponent store.old.history
-        (fillings_in store.old.filled) found.now.request) }
+    requires found { IsRequestFound (database_in store.old.head.mdb store.old.history) found.now }
+    ensures filled { IfOk result (IsFilledAnswer (database_in store.old.head.mdb store.old.history)
+        store.old.exponent store.old.history (fillings_in store.old.filled) found.now.request) }
 
     // Where the fills of the disk were sound when it was opened, the cells are those that the range's rows give.
     ensures answered { IfOk result (λ answer.
         IsTrue D.device.is_transparent → IsSoundImage (D.device.reads store.old.opened) → answer.cells ≡
-        answered store.old.head.mdb found.now.number found.now.request (rows_in store.old.history)) }
+        answer_of (database_in store.old.head.mdb store.old.history) found.now.number found.now.request
+        (rows_in store.old.history)) }
     ensures same { store.new ≡ store.old }
 
     // No row of a filled interval takes one.
     ensures steps { steps.new ≤ steps.old + length (filter
         (is_in_time_range found.now.request.from found.now.request.to) (late_rows_of_range store.old.exponent
-        store.old.history store.old.fills found.now.request.from found.now.request.to)) }
+        store.old.history (fillings_in store.old.filled) found.now.request.from found.now.request.to)) }
 {
     // It tells the proof that the fill list has the bases of the fills that are there.
     let _bases = store.front();

@@ -1,13 +1,12 @@
 //! The lines of an answer.
 
-ghost use Rattle.std.specs.Prelude.{◌≡◌, ◌+◌, ◌<◌, ◌≤◌, ◌++◌, IfOk, OnOk, OnErr, IsErr, flat_map, length, option_copied};
+ghost use Rattle.std.specs.Prelude.{◌≡◌, ◌<◌, ◌++◌, IfOk, flat_map, length, option_copied};
 ghost use Rattle.std.specs.Arc.{arc_value};
-ghost use Rattle.outer_traits.specs.Outside.{HasRisen, Stays, WritesSome};
 ghost use Rattle.retrieval.specs.AnswerText.{answer_lines, end_line, front_line};
 ghost use Rattle.retrieval.specs.CellText.{HasShortLabels, cell_line};
 ghost use Rattle.retrieval.specs.ValuesText.{cell_lines};
-ghost use Rattle.dump_lines.specs.Output.{IsBuffered};
-ghost use Rattle.dump_lines.specs.LineRoom.{HasLineRoom};
+ghost use Rattle.line_buffer.specs.Printed.{BuffersText};
+ghost use Rattle.line_buffer.specs.LineRoom.{HasLineRoom};
 
 use crate::cell_text::put_cell;
 use crate::cells::calibration_of;
@@ -15,7 +14,7 @@ use arch_types::cell::Cell;
 use arch_types::octets::Octets;
 use archive_store::FoundRequest;
 use asks::Answer;
-use dump_lines::line_buffer::LineBuffer;
+use line_buffer::LineBuffer;
 use mdb_model::{Calibration, Mdb};
 use outer_traits::fault::Failed;
 use outer_traits::sink::Sink;
@@ -65,16 +64,9 @@ pub fn print_found<K: Sink>(
 ) -> Result<(), Failed>
     requires room { HasLineRoom line_buffer.old }
     requires number { found.now.number < length (arc_value found.now.mdb).parameters }
-    ensures buffered { OnOk result (IsBuffered (K.state sink.old).written (K.state sink.new).written
+    ensures { BuffersText result (K.state sink.old) (K.state sink.new)
         (line_buffer.old ++ answer_lines k answer.now.front (arc_value found.now.mdb) found.now.number
-        answer.now.cells) line_buffer.new) }
-    ensures room { OnOk result (HasLineRoom line_buffer.new) }
-    ensures some { OnErr result (WritesSome (K.state sink.old).written (K.state sink.new).written
-        (line_buffer.old ++ answer_lines k answer.now.front (arc_value found.now.mdb) found.now.number
-        answer.now.cells)) }
-    ensures later { (K.state sink.old).faults ≤ (K.state sink.new).faults }
-    ensures failed { IsErr result → HasRisen (K.state sink.old).faults (K.state sink.new).faults }
-    ensures no_fault { OnOk result (Stays (K.state sink.old).faults (K.state sink.new).faults) }
+        answer.now.cells) line_buffer.new }
 {
     let calibration = calibration_of(&found.mdb, found.number);
     let cells = answer.cells.as_slice();
@@ -94,14 +86,8 @@ fn print_cells<K: Sink>(
 ) -> Result<(), Failed>
     requires room { HasLineRoom line_buffer.old }
     requires labels { HasShortLabels (option_copied calibration) }
-    ensures buffered { OnOk result (IsBuffered (K.state sink.old).written (K.state sink.new).written
-        (line_buffer.old ++ flat_map (cell_line (option_copied calibration.entry)) cells.now) line_buffer.new) }
-    ensures room { OnOk result (HasLineRoom line_buffer.new) }
-    ensures some { OnErr result (WritesSome (K.state sink.old).written (K.state sink.new).written
-        (line_buffer.old ++ flat_map (cell_line (option_copied calibration.entry)) cells.now)) }
-    ensures later { (K.state sink.old).faults ≤ (K.state sink.new).faults }
-    ensures failed { IsErr result → HasRisen (K.state sink.old).faults (K.state sink.new).faults }
-    ensures no_fault { OnOk result (Stays (K.state sink.old).faults (K.state sink.new).faults) }
+    ensures { BuffersText result (K.state sink.old) (K.state sink.new)
+        (line_buffer.old ++ flat_map (cell_line (option_copied calibration.entry)) cells.now) line_buffer.new }
 {
     for cell in cells {
         put_cell(line_buffer, *cell, calibration);

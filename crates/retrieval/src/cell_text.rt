@@ -4,11 +4,11 @@ ghost use Rattle.std.specs.Prelude.{◌≡◌, ◌+◌, ◌<◌, ◌≤◌, ◌+
 ghost use Rattle.std.specs.List.{AllByRecursion};
 ghost use Rattle.retrieval.specs.CellText.{cell_line, eng_text, fixed_text, label_text, labels_of, longest_eng, sign_text, six_digits, HasShortLabels};
 ghost use Rattle.retrieval.specs.ValuesText.{values_line};
-ghost use Rattle.dump_lines.specs.LineRoom.{HasLineRoom, HasRoomFor, longest_number};
+ghost use Rattle.line_buffer.specs.LineRoom.{HasLineRoom, HasRoomFor, longest_number};
 
 use arch_types::cell::{Cell, Eng};
-use dump_lines::line_buffer::LineBuffer;
 use itoa::Buffer;
+use line_buffer::LineBuffer;
 use mdb_model::{Calibration, Calibrator, EnumRow};
 
 /// Adds the line of a cell of a parameter with this calibration.

@@ -17,7 +17,7 @@ pub fn added_fills_answer_alike()
     ensures { AddedFillsAnswerAlike }
 {}
 
-/// The number of a limit that a database passes is that of the archive's.
+/// The limits of a database are those of the archive.
 pub fn database_limits_agree()
     ensures { DatabaseLimitsAgree }
 {}

@@ -3,12 +3,12 @@
 ghost use Rattle.std.specs.Prelude.{◌≡◌, ◌+◌, ◌≤◌, ◌++◌, length, slice_get};
 ghost use Rattle.std.specs.List.{AllByRecursion};
 ghost use Rattle.retrieval.specs.ReplayText.{container_name, key_words, longest_key_words, longest_packet_words, packet_line, packet_words, pname_text};
-ghost use Rattle.dump_lines.specs.LineRoom.{HasLineRoom, HasRoomFor};
+ghost use Rattle.line_buffer.specs.LineRoom.{HasLineRoom, HasRoomFor};
 
 use arch_types::key::Key;
 use arch_types::name::Name;
 use arch_types::row::Row;
-use dump_lines::line_buffer::LineBuffer;
+use line_buffer::LineBuffer;
 use mdb_model::{Container, Mdb};
 
 /// Adds the line of a row of a table.

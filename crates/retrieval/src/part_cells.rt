@@ -3,9 +3,10 @@
 ghost use Rattle.std.specs.Prelude.{◌≡◌, ◌+◌, ◌≤◌, ◌++◌, ◌∷◌, [], OnOk, IfOk, filter, flat_map, length, reverse};
 ghost use Rattle.std.specs.List.{AllByRecursion, filter_map};
 ghost use Rattle.arch_types.specs.Table.{is_in_time_range};
+ghost use Rattle.arch_types.specs.Directions.{truncated};
 ghost use Rattle.param_segments.specs.Plans.{HasValuesOf, rows_of_part, rows_of_parts};
-ghost use Rattle.replay_merge.specs.Replay.{truncated};
-ghost use Rattle.retrieval.specs.AnswerText.{as_asked, cell_list};
+ghost use Rattle.container_extract.specs.Answer.{as_asked};
+ghost use Rattle.retrieval.specs.AnswerText.{cell_list};
 ghost use Rattle.retrieval.specs.PartCells.{cell_in_range, cells_of_part, timely_cell};
 
 use crate::cells::{add_cell, is_full};

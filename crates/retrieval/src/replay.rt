@@ -1,14 +1,12 @@
 //! The lines of a replay.
 
-ghost use Rattle.std.specs.Prelude.{◌≡◌, ◌<◌, ◌≤◌, ◌^◌, ◌++◌, [], OnOk, OnErr, IfOk, IsErr, length};
-ghost use Rattle.std.specs.Result.{result_err};
-ghost use Rattle.outer_traits.specs.Outside.{HasRisen, Stays, WritesSome};
+ghost use Rattle.std.specs.Prelude.{◌≡◌, ◌<◌, ◌^◌, ◌++◌, [], IfOk, length};
 ghost use Rattle.history_items.specs.Items.{rows_in};
 ghost use Rattle.archive_store.specs.Finding.{IsReplayFound};
-ghost use Rattle.dump_lines.specs.Output.{IsBuffered, PrintCounted};
+ghost use Rattle.line_buffer.specs.Printed.{BuffersText, PrintsText};
 ghost use Rattle.replay_merge.specs.Cursor.{steps_at_most, rest_of};
 ghost use Rattle.retrieval.specs.ReplayText.{packet_lines, replay_text};
-ghost use Rattle.dump_lines.specs.LineRoom.{HasLineRoom};
+ghost use Rattle.line_buffer.specs.LineRoom.{HasLineRoom};
 
 use crate::answer_text::{put_end, put_front};
 use crate::packet_text::put_packet;
@@ -16,7 +14,7 @@ use arch_disk::Disk;
 use arch_types::name::Name;
 use arch_types::row::{Row, Rows};
 use archive_store::{FoundReplay, Store};
-use dump_lines::line_buffer::LineBuffer;
+use line_buffer::LineBuffer;
 use mdb_model::Mdb;
 use outer_traits::fault::Failed;
 use outer_traits::print_fault::PrintFault;
@@ -38,13 +36,8 @@ pub fn print_replay<D: Disk, K: Sink>(
 ) -> Result<(), PrintFault>
     requires known { IsReplayFound store.old.head.tables found.now }
     requires room { HasLineRoom line_buffer.old }
-    ensures buffered { OnOk result (IsBuffered (K.state sink.old).written (K.state sink.new).written
-        (line_buffer.old ++ replay_text store.old.head store.old.history k found.now.request) line_buffer.new) }
-    ensures room { OnOk result (HasLineRoom line_buffer.new) }
-    ensures some { OnErr result (WritesSome (K.state sink.old).written (K.state sink.new).written
-        (line_buffer.old ++ replay_text store.old.head store.old.history k found.now.request)) }
-    ensures later { (K.state sink.old).faults ≤ (K.state sink.new).faults }
-    ensures counted { PrintCounted (result_err result) (K.state sink.old).faults (K.state sink.new).faults }
+    ensures printed { PrintsText result (K.state sink.old) (K.state sink.new)
+        (line_buffer.old ++ replay_text store.old.head store.old.history k found.now.request) line_buffer.new }
     ensures same { store.new ≡ store.old }
 {
     let cursor = store.replay_open(alloc, found)?;
@@ -74,15 +67,10 @@ fn print_rest<D: Disk, K: Sink>(
 ) -> Result<usize, PrintFault>
     requires room { HasLineRoom line_buffer.old }
     requires few { length (rest_of cursor (rows_in store.old.history)) < 2 ^ 64 }
-    ensures buffered { OnOk result (IsBuffered (K.state sink.old).written (K.state sink.new).written
+    ensures printed { PrintsText result (K.state sink.old) (K.state sink.new)
         (line_buffer.old ++ packet_lines store.old.head.mdb table.now (rest_of cursor (rows_in store.old.history)))
-        line_buffer.new) }
-    ensures room { OnOk result (HasLineRoom line_buffer.new) }
+        line_buffer.new }
     ensures count { IfOk result (λ count. count ≡ length (rest_of cursor (rows_in store.old.history))) }
-    ensures some { OnErr result (WritesSome (K.state sink.old).written (K.state sink.new).written
-        (line_buffer.old ++ packet_lines store.old.head.mdb table.now (rest_of cursor (rows_in store.old.history)))) }
-    ensures later { (K.state sink.old).faults ≤ (K.state sink.new).faults }
-    ensures counted { PrintCounted (result_err result) (K.state sink.old).faults (K.state sink.new).faults }
     ensures same { store.new ≡ store.old }
 {
     let mut cursor = cursor;
@@ -126,14 +114,8 @@ fn print_rows<K: Sink>(
     sink: &mut K,
 ) -> Result<(), Failed>
     requires { HasLineRoom line_buffer.old }
-    ensures buffered { OnOk result (IsBuffered (K.state sink.old).written (K.state sink.new).written
-        (line_buffer.old ++ packet_lines mdb.now table.now rows.now) line_buffer.new) }
-    ensures room { OnOk result (HasLineRoom line_buffer.new) }
-    ensures some { OnErr result (WritesSome (K.state sink.old).written (K.state sink.new).written
-        (line_buffer.old ++ packet_lines mdb.now table.now rows.now)) }
-    ensures later { (K.state sink.old).faults ≤ (K.state sink.new).faults }
-    ensures failed { IsErr result → HasRisen (K.state sink.old).faults (K.state sink.new).faults }
-    ensures no_fault { OnOk result (Stays (K.state sink.old).faults (K.state sink.new).faults) }
+    ensures { BuffersText result (K.state sink.old) (K.state sink.new)
+        (line_buffer.old ++ packet_lines mdb.now table.now rows.now) line_buffer.new }
 {
     for row in rows {
         put_packet(line_buffer, mdb, table, row);

@@ -1,16 +1,17 @@
 -- Partitions that hold what is selected.
-use Rattle.std.proofs.Common.{◌≡◌, ℕ, ◌+◌, ◌^◌, ◌<◌, ◌≤◌, List, [], ◌∷◌, ◌++◌, length, get_or, map, take, zero, suc, refl, sym, ap, ◌∙◌, subst, arith, append-nil, append_assoc}
+use Rattle.std.proofs.Common.{◌≡◌, ℕ, ◌+◌, ◌<◌, ◌≤◌, List, [], ◌∷◌, ◌++◌, length, get_or, map, take, zero, suc, refl, sym, ap, ◌∙◌, subst, arith, append-nil, append_assoc}
 use Rattle.std.specs.Prelude.{filter, flat_map, Result, Ok, Err, IfOk}
 use Rattle.std.specs.List.{AllByRecursion, range_with_len}
 use Rattle.std.proofs.Math.Seq.{take-suc}
-use Rattle.std.proofs.lemmas.List.{length-map, map-append, take_all}
+use Rattle.std.proofs.lemmas.List.{map-append, take_all}
 use Rattle.std.proofs.lemmas.List.Elements.{Contains-append_left, Contains-append_right}
 use Rattle.text_forms.specs.ClockTime.{IsClockTime}
 use Rattle.arch_types.specs.declared.row.Row.{Row}
 use Rattle.arch_types.specs.declared.spans.Span.{Span}
 use Rattle.arch_types.specs.History.{is_in_table}
-use Rattle.history_items.specs.Items.{Item, rows_in}
-use Rattle.mdb_items.specs.declared.container.Container.{Container}
+use Rattle.history_items.specs.declared.items.Item.{Item}
+use Rattle.history_items.specs.declared.items.Item.TheVariants as items
+use Rattle.history_items.specs.Items.{rows_in}
 use Rattle.partitions.specs.declared.bounds.Bounds.{Bounds}
 use Rattle.partitions.specs.declared.partition.Partition.{Partition}
 use Rattle.replay_merge.specs.Laws.{HoldsPruned}
@@ -22,25 +23,31 @@ use Rattle.ssql_types.specs.declared.query.TypedSelect.{TypedSelect}
 use Rattle.archive_store.specs.declared.head.Head.{Head}
 use Rattle.archive_store.specs.Entries.{IsArchivedRow}
 use Rattle.archive_store.specs.Laws.{ArchivedRowsHaveClockTimes}
-use Rattle.archive_store.specs.Replays.{AreParts}
-use Rattle.script_answers.specs.Statements.{AreSourceParts, name_spans, packet_names}
+use Rattle.archive_store.specs.Replays.{ArePartitions}
+use Rattle.script_answers.specs.Statements.{AreSourceParts, name_spans}
 
 -- each row of an archive has a moment of the clock
-pub all_clocked : (head : Head) (rows : List Row) → ArchivedRowsHaveClockTimes → AllByRecursion (IsArchivedRow head) rows → AllByRecursion (λ row. IsClockTime row.key.time) rows
-all_clocked head [] law all = tt
-all_clocked head (row ∷ rows) law all = (law head row all.0, all_clocked head rows law all.1)
+pub all_clocked : (head : Head) (history : List Item) (rows : List Row) → ArchivedRowsHaveClockTimes → AllByRecursion (IsArchivedRow head history) rows → AllByRecursion (λ row. IsClockTime row.key.time) rows
+all_clocked head history [] law all = tt
+all_clocked head history (row ∷ rows) law all = (law head history row all.0, all_clocked head history rows law all.1)
+
+-- the rows among items
+pub few_rows : (history : List Item) → length (rows_in history) ≤ length history
+few_rows [] = omega arith
+few_rows (items.Row row ∷ history) = let few = few_rows history in omega (arith, few)
+few_rows (items.Mdb database ∷ history) = let few = few_rows history in omega (arith, few)
 
 -- ---- the partitions of tables
 
 module _ (bounds : Bounds) (history : List Item) where
   -- those of one table more
-  behind_sources : (tables : List ℕ) (table : ℕ) (parts more : List Partition) → AreSourceParts history bounds tables parts → AreParts history table bounds more →
+  behind_sources : (tables : List ℕ) (table : ℕ) (parts more : List Partition) → AreSourceParts history bounds tables parts → ArePartitions history table bounds more →
       AreSourceParts history bounds (tables ++ table ∷ []) (parts ++ more)
   behind_sources [] table parts more are found = (more, [], found, refl, ap (λ (l : List Partition). l ++ more) are ∙ sym (append-nil more))
   behind_sources (first ∷ tables) table parts more (own, others, of_first, of_others, are) found =
       (own, others ++ more, of_first, behind_sources tables table others more of_others found, ap (λ (l : List Partition). l ++ more) are ∙ append_assoc own others more)
 
-  pub one_table_more : (parts more all : List Partition) (tables : List ℕ) (i table : ℕ) → i < length tables → table ≡ get_or tables i table → AreParts history table bounds more → all ≡ parts ++ more →
+  pub one_table_more : (parts more all : List Partition) (tables : List ℕ) (i table : ℕ) → i < length tables → table ≡ get_or tables i table → ArePartitions history table bounds more → all ≡ parts ++ more →
       AreSourceParts history bounds (take i tables) parts → AreSourceParts history bounds (take (i + 1) tables) all
   one_table_more parts more all tables i table within is found put are =
       let next : i + 1 ≡ suc i = omega arith in
@@ -97,8 +104,3 @@ spans_more pname spans i span old lines all within is so_far put =
     ∙ ap (λ (l : List ShowLine). old ++ l) (ap (λ (s : Span). map (Histogram pname) (take i spans) ++ Histogram pname s ∷ []) is
     ∙ sym (map-append (Histogram pname) (take i spans) (get_or spans i span ∷ []))
     ∙ ap (map (Histogram pname)) (sym (take-suc spans i span within)) ∙ ap (λ (n : ℕ). map (Histogram pname) (take n spans)) (sym next))
-
--- ---- the packet names of a head have numbers
-
-pub names_few : (head : Head) (count : ℕ) → count ≡ length head.mdb.containers → count < 2 ^ 16 → length (packet_names head) ≤ 2 ^ 16
-names_few head count is small = let same = length-map head.mdb.containers (λ (c : Container). c.name) in omega (arith, is, small, same)

@@ -19,9 +19,11 @@ use Rattle.partitions.specs.Rows.{partitions_of}
 use Rattle.partitions.proofs.Order.{exact_partitions, partition_cmp_total}
 use Rattle.replay_merge.proofs.Sources.{each_tested}
 use Rattle.ssql_conditions.specs.ConditionBounds.{all_bounds}
+use Rattle.history_items.specs.declared.items.Item.{Item}
+use Rattle.history_items.specs.Items.{rows_in}
 use Rattle.archive_history.specs.History.{rows_in_table}
-use Rattle.archive_store.specs.Replays.{AreParts}
-use Rattle.script_answers.specs.Statements.{parts_of_rows, placed_by, with_part}
+use Rattle.archive_store.specs.Replays.{ArePartitions}
+use Rattle.script_answers.specs.Statements.{parts_of_rows, placed_by, with_partition}
 
 -- ---- which partitions a list has
 
@@ -82,21 +84,21 @@ before_all : (p q : Partition) (parts : List Partition) → partition_cmp p q �
 before_all p q [] less all = tt
 before_all p q (z ∷ parts) less all = (partition_cmp_total.trans p q z less all.0, before_all p q parts less all.1)
 
-with_either : (p : Partition) (parts : List Partition) (partition : Partition) → IsAmongParts partition (with_part p parts) → (p ≡ partition) ⊎ IsAmongParts partition parts
+with_either : (p : Partition) (parts : List Partition) (partition : Partition) → IsAmongParts partition (with_partition p parts) → (p ≡ partition) ⊎ IsAmongParts partition parts
 with_either p [] partition is = is
 with_either p (q ∷ parts) partition is = by (partition_cmp p q) (with_either p parts partition) is
   where
-    by : (r : Ordering) → (IsAmongParts partition (with_part p parts) → (p ≡ partition) ⊎ IsAmongParts partition parts) → IsAmongParts partition (placed_by r p q parts (with_part p parts)) → (p ≡ partition) ⊎ IsAmongParts partition (q ∷ parts)
+    by : (r : Ordering) → (IsAmongParts partition (with_partition p parts) → (p ≡ partition) ⊎ IsAmongParts partition parts) → IsAmongParts partition (placed_by r p q parts (with_partition p parts)) → (p ≡ partition) ⊎ IsAmongParts partition (q ∷ parts)
     by Less again is = is
     by Equal again is = inr is
     by Greater again (inl is) = inr (inl is)
     by Greater again (inr is) = elim (again is) [ inl own ↦ inl own | inr there ↦ inr (inr there) ]
 
-either_with : (p : Partition) (parts : List Partition) (partition : Partition) → (p ≡ partition) ⊎ IsAmongParts partition parts → IsAmongParts partition (with_part p parts)
+either_with : (p : Partition) (parts : List Partition) (partition : Partition) → (p ≡ partition) ⊎ IsAmongParts partition parts → IsAmongParts partition (with_partition p parts)
 either_with p [] partition is = is
 either_with p (q ∷ parts) partition is = by (partition_cmp p q) refl (either_with p parts partition) is
   where
-    by : (r : Ordering) → partition_cmp p q ≡ r → ((p ≡ partition) ⊎ IsAmongParts partition parts → IsAmongParts partition (with_part p parts)) → (p ≡ partition) ⊎ IsAmongParts partition (q ∷ parts) → IsAmongParts partition (placed_by r p q parts (with_part p parts))
+    by : (r : Ordering) → partition_cmp p q ≡ r → ((p ≡ partition) ⊎ IsAmongParts partition parts → IsAmongParts partition (with_partition p parts)) → (p ≡ partition) ⊎ IsAmongParts partition (q ∷ parts) → IsAmongParts partition (placed_by r p q parts (with_partition p parts))
     by Less e again is = is
     by Equal e again (inl own) = inl (sym (exact_partitions p q e) ∙ own)
     by Equal e again (inr there) = there
@@ -104,17 +106,17 @@ either_with p (q ∷ parts) partition is = by (partition_cmp p q) refl (either_w
     by Greater e again (inr (inl is)) = inl is
     by Greater e again (inr (inr there)) = inr (again (inr there))
 
-rising_with : (p : Partition) (parts : List Partition) → AreRising parts → AreRising (with_part p parts)
+rising_with : (p : Partition) (parts : List Partition) → AreRising parts → AreRising (with_partition p parts)
 unfolding IsStrictlySortedBy
 rising_with p [] rising = (tt, tt)
 rising_with p (q ∷ parts) rising = by (partition_cmp p q) refl (rising_with p parts rising.1)
   where
-    by : (r : Ordering) → partition_cmp p q ≡ r → AreRising (with_part p parts) → AreRising (placed_by r p q parts (with_part p parts))
+    by : (r : Ordering) → partition_cmp p q ≡ r → AreRising (with_partition p parts) → AreRising (placed_by r p q parts (with_partition p parts))
     by Less e again = ((e, before_all p q parts e rising.0), rising)
     by Equal e again = rising
-    by Greater e again = (of_each (λ z. partition_cmp q z ≡ Less) (with_part p parts) above, again)
+    by Greater e again = (of_each (λ z. partition_cmp q z ≡ Less) (with_partition p parts) above, again)
       where
-        above : (partition : Partition) → IsAmongParts partition (with_part p parts) → partition_cmp q partition ≡ Less
+        above : (partition : Partition) → IsAmongParts partition (with_partition p parts) → partition_cmp q partition ≡ Less
         above partition is = elim (with_either p parts partition is) [
           | inl own ↦ subst (λ (z : Partition). partition_cmp q z ≡ Less) own (partition_cmp_total.antisymm q p ∙ ap ordering_reverse e)
           | inr there ↦ each_of (λ z. partition_cmp q z ≡ Less) parts partition rising.0 there
@@ -142,11 +144,11 @@ may_hold (row ∷ rows) clocks partition (inl own) =
 may_hold (row ∷ rows) clocks partition (inr there) = may_hold rows clocks.1 partition there
 
 -- those that a store gives for all times are those of the rows of the table
-pub parts_are : (history : List Row) (table : ℕ) (parts : List Partition) → AllByRecursion (λ row. IsClockTime row.key.time) history → AreParts history table all_bounds parts →
+pub parts_are : (history : List Item) (table : ℕ) (parts : List Partition) → AllByRecursion (λ row. IsClockTime row.key.time) (rows_in history) → ArePartitions history table all_bounds parts →
     parts ≡ parts_of_rows (rows_in_table table history)
 parts_are history table parts all are =
     let rows = rows_in_table table history in
-    let clocks : AllByRecursion (λ (row : Row). IsClockTime row.key.time) rows = each_tested (λ (row : Row). IsClockTime row.key.time) (λ (row : Row). IsClockTime row.key.time) (is_in_table table) (λ row is e. is) history all in
+    let clocks : AllByRecursion (λ (row : Row). IsClockTime row.key.time) rows = each_tested (λ (row : Row). IsClockTime row.key.time) (λ (row : Row). IsClockTime row.key.time) (is_in_table table) (λ row is e. is) (rows_in history) all in
     same_rising parts (parts_of_rows rows) are.rising (rising_of_rows rows)
     (λ partition is. to_rows rows partition (among (partitions_of rows) partition ((are.exactly partition).0 (contained parts partition is)).0))
     (λ partition is. let noted = from_rows rows partition is in among parts partition ((are.exactly partition).1 (contained (partitions_of rows) partition noted, may_hold rows clocks partition noted)))

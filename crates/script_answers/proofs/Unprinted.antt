@@ -1,10 +1,10 @@
 -- A text of which nothing was printed.
 use Rattle.std.proofs.Common.{ℕ, List, [], ◌++◌, refl, append-nil}
 use Rattle.outer_traits.specs.States.{OutputState}
-use Rattle.dump_lines.proofs.LineBuffers.{buffered_front, buffered_none}
-use Rattle.dump_lines.specs.Printed.{IsPartPrinted, IsPrinted}
-use Rattle.ssql_select.proofs.Printings.{nothing_printed}
-use Rattle.dump_lines.specs.LineRoom.{HasLineRoom}
+use Rattle.line_buffer.proofs.LineBuffers.{buffered_front, buffered_none}
+use Rattle.line_buffer.specs.Printed.{IsPartPrinted, IsPrinted}
+use Rattle.line_buffer.proofs.PrintedTexts.{nothing_printed}
+use Rattle.line_buffer.specs.LineRoom.{HasLineRoom}
 
 -- nothing of a text was printed, for want of memory
 pub unprinted : (first : OutputState) (text : List ℕ) → IsPartPrinted first first text

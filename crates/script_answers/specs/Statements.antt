@@ -8,12 +8,14 @@ use Rattle.histogram.specs.Times.{spans_of_times, times_of}
 use Rattle.partitions.specs.declared.bounds.Bounds.{Bounds}
 use Rattle.partitions.specs.declared.partition.Partition.{Partition}
 use Rattle.partitions.specs.Partition.{partition_cmp, partition_of}
-use Rattle.history_items.specs.Items.{Item, rows_in}
+use Rattle.history_items.specs.declared.items.Item.{Item}
+use Rattle.history_items.specs.Databases.{names_in}
+use Rattle.history_items.specs.Items.{rows_in}
 use Rattle.archive_history.specs.PartitionedTable.{named_times_of}
 use Rattle.archive_history.specs.History.{rows_in_table}
 use Rattle.archive_store.specs.declared.head.Head.{Head}
 use Rattle.archive_store.specs.Entries.{Archive}
-use Rattle.archive_store.specs.Replays.{AreParts}
+use Rattle.archive_store.specs.Replays.{ArePartitions}
 use Rattle.ssql_select.specs.declared.show.ShowLine.{ShowLine}
 use Rattle.ssql_select.specs.declared.show.ShowLine.TheVariants.{Histogram}
 use Rattle.ssql_select.specs.SelectionText.{selection_text}
@@ -21,9 +23,9 @@ use Rattle.ssql_select.specs.ShowText.{partition_lines, show_text}
 use Rattle.ssql_types.specs.declared.statement.TypedStatement.{TypedStatement}
 use Rattle.ssql_types.specs.declared.statement.TypedStatement.TheVariants as ts
 
--- the packet names of an archive, in the order of their numbers
-abbrev pub packet_names : Head → List (List ℕ)
-packet_names head = map (λ c. c.name) head.mdb.containers
+-- the packet names of a history, in the order of their numbers
+abbrev pub packet_names : Head → List Item → List (List ℕ)
+packet_names head history = names_in head.mdb history
 
 -- ---- queries
 
@@ -32,7 +34,7 @@ packet_names head = map (λ c. c.name) head.mdb.containers
 abbrev pub AreSourceParts : List Item → Bounds → List ℕ → List Partition → Type 0
 AreSourceParts history bounds [] parts = parts ≡ []
 AreSourceParts history bounds (table ∷ tables) parts =
-    (own : List Partition) × (others : List Partition) × AreParts history table bounds own
+    (own : List Partition) × (others : List Partition) × ArePartitions history table bounds own
     × AreSourceParts history bounds tables others × (parts ≡ own ++ others)
 
 -- ---- SHOW PARTITIONS
@@ -45,20 +47,20 @@ placed_by Equal partition first rest with_rest = first ∷ rest
 placed_by Greater partition first rest with_rest = first ∷ with_rest
 
 -- partitions that rise, and one at its place among them, unless it is there
-abbrev pub with_part : Partition → List Partition → List Partition
-with_part partition [] = partition ∷ []
-with_part partition (first ∷ rest) =
-    placed_by (partition_cmp partition first) partition first rest (with_part partition rest)
+abbrev pub with_partition : Partition → List Partition → List Partition
+with_partition partition [] = partition ∷ []
+with_partition partition (first ∷ rest) =
+    placed_by (partition_cmp partition first) partition first rest (with_partition partition rest)
 
 -- the partitions of rows, each once, by day and then by the packet name's number
 abbrev pub parts_of_rows : List Row → List Partition
 parts_of_rows [] = []
-parts_of_rows (row ∷ rows) = with_part (partition_of row.key.time row.pname) (parts_of_rows rows)
+parts_of_rows (row ∷ rows) = with_partition (partition_of row.key.time row.pname) (parts_of_rows rows)
 
 -- the partitions of a table with their rows
-abbrev pub table_partitions : ℕ → List Row → List ShowLine
+abbrev pub table_partitions : ℕ → List Item → List ShowLine
 table_partitions table history =
-    partition_lines (length history) table history (parts_of_rows (rows_in_table table history))
+    partition_lines (length history) table (rows_in history) (parts_of_rows (rows_in_table table history))
 
 -- ---- SHOW HISTOGRAM
 
@@ -67,7 +69,7 @@ abbrev pub name_spans : List Row → ℕ → List ShowLine
 name_spans rows pname = map (Histogram pname) (spans_of_times (times_of pname (named_times_of rows)))
 
 -- the records of a table, by the number of the packet name and then by time
-abbrev pub table_spans : ℕ → ℕ → List Row → List ShowLine
+abbrev pub table_spans : ℕ → ℕ → List Item → List ShowLine
 table_spans names table history = flat_map (name_spans (rows_in_table table history)) (range_with_len 0 names)
 
 -- ---- statements
@@ -77,12 +79,13 @@ abbrev pub statement_text : Archive → TypedStatement → List ℕ
 statement_text archive (ts.CreateTable name) = []
 statement_text archive (ts.CreateStream flow) = []
 statement_text archive (ts.Insert table flow) = []
-statement_text archive (ts.Select select) = selection_text (packet_names archive.head) select (rows_in archive.history)
+statement_text archive (ts.Select select) =
+    selection_text (packet_names archive.head archive.history) select (rows_in archive.history)
 statement_text archive (ts.ShowHistogram table) =
-    show_text (packet_names archive.head)
-    (table_spans (length archive.head.mdb.containers) table (rows_in archive.history))
+    let names = packet_names archive.head archive.history in
+    show_text names (table_spans (length names) table archive.history)
 statement_text archive (ts.ShowPartitions table) =
-    show_text (packet_names archive.head) (table_partitions table (rows_in archive.history))
+    show_text (packet_names archive.head archive.history) (table_partitions table archive.history)
 
 -- the answers to statements, one behind the other
 abbrev pub statements_text : Archive → List TypedStatement → List ℕ

@@ -5,12 +5,12 @@ ghost use Rattle.std.specs.List.{AllByRecursion};
 ghost use Rattle.archive_store.specs.StoreView.{archive_of};
 ghost use Rattle.history_items.specs.Items.{rows_in};
 ghost use Rattle.ssql_conditions.specs.ConditionBounds.{bounds_of};
-ghost use Rattle.dump_lines.specs.Printed.{PrintsText};
+ghost use Rattle.line_buffer.specs.Printed.{PrintsText};
 ghost use Rattle.ssql_select.specs.Selection.{HoldsSelected};
 ghost use Rattle.ssql_select.specs.SelectionText.{selection_text};
 ghost use Rattle.ssql_types.specs.Laws.{NamesTables};
 ghost use Rattle.script_answers.specs.Statements as spec;
-ghost use Rattle.dump_lines.specs.LineRoom.{HasLineRoom};
+ghost use Rattle.line_buffer.specs.LineRoom.{HasLineRoom};
 
 use arch_disk::Disk;
 use arch_types::name::Names;
@@ -18,7 +18,7 @@ use arch_types::spans::Span;
 use arch_types::steps::Steps;
 use archive_store::Store;
 use archive_store::laws::archived_rows_have_clock_times;
-use dump_lines::line_buffer::LineBuffer;
+use line_buffer::LineBuffer;
 use outer_traits::print_fault::PrintFault;
 use outer_traits::sink::Sink;
 use partitions::bounds::Bounds;
@@ -44,7 +44,7 @@ pub fn answer_statements<D: Disk, K: Sink>(
     line_buffer: &mut LineBuffer,
     sink: &mut K,
 ) -> Result<(), PrintFault>
-    requires names { names.now ≡ spec.packet_names store.now.head }
+    requires names { names.now ≡ spec.packet_names store.now.head store.now.history }
     requires tables { AllByRecursion (NamesTables (length store.now.head.tables)) statements.now }
     requires room { HasLineRoom line_buffer.old }
     ensures { PrintsText result (K.state sink.old) (K.state sink.new)
@@ -65,7 +65,7 @@ fn answer_statement<D: Disk, K: Sink>(
     line_buffer: &mut LineBuffer,
     sink: &mut K,
 ) -> Result<(), PrintFault>
-    requires names { names.now ≡ spec.packet_names store.now.head }
+    requires names { names.now ≡ spec.packet_names store.now.head store.now.history }
     requires tables { NamesTables (length store.now.head.tables) statement.now }
     requires room { HasLineRoom line_buffer.old }
     ensures { PrintsText result (K.state sink.old) (K.state sink.new)
@@ -106,7 +106,7 @@ fn print_selection<D: Disk, K: Sink>(
     line_buffer: &mut LineBuffer,
     sink: &mut K,
 ) -> Result<(), PrintFault>
-    requires names { names.now ≡ spec.packet_names store.now.head }
+    requires names { names.now ≡ spec.packet_names store.now.head store.now.history }
     requires tables { AllByRecursion (λ table. table < length store.now.head.tables) query.now.sources }
     requires room { HasLineRoom line_buffer.old }
     ensures { PrintsText result (K.state sink.old) (K.state sink.new)
@@ -128,7 +128,7 @@ fn print_partitions<D: Disk, K: Sink>(
     line_buffer: &mut LineBuffer,
     sink: &mut K,
 ) -> Result<(), PrintFault>
-    requires names { names.now ≡ spec.packet_names store.now.head }
+    requires names { names.now ≡ spec.packet_names store.now.head store.now.history }
     requires tables { table < length store.now.head.tables }
     requires room { HasLineRoom line_buffer.old }
     ensures { PrintsText result (K.state sink.old) (K.state sink.new)
@@ -150,7 +150,7 @@ fn print_spans<D: Disk, K: Sink>(
     line_buffer: &mut LineBuffer,
     sink: &mut K,
 ) -> Result<(), PrintFault>
-    requires names { names.now ≡ spec.packet_names store.now.head }
+    requires names { names.now ≡ spec.packet_names store.now.head store.now.history }
     requires tables { table < length store.now.head.tables }
     requires room { HasLineRoom line_buffer.old }
     ensures { PrintsText result (K.state sink.old) (K.state sink.new)
@@ -232,7 +232,7 @@ fn table_partitions<D: Disk>(
 ) -> Result<Vec<ShowLine>, Refusal>
     requires { table < length store.now.head.tables }
     ensures lines { IfOk result (λ lines. lines.items
-        ≡ spec.table_partitions table (rows_in store.now.history)) }
+        ≡ spec.table_partitions table store.now.history) }
     ensures refused { IfErr result (λ refusal. refusal ≡ Refusal.OutOfMemory) }
 {
     archived_rows_have_clock_times();
@@ -251,12 +251,13 @@ fn table_spans<D: Disk>(
 ) -> Result<Vec<ShowLine>, Refusal>
     requires { table < length store.now.head.tables }
     ensures lines { IfOk result (λ lines. lines.items
-        ≡ spec.table_spans (length store.now.head.mdb.containers) table (rows_in store.now.history)) }
+        ≡ spec.table_spans (length (spec.packet_names store.now.head store.now.history)) table store.now.history) }
     ensures refused { IfErr result (λ refusal. refusal ≡ Refusal.OutOfMemory) }
 {
-    let names = store.head().mdb.containers();
+    let names = store.name_count();
     let mut lines = Vec::new(alloc);
-    for pname in 0..names {
+    for place in 0..names {
+        let pname = place as u16;
         let spans = store.histogram(table, pname)?;
         add_spans(&mut lines, pname, spans.as_slice())?;
     }

@@ -3,7 +3,7 @@ use Rattle.std.proofs.Common.{◌≡◌, ◌∙◌, ◌<◌, ◌≤◌, ℕ, suc
 use Rattle.std.proofs.lemmas.Bool.Decides.{nat_tests}
 use Rattle.std.proofs.lemmas.List.{take-append-le, take_all}
 use Rattle.arch_types.specs.declared.row.Row.{Row}
-use Rattle.replay_merge.specs.Replay.{truncated}
+use Rattle.arch_types.specs.Directions.{truncated}
 use Rattle.ssql_select.specs.Selection.{is_enough}
 
 take_front : (n : ℕ) (xs ys : List Row) → take n (take n xs ++ ys) ≡ take n (xs ++ ys)

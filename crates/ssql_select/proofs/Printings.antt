@@ -1,5 +1,5 @@
 -- Texts that are printed one behind the other.
-use Rattle.std.proofs.Common.{◌≡◌, ℕ, suc, ◌+◌, ◌<◌, ◌≤◌, List, [], ◌∷◌, ◌++◌, length, get_or, take, drop, refl, sym, ap, ◌∙◌, append-nil, append_assoc, subst, arith}
+use Rattle.std.proofs.Common.{◌≡◌, ℕ, suc, ◌+◌, ◌<◌, ◌≤◌, List, [], ◌∷◌, ◌++◌, length, get_or, take, drop, sym, ap, ◌∙◌, append-nil, append_assoc, subst, arith}
 use Rattle.std.specs.Prelude.{flat_map, Result, Ok, Err}
 use Rattle.std.proofs.Math.Seq.{take-suc}
 use Rattle.std.proofs.lemmas.Grind.{flat_map-append}
@@ -7,12 +7,11 @@ use Rattle.std.proofs.lemmas.List.{take_all, take-append-drop}
 use Rattle.partitions.proofs.Parted.{default_free}
 use Rattle.outer_traits.specs.Outside.{HasRisen, Stays, WritesSome}
 use Rattle.outer_traits.specs.States.{OutputState}
-use Rattle.dump_lines.specs.Output.{Appends}
+use Rattle.line_buffer.specs.Output.{Appends}
 use Rattle.outer_traits.specs.declared.print_fault.PrintFault.{PrintFault}
-use Rattle.outer_traits.specs.declared.print_fault.PrintFault.TheVariants.{Write, OutOfMemory}
-use Rattle.dump_lines.proofs.LineBuffers.{wrote_both, wrote_then, wrote_front, buffered_front, buffered_none, buffered_then, buffered_then_some}
-use Rattle.dump_lines.specs.Printed.{IsPrinted, IsCutOff, IsPartPrinted, PrintsText}
-use Rattle.dump_lines.specs.LineRoom.{HasLineRoom}
+use Rattle.line_buffer.proofs.LineBuffers.{wrote_both, wrote_then}
+use Rattle.line_buffer.proofs.PrintedTexts.{failed_front, part_printed, printed_then}
+use Rattle.line_buffer.specs.Printed.{IsPrinted, IsCutOff, IsPartPrinted, PrintsText}
 
 -- ---- what is buffered, and then octets without the buffer
 
@@ -30,44 +29,6 @@ module _ (first now new : OutputState) (old octets : List ℕ) (flushed : Append
     later = omega (arith, no_fault, later);
     failed = λ small. let more = risen small in omega (arith, no_fault, more);
   }
-
--- ---- a text, and then another
-
-printed_cut : (first now new : OutputState) (text more left : List ℕ) → IsPrinted first now text left → IsCutOff now new (left ++ more) → IsCutOff first new (text ++ more)
-printed_cut first now new text more left is cut = record {
-  some = buffered_then_some first.written now.written new.written text left more is.buffered cut.some;
-  later = let same = is.no_fault in let later = cut.later in omega (arith, same, later);
-  failed = λ small. let same = is.no_fault in let risen = cut.failed small in omega (arith, same, risen);
-}
-
-pub printed_then : {X : Type 0} (r : Result X PrintFault) (first now new : OutputState) (text more left last : List ℕ) → IsPrinted first now text left → PrintsText r now new (left ++ more) last → PrintsText r first new (text ++ more) last
-printed_then (Ok x) first now new text more left last is printed = record {
-  buffered = buffered_then first.written now.written new.written text left more last is.buffered printed.buffered;
-  room = printed.room;
-  no_fault = printed.no_fault ∙ is.no_fault;
-}
-printed_then (Err Write) first now new text more left last is printed = printed_cut first now new text more left is printed
-printed_then (Err OutOfMemory) first now new text more left last is printed = record {
-  some = buffered_then_some first.written now.written new.written text left more is.buffered printed.some;
-  no_fault = printed.no_fault ∙ is.no_fault;
-}
-
--- ---- the first text failed, and another was to come
-
-pub failed_front : {X : Type 0} (r : Result X PrintFault) (e : PrintFault) (first new : OutputState) (text more left last : List ℕ) → r ≡ Err e → PrintsText {X = X} (Err e) first new text left → PrintsText r first new (text ++ more) last
-failed_front r Write first new text more left last is printed = rw is (record { some = wrote_front first.written new.written text more printed.some; later = printed.later; failed = printed.failed })
-failed_front r OutOfMemory first new text more left last is printed = rw is (record { some = wrote_front first.written new.written text more printed.some; no_fault = printed.no_fault })
-
--- nothing more is printed, for want of memory
-pub part_printed : (first now : OutputState) (text more left : List ℕ) → IsPrinted first now text left → IsPartPrinted first now (text ++ more)
-part_printed first now text more left is = record {
-  some = wrote_front first.written now.written text more (buffered_front first.written now.written text left is.buffered);
-  no_fault = is.no_fault;
-}
-
--- nothing was printed yet
-pub nothing_printed : (first : OutputState) (text : List ℕ) → HasLineRoom text → IsPrinted first first text text
-nothing_printed first text small = record { buffered = buffered_none first.written text; room = small; no_fault = refl }
 
 -- ---- lines
 
@@ -106,7 +67,7 @@ module _ {A : Type 0} (line : A → List ℕ) (front : List ℕ) (rows : List A)
   line_failed {X} r e first now new left last is_err is more =
       let whole = lines_left line front rows (i + 1) in
       subst (λ (l : List ℕ). PrintsText r first new l last) (ap (λ (l : List ℕ). l ++ flat_map line (drop (i + 1) rows)) lines_next ∙ whole)
-      (failed_front r e first new ((front ++ flat_map line (take i rows)) ++ octets) (flat_map line (drop (i + 1) rows)) last last is_err
+      (failed_front {X = X} X r e first new ((front ++ flat_map line (take i rows)) ++ octets) (flat_map line (drop (i + 1) rows)) last last is_err
       (printed_then {X = X} (Err e) first now new (front ++ flat_map line (take i rows)) octets left last is more))
 
 -- what was put into a line that was cleared
@@ -130,5 +91,5 @@ all_printed r first now new front lines end left last is more =
     subst (λ (l : List ℕ). PrintsText r first new l last) (append_assoc front lines end) (printed_then r first now new (front ++ lines) end left last is more)
 
 pub lines_failed : {X : Type 0} (r : Result X PrintFault) (e : PrintFault) (first new : OutputState) (front lines end left last : List ℕ) → r ≡ Err e → PrintsText {X = X} (Err e) first new (front ++ lines) left → PrintsText r first new (front ++ (lines ++ end)) last
-lines_failed r e first new front lines end left last is printed =
-    subst (λ (l : List ℕ). PrintsText r first new l last) (append_assoc front lines end) (failed_front r e first new (front ++ lines) end left last is printed)
+lines_failed {X} r e first new front lines end left last is printed =
+    subst (λ (l : List ℕ). PrintsText r first new l last) (append_assoc front lines end) (failed_front {X = X} X r e first new (front ++ lines) end left last is printed)

@@ -20,7 +20,7 @@ use Rattle.partitions.specs.declared.bounds.Bounds.{Bounds}
 use Rattle.partitions.specs.Bounds.{IsInBounds}
 use Rattle.partitions.specs.Rows.{is_of_partition, is_of_parts}
 use Rattle.partitions.proofs.Filters.{filter_swap}
-use Rattle.replay_merge.specs.Replay.{truncated, has_listed_name, HoldsEachRow, rows_asked}
+use Rattle.replay_merge.specs.Replay.{has_listed_name, HoldsEachRow, rows_asked}
 use Rattle.replay_merge.specs.Laws.{HoldsPruned, ListedIsAmong, PrunedIsEnough}
 use Rattle.replay_merge.proofs.Reading.{all_both, all_pass}
 use Rattle.arch_types.specs.declared.direction.Direction.{Direction}
@@ -29,7 +29,7 @@ use Rattle.ssql_conditions.specs.Formulas.{Formula}
 use Rattle.ssql_conditions.specs.ConditionBounds.{bounds_of}
 use Rattle.ssql_conditions.specs.Laws.{BoundsHold}
 use Rattle.ssql_types.specs.declared.query.TypedSelect.{TypedSelect}
-use Rattle.arch_types.specs.Directions.{in_direction}
+use Rattle.arch_types.specs.Directions.{in_direction, truncated}
 use Rattle.ssql_select.specs.Selection.{is_selected, selected_of, selected_rows, selection_of, IsHeld, HoldsSelected, rows_in_parts, rows_of_sources, merged_between, selected_between}
 use Rattle.ssql_select.proofs.Merged.{filter_flat}
 use Rattle.ssql_select.proofs.Selecting.{last_kept}

@@ -10,7 +10,6 @@ use Rattle.arch_types.specs.Table.{sorted}
 use Rattle.partitions.specs.declared.partition.Partition.{Partition}
 use Rattle.partitions.specs.Rows.{is_of_parts}
 use Rattle.partitions.proofs.Filters.{none_pass}
-use Rattle.replay_merge.specs.Replay.{truncated}
 use Rattle.replay_merge.specs.RowSource.{AreInKeyOrder}
 use Rattle.arch_types.proofs.InOrder.{order_sorted}
 use Rattle.arch_types.specs.declared.direction.Direction.{Direction}
@@ -18,7 +17,7 @@ use Rattle.arch_types.specs.declared.direction.Direction.TheVariants.{Ascending,
 use Rattle.ssql_types.specs.declared.query.TypedSelect.{TypedSelect}
 use Rattle.arch_types.specs.Table.{range_of}
 use Rattle.std.specs.Prelude.{flat_map}
-use Rattle.arch_types.specs.Directions.{in_direction}
+use Rattle.arch_types.specs.Directions.{in_direction, truncated}
 use Rattle.ssql_select.specs.Selection.{is_selected, is_enough, rows_between_of, merged_between, selected_between}
 use Rattle.ssql_select.proofs.Limits.{enough, room, all_taken, next_rows}
 use Rattle.ssql_select.proofs.Merged.{merged_in_parts}

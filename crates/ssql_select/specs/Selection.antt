@@ -6,8 +6,7 @@ use Rattle.arch_types.specs.declared.row.Row.{Row}
 use Rattle.arch_types.specs.Table.{sorted, table_of, range_of}
 use Rattle.partitions.specs.declared.partition.Partition.{Partition}
 use Rattle.partitions.specs.Rows.{is_of_parts}
-use Rattle.replay_merge.specs.Replay.{truncated}
-use Rattle.arch_types.specs.Directions.{in_direction}
+use Rattle.arch_types.specs.Directions.{in_direction, truncated}
 use Rattle.ssql_conditions.specs.Formulas.{Formula}
 use Rattle.ssql_conditions.specs.Truth.{is_true}
 use Rattle.ssql_types.specs.declared.query.TypedSelect.{TypedSelect}

@@ -1,15 +1,14 @@
 //! Octets on their way to a sink.
 
 ghost use Rattle.std.specs.Prelude.{◌++◌};
-ghost use Rattle.dump_lines.specs.LineRoom.{HasLineRoom};
-ghost use Rattle.dump_lines.specs.Printed.{PrintsText};
+ghost use Rattle.line_buffer.specs.LineRoom.{HasLineRoom};
+ghost use Rattle.line_buffer.specs.Printed.{PrintsText};
 
-use dump_lines::line_buffer::LineBuffer;
-use dump_lines::write::write_all;
+use line_buffer::{LineBuffer, write_all};
 use outer_traits::print_fault::PrintFault;
 use outer_traits::sink::Sink;
 
-/// The most octets of a text that goes through the buffer: `longest_line` of dump_lines, for which it has room.
+/// The most octets of a text that goes through the buffer: `longest_line` of line_buffer, for which it has room.
 const LONG: usize = 512;
 
 /// Prints octets, which may still be buffered.

@@ -4,10 +4,9 @@ ghost use Rattle.std.specs.Prelude.{◌≡◌, ◌+◌, ◌≤◌, ◌++◌, [],
 ghost use Rattle.std.specs.List.{AllByRecursion};
 ghost use Rattle.partitions.specs.Partitions.{AreRising};
 ghost use Rattle.partitions.specs.Rows.{is_of_parts};
-ghost use Rattle.replay_merge.specs.Replay.{truncated};
 ghost use Rattle.replay_merge.specs.RowSource.{IsKeyedRow, IsRowFault, UsedRowSource};
 ghost use Rattle.ssql_select.specs.Selection as spec;
-ghost use Rattle.arch_types.specs.Directions.{in_direction};
+ghost use Rattle.arch_types.specs.Directions.{in_direction, truncated};
 ghost use Rattle.ssql_select.specs.Selection.{HoldsSelected, is_selected, merged_between, selected_between, selection_of, rows_of_sources};
 ghost use Rattle.ssql_select.specs.SelectionText.{selection_text};
 

@@ -3,15 +3,15 @@
 ghost use Rattle.std.specs.Prelude.{◌≡◌, ◌++◌, flat_map};
 ghost use Rattle.std.specs.List.{AllByRecursion};
 ghost use Rattle.replay_merge.specs.RowSource.{IsKeyedRow};
-ghost use Rattle.dump_lines.specs.LineRoom.{HasLineRoom};
-ghost use Rattle.dump_lines.specs.Printed.{PrintsText};
+ghost use Rattle.line_buffer.specs.LineRoom.{HasLineRoom};
+ghost use Rattle.line_buffer.specs.Printed.{PrintsText};
 ghost use Rattle.ssql_select.specs.SelectionText.{selected_line, selection_lines, select_line};
 
 use crate::printing::print_octets;
 use crate::values::{put_select_line, put_selected};
 use arch_types::name::Names;
 use arch_types::row::Row;
-use dump_lines::line_buffer::LineBuffer;
+use line_buffer::LineBuffer;
 use outer_traits::print_fault::PrintFault;
 use outer_traits::sink::Sink;
 use ssql_tokens::Column;

@@ -4,8 +4,8 @@ ghost use Rattle.std.specs.Prelude.{◌≡◌, ◌++◌, flat_map, codes, decima
 ghost use Rattle.replay_merge.specs.RowSource.{AreRowsOf, IsKeyedRow, IsRowFault, UsedRowSource};
 ghost use Rattle.time_text.specs.Day.{day_of};
 ghost use Rattle.time_text.specs.Spelling.{day_name_of};
-ghost use Rattle.dump_lines.specs.LineRoom.{HasLineRoom};
-ghost use Rattle.dump_lines.specs.Printed.{PrintsText};
+ghost use Rattle.line_buffer.specs.LineRoom.{HasLineRoom};
+ghost use Rattle.line_buffer.specs.Printed.{PrintsText};
 ghost use Rattle.ssql_select.specs.SelectionText as text;
 ghost use Rattle.ssql_select.specs.ShowText as spec;
 
@@ -15,8 +15,8 @@ use arch_types::name::Names;
 use arch_types::row::Row;
 use arch_types::row_fault::RowFault;
 use arch_types::spans::Span;
-use dump_lines::line_buffer::LineBuffer;
 use itoa::Integer;
+use line_buffer::LineBuffer;
 use outer_traits::print_fault::PrintFault;
 use outer_traits::sink::Sink;
 use partitions::partition::Partition;

@@ -3,7 +3,7 @@ use Rattle.std.specs.Prelude.{flat_map}
 use Rattle.std.specs.Arc.{arc_value}
 use Rattle.mdb_items.specs.Database.{Database}
 use Rattle.param_segments.specs.declared.plan.Part.{Part}
-use Rattle.retrieval.specs.AnswerText.{as_asked}
+use Rattle.container_extract.specs.Answer.{as_asked}
 use Rattle.retrieval.specs.PartCells.{answer_over_parts, cells_of_part}
 use Rattle.retrieval.proofs.OverRows.{answer_over}
 use Rattle.retrieval.proofs.answer.answer.Goals as goal

@@ -3,6 +3,7 @@ use Rattle.std.specs.Prelude.{IfOk, IsTrue, Result}
 use Rattle.std.specs.Arc.{arc_value}
 use Rattle.std.specs.List.{AllByRecursion}
 use Rattle.std.specs.declared.alloc.AllocError.{AllocError}
+use Rattle.history_items.specs.Databases.{database_in}
 use Rattle.history_items.specs.Items.{rows_in}
 use Rattle.archive_store.specs.Plans.{IsPlanOver}
 use Rattle.archive_store.specs.Stands.{IsSoundImage}
@@ -10,7 +11,7 @@ use Rattle.mdb_items.specs.Database.{Database}
 use Rattle.param_segments.specs.declared.plan.Plan.{Plan}
 use Rattle.param_segments.specs.Plans.{ArePartsOver, HasValuesOf}
 use Rattle.store_fills.specs.LastFills.{fillings_in}
-use Rattle.retrieval.specs.AnswerText.{answered}
+use Rattle.container_extract.specs.Answer.{answer_of}
 use Rattle.retrieval.specs.PartCells.{answer_over_parts, answer_over_rows}
 use Rattle.retrieval.proofs.FilledAnswers.{plan_filled}
 use Rattle.retrieval.proofs.LateRows.{late_in_range}
@@ -26,10 +27,11 @@ returns-clause-filled g c =
     let store = c.args.store.now in
     let found = c.args.found.now in
     let plan = c.in_ok-plan.plan in
-    filled_is store.head.mdb store.exponent store.history (fillings_in store.filled) found.request found.number c.answer.result plan.front (answer_over_parts (arc_value plan.mdb) found.number found.request plan.parts)
+    let in_force = database_in store.head.mdb store.history in
+    filled_is in_force store.exponent store.history (fillings_in store.filled) found.request found.number c.answer.result plan.front (answer_over_parts (arc_value plan.mdb) found.number found.request plan.parts)
     c.requires.found.number c.in_ok-plan.ensures.planned.front
     (ap (λ (db : Database). answer_over_parts db found.number found.request plan.parts) c.in_ok-plan.ensures.planned.mdb
-    ∙ plan_filled store found.number found.request plan c.front-bases.ensures.bases c.in_ok-plan.ensures.planned)
+    ∙ plan_filled store in_force found.number found.request plan c.front-bases.ensures.bases c.in_ok-plan.ensures.planned)
     c.answer.ensures.front c.answer.ensures.cells
 
 pub returns-clause-answered : goal.returns-clause-answered
@@ -41,17 +43,18 @@ returns-clause-answered g c =
     let plan = c.in_ok-plan.plan in
     let Answers = λ (r : Result Plan AllocError). IfOk r (IsPlanOver store.head store.history request.from request.to) in
     let same = c.in_ok-plan.ensures.planned.mdb in
-    let cells = answered store.head.mdb found.number request (rows_in store.history) in
+    let in_force = database_in store.head.mdb store.history in
+    let cells = answer_of in_force found.number request (rows_in store.history) in
     where_known c.answer.result (IsTrue device.is_transparent) (IsSoundImage (device.reads store.opened)) cells
     (λ transparent image.
     let is : IsPlanOver store.head store.history request.from request.to plan = c.in_ok-plan.ensures.over transparent image in
     let parts_over = subst (λ (db : Database). ArePartsOver db plan.parts is.rows) (sym same) is.over in
     same_cells c.answer.result (answer_over_rows (arc_value plan.mdb) found.number request is.rows) cells
-    (ap (λ (db : Database). answer_over_rows db found.number request is.rows) same ∙ answer_of_history store.head.mdb found.number request is.rows (rows_in store.history) is.in_range)
+    (ap (λ (db : Database). answer_over_rows db found.number request is.rows) same ∙ answer_of_history in_force found.number request is.rows (rows_in store.history) is.in_range)
     (c.answer.ensures.over is.rows parts_over))
 
 pub returns-clause-steps : goal.returns-clause-steps
 returns-clause-steps g c =
     let request = c.args.found.now.request in
-    let late = ap length (late_in_range c.args.store.now request.from request.to c.in_ok-plan.plan c.in_ok-plan.ensures.planned) in
+    let late = ap length (late_in_range c.args.store.now request.from request.to c.front-bases.ensures.bases c.in_ok-plan.plan c.in_ok-plan.ensures.planned) in
     omega (arith, c.answer.ensures.steps, late)

@@ -2,9 +2,9 @@ use Rattle.std.proofs.Common.{◌++◌, drop}
 use Rattle.std.specs.Prelude.{flat_map, option_copied}
 use Rattle.outer_traits.specs.Outside.{Stays}
 use Rattle.retrieval.specs.CellText.{cell_line}
-use Rattle.dump_lines.specs.Output.{IsBuffered}
+use Rattle.line_buffer.specs.Output.{IsBuffered}
 use Rattle.retrieval.proofs.answer_text.print_cells.Given as goal
-use Rattle.dump_lines.specs.LineRoom.{HasLineRoom}
+use Rattle.line_buffer.specs.LineRoom.{HasLineRoom}
 
 abbrev pub invariant-loop-cell : goal.invariant-loop-cell
 invariant-loop-cell g l = record {

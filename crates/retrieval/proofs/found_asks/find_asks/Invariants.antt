@@ -6,5 +6,5 @@ use Rattle.retrieval.proofs.found_asks.find_asks.Given as goal
 abbrev pub invariant-loop-ask : goal.invariant-loop-ask
 invariant-loop-ask g l = record {
   left : asks_found l.found ++ l.ask-iterator.rest.items ≡ l.fn.asks;
-  found : AreFound l.store.head l.found;
+  found : AreFound l.store.head l.store.history l.found;
 }

@@ -1,6 +1,6 @@
 use Rattle.std.proofs.Common.{◌≡◌, ◌∙◌, ◌++◌, drop, true, false, sym}
 use Rattle.std.specs.List.{filter_map}
-use Rattle.replay_merge.specs.Replay.{truncated}
+use Rattle.arch_types.specs.Directions.{truncated}
 use Rattle.retrieval.specs.AnswerText.{is_full}
 use Rattle.retrieval.specs.PartCells.{timely_cell}
 use Rattle.retrieval.proofs.Limited.{full, next_indexed}

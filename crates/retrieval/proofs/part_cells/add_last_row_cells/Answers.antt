@@ -4,7 +4,7 @@ use Rattle.std.specs.Iterator.Adapters.{rev_source}
 use Rattle.std.specs.List.{filter_map}
 use Rattle.std.specs.Slice.Iter.{iter_rest}
 use Rattle.arch_types.specs.Table.{is_in_time_range}
-use Rattle.replay_merge.specs.Replay.{truncated}
+use Rattle.arch_types.specs.Directions.{truncated}
 use Rattle.retrieval.specs.AnswerText.{is_full}
 use Rattle.retrieval.specs.PartCells.{cell_in_range}
 use Rattle.retrieval.proofs.Counted.{last_in_range}

@@ -4,7 +4,7 @@ use Rattle.std.specs.List.{filter_map}
 use Rattle.std.proofs.lemmas.List.{drop_more}
 use Rattle.arch_types.specs.declared.row.Row.{Row}
 use Rattle.arch_types.specs.Table.{is_in_time_range}
-use Rattle.replay_merge.specs.Replay.{truncated}
+use Rattle.arch_types.specs.Directions.{truncated}
 use Rattle.retrieval.specs.AnswerText.{is_full}
 use Rattle.retrieval.specs.PartCells.{cell_in_range}
 use Rattle.retrieval.proofs.Counted.{first_in_range}

@@ -2,7 +2,7 @@ use Rattle.std.proofs.Common.{◌≡◌, ◌++◌, ◌+◌, ◌≤◌, drop, len
 use Rattle.std.specs.Prelude.{filter}
 use Rattle.std.specs.List.{filter_map}
 use Rattle.arch_types.specs.Table.{is_in_time_range}
-use Rattle.replay_merge.specs.Replay.{truncated}
+use Rattle.arch_types.specs.Directions.{truncated}
 use Rattle.retrieval.specs.PartCells.{cell_in_range}
 use Rattle.retrieval.proofs.part_cells.add_row_cells.Given as goal
 

@@ -3,9 +3,9 @@ use Rattle.std.specs.Prelude.{filter, flat_map}
 use Rattle.std.specs.List.{AllByRecursion}
 use Rattle.std.proofs.lemmas.List.{drop_more}
 use Rattle.arch_types.specs.Table.{is_in_time_range}
+use Rattle.arch_types.specs.Directions.{truncated}
 use Rattle.param_segments.specs.declared.plan.Part.{Part}
 use Rattle.param_segments.specs.Plans.{HasValuesOf, rows_of_parts}
-use Rattle.replay_merge.specs.Replay.{truncated}
 use Rattle.retrieval.specs.AnswerText.{is_full}
 use Rattle.retrieval.specs.PartCells.{cells_of_part}
 use Rattle.retrieval.proofs.Counted.{first_part}

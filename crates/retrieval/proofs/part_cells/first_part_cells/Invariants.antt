@@ -2,8 +2,8 @@ use Rattle.std.proofs.Common.{◌≡◌, ◌+◌, ◌≤◌, ◌++◌, drop, len
 use Rattle.std.specs.Prelude.{filter, flat_map}
 use Rattle.std.specs.List.{AllByRecursion}
 use Rattle.arch_types.specs.Table.{is_in_time_range}
+use Rattle.arch_types.specs.Directions.{truncated}
 use Rattle.param_segments.specs.Plans.{HasValuesOf, rows_of_parts}
-use Rattle.replay_merge.specs.Replay.{truncated}
 use Rattle.retrieval.specs.PartCells.{cells_of_part}
 use Rattle.retrieval.proofs.part_cells.first_part_cells.Given as goal
 

@@ -4,8 +4,8 @@ use Rattle.std.specs.Iterator.Adapters.{rev_source}
 use Rattle.std.specs.List.{AllByRecursion}
 use Rattle.std.specs.Slice.Iter.{iter_rest}
 use Rattle.arch_types.specs.Table.{is_in_time_range}
+use Rattle.arch_types.specs.Directions.{truncated}
 use Rattle.param_segments.specs.Plans.{HasValuesOf, rows_of_parts}
-use Rattle.replay_merge.specs.Replay.{truncated}
 use Rattle.retrieval.specs.PartCells.{cells_of_part}
 use Rattle.retrieval.proofs.part_cells.last_part_cells.Given as goal
 

@@ -5,25 +5,28 @@ use Rattle.outer_traits.specs.Outside.{WritesSome}
 use Rattle.history_items.specs.Items.{rows_in}
 use Rattle.archive_store.specs.declared.head.Head.{Head}
 use Rattle.archive_store.specs.StoreView.{StoreView}
-use Rattle.dump_lines.specs.Output.{IsBuffered}
-use Rattle.dump_lines.proofs.LineBuffers.{buffered_front, buffered_more, buffered_some}
+use Rattle.line_buffer.specs.Output.{IsBuffered}
+use Rattle.line_buffer.proofs.LineBuffers.{buffered_front, buffered_more, buffered_some}
 use Rattle.replay_merge.specs.Cursor.{rest_of}
 use Rattle.retrieval.specs.ReplayText.{packet_lines}
 use Rattle.retrieval.proofs.Replays.{all_counted, all_printed, nothing_left, step_counted, step_printed}
 use Rattle.retrieval.proofs.replay.print_rest.Goals as goal
 
-pub returns-in_err-rows-clause-some : goal.returns-in_err-rows-clause-some
-returns-in_err-rows-clause-some g c =
+pub returns-in_err-rows-clause-printed : goal.returns-in_err-rows-clause-printed
+returns-in_err-rows-clause-printed g c =
     let history = rows_in c.args.store.now.history in
     let lines = packet_lines c.args.store.now.head.mdb c.args.table.now in
     let first = (g.K.Sink.state c.args.sink.now).written in
     let now = (g.K.Sink.state c.steps.sink).written in
     let all = c.args.line_buffer.now ++ lines (rest_of c.args.cursor history) in
     let p = err_from_is_err_and c.from_residual.result c.from_residual.ensures.1 in
-    rw p.1 (buffered_front first now all (c.steps.line_buffer ++ lines (rest_of c.steps.cursor history)) c.steps.invariant.buffered)
+    rw (p.1, p.2) (record {
+      some = buffered_front first now all (c.steps.line_buffer ++ lines (rest_of c.steps.cursor history)) c.steps.invariant.buffered;
+      no_fault = c.steps.invariant.no_fault;
+    })
 
-pub returns-then-len-eq0-clause-buffered : goal.returns-then-len-eq0-clause-buffered
-returns-then-len-eq0-clause-buffered g c =
+pub returns-then-len-eq0-clause-printed : goal.returns-then-len-eq0-clause-printed
+returns-then-len-eq0-clause-printed g c =
     let db = c.args.store.now.head.mdb in
     let history = rows_in c.args.store.now.history in
     let rows = c.in_ok-rows.rows in
@@ -34,7 +37,11 @@ returns-then-len-eq0-clause-buffered g c =
     let step = subst (λ (x : StoreView g.row.D.Denot). rows ++ rest_of c.next_rows.new.cursor (rows_in x.history) ≡ rest_of c.steps.cursor (rows_in x.history)) c.steps.invariant.same c.in_ok-rows.ensures.rows in
     let end = subst (λ (x : StoreView g.row.D.Denot). rows ≡ [] → rest_of c.next_rows.new.cursor (rows_in x.history) ≡ []) c.steps.invariant.same c.in_ok-rows.ensures.end in
     let none = nothing_left rows (rest_of c.next_rows.new.cursor history) left step (sym c.len.ensures ∙ c.if-len-eq0.true) end in
-    all_printed db c.args.table.now first now all c.steps.line_buffer left none c.steps.invariant.buffered
+    record {
+      buffered = all_printed db c.args.table.now first now all c.steps.line_buffer left none c.steps.invariant.buffered;
+      room = c.steps.invariant.room;
+      no_fault = c.steps.invariant.no_fault;
+    }
 
 pub returns-then-len-eq0-clause-count : goal.returns-then-len-eq0-clause-count
 returns-then-len-eq0-clause-count g c =
@@ -83,8 +90,8 @@ steps-preserved g c =
       same = same;
     }
 
-pub returns-in_err-print_rows-clause-some : goal.returns-in_err-print_rows-clause-some
-returns-in_err-print_rows-clause-some g c =
+pub returns-in_err-print_rows-clause-printed : goal.returns-in_err-print_rows-clause-printed
+returns-in_err-print_rows-clause-printed g c =
     let db = c.args.store.now.head.mdb in
     let history = rows_in c.args.store.now.history in
     let table = c.args.table.now in
@@ -102,7 +109,13 @@ returns-in_err-print_rows-clause-some g c =
     let before = step_printed db table first now all held rows rest left step c.steps.invariant.buffered in
     let some : WritesSome now new (held ++ packet_lines db table rows) = rw (database, c.as_slice.ensures) at c.in_err-print_rows.ensures.some in
     let p = err_from_is_err_and c.from_residual-in_err-print_rows.result c.from_residual-in_err-print_rows.ensures.1 in
-    rw p.1 (buffered_some first now new all (held ++ packet_lines db table rows) (packet_lines db table rest) before some)
+    let here = c.steps.invariant.no_fault in
+    let later = c.in_err-print_rows.ensures.later in
+    rw (p.1, p.2) (record {
+      some = buffered_some first now new all (held ++ packet_lines db table rows) (packet_lines db table rest) before some;
+      later = omega (arith, here, later);
+      failed = λ small. let risen = c.in_err-print_rows.ensures.failed small in omega (arith, here, risen);
+    })
 
 pub steps-smaller : goal.steps-smaller
 steps-smaller g c = c.in_ok-rows.ensures.nearer (λ none. c.if-len-eq0.false (c.len.ensures ∙ ap (λ (rows : List Row). length rows) none))

@@ -1,11 +1,11 @@
 use Rattle.std.proofs.Common.{◌≡◌, ◌+◌, ◌++◌, length}
 use Rattle.outer_traits.specs.Outside.{Stays}
 use Rattle.history_items.specs.Items.{rows_in}
-use Rattle.dump_lines.specs.Output.{IsBuffered}
+use Rattle.line_buffer.specs.Output.{IsBuffered}
 use Rattle.replay_merge.specs.Cursor.{steps_at_most, rest_of}
 use Rattle.retrieval.specs.ReplayText.{packet_lines}
 use Rattle.retrieval.proofs.replay.print_rest.Given as goal
-use Rattle.dump_lines.specs.LineRoom.{HasLineRoom}
+use Rattle.line_buffer.specs.LineRoom.{HasLineRoom}
 
 abbrev pub invariant-steps : goal.invariant-steps
 invariant-steps g l = record {

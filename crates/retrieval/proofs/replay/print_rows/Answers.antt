@@ -1,10 +1,10 @@
-use Rattle.std.proofs.Common.{◌≡◌, ◌∙◌, ◌+◌, ◌++◌, ◌∷◌, ap, drop, sym}
+use Rattle.std.proofs.Common.{◌≡◌, ◌∙◌, ◌+◌, ◌++◌, ◌∷◌, ap, arith, drop, sym}
 use Rattle.std.proofs.lemmas.List.{drop_more}
 use Rattle.std.proofs.lemmas.Result.{err_from_is_err_and}
 use Rattle.arch_types.specs.declared.row.Row.{Row}
 use Rattle.outer_traits.specs.Outside.{WritesSome}
-use Rattle.dump_lines.specs.Output.{IsBuffered}
-use Rattle.dump_lines.proofs.LineBuffers.{buffered_more, buffered_some, regroup}
+use Rattle.line_buffer.specs.Output.{IsBuffered}
+use Rattle.line_buffer.proofs.LineBuffers.{buffered_more, buffered_some, regroup}
 use Rattle.retrieval.specs.ReplayText.{packet_line, packet_lines}
 use Rattle.retrieval.proofs.replay.print_rows.Goals as goal
 
@@ -30,8 +30,8 @@ loop-row-preserved g c =
       no_fault = c.in_ok-flush_if_full.ensures.no_fault ∙ c.loop-row.invariant.no_fault;
     }
 
-pub returns-in_err-flush_if_full-clause-some : goal.returns-in_err-flush_if_full-clause-some
-returns-in_err-flush_if_full-clause-some g c =
+pub returns-in_err-flush_if_full : goal.returns-in_err-flush_if_full
+returns-in_err-flush_if_full g c =
     let rows = c.args.rows.now in
     let i = c.loop-row.row-index in
     let row = c.row-item.result in
@@ -46,4 +46,10 @@ returns-in_err-flush_if_full-clause-some g c =
     let before = regroup line first now all held (drop i rows) rest row step c.loop-row.invariant.buffered in
     let some : WritesSome now new (held ++ line row) = rw c.put_packet.ensures at c.in_err-flush_if_full.ensures.some in
     let p = err_from_is_err_and c.from_residual.result c.from_residual.ensures.1 in
-    rw p.1 (buffered_some first now new all (held ++ line row) (packet_lines c.args.mdb.now c.args.table.now rest) before some)
+    let same = c.loop-row.invariant.no_fault in
+    let later = c.in_err-flush_if_full.ensures.later in
+    rw p.1 (record {
+      some = buffered_some first now new all (held ++ line row) (packet_lines c.args.mdb.now c.args.table.now rest) before some;
+      later = omega (arith, same, later);
+      failed = λ small. let risen = c.in_err-flush_if_full.ensures.failed small in omega (arith, same, risen);
+    })

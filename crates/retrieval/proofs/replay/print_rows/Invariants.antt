@@ -1,9 +1,9 @@
 use Rattle.std.proofs.Common.{◌++◌, drop}
 use Rattle.outer_traits.specs.Outside.{Stays}
-use Rattle.dump_lines.specs.Output.{IsBuffered}
+use Rattle.line_buffer.specs.Output.{IsBuffered}
 use Rattle.retrieval.specs.ReplayText.{packet_lines}
 use Rattle.retrieval.proofs.replay.print_rows.Given as goal
-use Rattle.dump_lines.specs.LineRoom.{HasLineRoom}
+use Rattle.line_buffer.specs.LineRoom.{HasLineRoom}
 
 abbrev pub invariant-loop-row : goal.invariant-loop-row
 invariant-loop-row g l = record {

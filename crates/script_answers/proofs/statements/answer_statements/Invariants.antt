@@ -1,7 +1,7 @@
 use Rattle.std.proofs.Common.{◌++◌, take}
 use Rattle.std.specs.Prelude.{flat_map}
 use Rattle.archive_store.specs.StoreView.{archive_of}
-use Rattle.dump_lines.specs.Printed.{IsPrinted}
+use Rattle.line_buffer.specs.Printed.{IsPrinted}
 use Rattle.script_answers.specs.Statements.{statement_text}
 use Rattle.script_answers.proofs.statements.answer_statements.Given as goal
 

@@ -5,5 +5,5 @@ use Rattle.archive_history.specs.History.{rows_in_table}
 use Rattle.script_answers.specs.Statements.{name_spans}
 use Rattle.script_answers.proofs.statements.table_spans.Given as goal
 
-abbrev pub invariant-loop-pname : goal.invariant-loop-pname
-invariant-loop-pname g l = l.lines.items ≡ flat_map (name_spans (rows_in_table l.table l.store.history)) (range_with_len 0 l.pname)
+abbrev pub invariant-loop-place : goal.invariant-loop-place
+invariant-loop-place g l = l.lines.items ≡ flat_map (name_spans (rows_in_table l.table l.store.history)) (range_with_len 0 l.place)

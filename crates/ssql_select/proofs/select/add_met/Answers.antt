@@ -1,7 +1,7 @@
 use Rattle.std.proofs.Common.{◌≡◌, ◌++◌, ◌∷◌, [], ◌∙◌, reverse, false, sym, subst}
 use Rattle.std.specs.Prelude.{filter}
 use Rattle.std.specs.List.{AllByRecursion}
-use Rattle.replay_merge.specs.Replay.{truncated}
+use Rattle.arch_types.specs.Directions.{truncated}
 use Rattle.replay_merge.specs.RowSource.{IsKeyedRow}
 use Rattle.replay_merge.proofs.Reading.{all_both}
 use Rattle.ssql_select.specs.Selection.{is_selected, is_enough}

@@ -3,7 +3,7 @@ use Rattle.std.specs.Prelude.{filter, IfSome}
 use Rattle.std.specs.List.{AllByRecursion}
 use Rattle.partitions.specs.Partitions.{AreRising}
 use Rattle.partitions.specs.Rows.{is_of_parts}
-use Rattle.replay_merge.specs.Replay.{truncated}
+use Rattle.arch_types.specs.Directions.{truncated}
 use Rattle.replay_merge.specs.RowSource.{IsKeyedRow, UsedRowSource}
 use Rattle.ssql_select.specs.Selection.{merged_between, selected_between}
 use Rattle.ssql_select.proofs.select.select_days.Given as goal

@@ -1,6 +1,6 @@
 use Rattle.std.proofs.Common.{◌++◌, take}
 use Rattle.std.specs.Prelude.{flat_map}
-use Rattle.dump_lines.specs.Printed.{IsPrinted}
+use Rattle.line_buffer.specs.Printed.{IsPrinted}
 use Rattle.ssql_select.specs.SelectionText.{selected_line}
 use Rattle.ssql_select.proofs.selection_text.print_rows.Given as goal
 

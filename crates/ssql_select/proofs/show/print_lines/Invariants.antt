@@ -1,6 +1,6 @@
 use Rattle.std.proofs.Common.{◌++◌, take}
 use Rattle.std.specs.Prelude.{flat_map}
-use Rattle.dump_lines.specs.Printed.{IsPrinted}
+use Rattle.line_buffer.specs.Printed.{IsPrinted}
 use Rattle.ssql_select.specs.ShowText.{show_line}
 use Rattle.ssql_select.proofs.show.print_lines.Given as goal
 

@@ -2,7 +2,7 @@ use Rattle.std.proofs.Common.{◌≡◌, ◌++◌, ◌∙◌, ℕ, List, length,
 use Rattle.std.specs.Prelude.{flat_map}
 use Rattle.std.proofs.lemmas.Result.{err_from_is_err_and}
 use Rattle.arch_types.specs.declared.row.Row.{Row}
-use Rattle.dump_lines.specs.Printed.{PrintsText}
+use Rattle.line_buffer.specs.Printed.{PrintsText}
 use Rattle.ssql_select.specs.SelectionText.{selected_line, select_line, selection_lines}
 use Rattle.ssql_select.proofs.Printings.{all_printed, lines_failed}
 use Rattle.ssql_select.proofs.selection_text.SelectionText.print.Goals as goal

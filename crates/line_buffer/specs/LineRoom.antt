@@ -9,10 +9,6 @@ piece_length = 65536
 abbrev pub longest_line : ℕ
 longest_line = 512
 
--- those that half of the longest line may take
-abbrev pub half_line : ℕ
-half_line = 256
-
 -- the octets that the longest number may take, with its sign
 abbrev pub longest_number : ℕ
 longest_number = 40

@@ -3,7 +3,7 @@ use Rattle.std.proofs.Common.{◌≡◌, ◌<◌, length, get_or, ℕ, ◌+◌, 
 use Rattle.std.proofs.lemmas.List.{drop_more, take-append-drop}
 use Rattle.std.proofs.Math.Seq.{take-add}
 use Rattle.outer_traits.specs.Outside.{Writes, WritesSome}
-use Rattle.dump_lines.specs.Output.{Appends, IsBuffered}
+use Rattle.line_buffer.specs.Output.{Appends, IsBuffered}
 use Rattle.std.specs.Prelude.{flat_map, Result, Ok, Err, OnOk, OnErr}
 
 pub wrote_none : (first : Option (List ℕ)) → Appends first first []
@@ -83,11 +83,6 @@ on_ok (Err x) P Q f p = tt
 pub on_err : {T E : Type 0} (r : Result T E) (P Q : Type 0) → (P → Q) → OnErr r P → OnErr r Q
 on_err (Ok x) P Q f p = tt
 on_err (Err x) P Q f p = f p
-
--- the two halves of a line, put behind what is buffered
-pub put_halves : (old mid new a b c d e f g h i : List ℕ) → mid ≡ old ++ a ++ b ++ c ++ d → new ≡ mid ++ e ++ f ++ g ++ h ++ i →
-    new ≡ old ++ ((a ++ b ++ c ++ d) ++ (e ++ f ++ g ++ h ++ i))
-put_halves old mid new a b c d e f g h i first second = rw (second, first) (simp append_assoc refl)
 
 -- a text went on but for what is left, and then that with more
 pub buffered_then : (first now new : Option (List ℕ)) (mid left more last : List ℕ) → IsBuffered first now mid left → IsBuffered now new (left ++ more) last → IsBuffered first new (mid ++ more) last

@@ -1,7 +1,7 @@
 use Rattle.std.proofs.Common.{◌≤◌, ◌-◌, length, take}
 use Rattle.outer_traits.specs.Outside.{Stays}
-use Rattle.dump_lines.specs.Output.{Appends}
-use Rattle.dump_lines.proofs.write.write_all.Given as goal
+use Rattle.line_buffer.specs.Output.{Appends}
+use Rattle.line_buffer.proofs.write.write_all.Given as goal
 
 abbrev pub invariant-loop-at : goal.invariant-loop-at
 invariant-loop-at g l = record {

@@ -1,14 +1,10 @@
 //! Text on its way to a sink, gathered into pieces of about 64 KiB.
 
-ghost use Rattle.std.specs.Prelude.{◌≡◌, ◌+◌, ◌<◌, ◌≤◌, [], ◌∷◌, ◌++◌, length, IfOk, OnOk, OnErr, IsErr, codes, decimal};
-ghost use Rattle.outer_traits.specs.Outside.{HasRisen, Stays, WritesSome};
-ghost use Rattle.dump_lines.specs.LineRoom.{HasLineRoom, HasRoomFor, half_line, longest_number};
-ghost use Rattle.dump_lines.specs.Output.{Appends, IsBuffered};
-ghost use Rattle.dump_lines.specs.Text.{row_line, counts_line};
+ghost use Rattle.std.specs.Prelude.{◌≡◌, ◌+◌, ◌<◌, ◌≤◌, [], ◌∷◌, ◌++◌, length, IfOk, OnOk, OnErr, codes};
+ghost use Rattle.line_buffer.specs.LineRoom.{HasRoomFor, longest_number};
+ghost use Rattle.line_buffer.specs.Printed.{BuffersText, WritesText};
 
-use crate::counts::Counts;
 use crate::write::write_all;
-use arch_types::row::Row;
 use itoa::{Buffer, Integer};
 use outer_traits::fault::Failed;
 use outer_traits::sink::Sink;
@@ -29,7 +25,7 @@ pub struct LineBuffer {
 
 impl Model for LineBuffer {
     ghost use Rattle.std.specs.Prelude.{◌≤◌, List, ℕ, vec_capacity};
-    ghost use Rattle.dump_lines.specs.LineRoom.{buffer_length};
+    ghost use Rattle.line_buffer.specs.LineRoom.{buffer_length};
 
     ghost Value = { List ℕ };
 
@@ -94,57 +90,9 @@ impl LineBuffer {
         self.put_digits(number);
     }
 
-    /// Adds the line of a row.
-    pub fn put_row(&mut self, row: &Row)
-        requires { HasLineRoom self.old }
-        ensures { self.new ≡ self.old ++ row_line row.now }
-    {
-        self.put_number(b"row ", row.key.time);
-        self.put_field(row.key.seq);
-        self.put_field(row.packet.len());
-        self.put_octet(b'\n');
-    }
-
-    /// Adds the last line.
-    pub fn put_counts(&mut self, counts: Counts)
-        requires { HasLineRoom self.old }
-        ensures { self.new ≡ self.old ++ counts_line counts.packets counts.rows counts.duplicates counts.idle }
-    {
-        self.put_kept(counts.packets, counts.rows);
-        self.put_left_out(counts.duplicates, counts.idle);
-    }
-
-    /// Adds the first half of the last line.
-    fn put_kept(&mut self, packets: u64, rows: u64)
-        requires { HasLineRoom self.old }
-        ensures text { self.new ≡ self.old ++ codes "scan packets " ++ decimal packets ++ codes " rows " ++ decimal
-            rows }
-        ensures half { HasRoomFor half_line self.new }
-    {
-        self.put_number(b"scan packets ", packets);
-        self.put_number(b" rows ", rows);
-    }
-
-    /// Adds the second half of the last line.
-    fn put_left_out(&mut self, duplicates: u64, idle: u64)
-        requires { HasRoomFor half_line self.old }
-        ensures { self.new ≡ self.old ++ codes " duplicates " ++ decimal duplicates ++ codes " idle " ++ decimal idle
-            ++ codes "\n" }
-    {
-        self.put_number(b" duplicates ", duplicates);
-        self.put_number(b" idle ", idle);
-        self.put(b"\n");
-    }
-
     /// Writes the text where it makes a piece.
     pub fn flush_if_full<K: Sink>(&mut self, sink: &mut K) -> Result<(), Failed>
-        ensures buffered { OnOk result (IsBuffered (K.state sink.old).written (K.state sink.new).written self.old
-            self.new) }
-        ensures room { OnOk result (HasLineRoom self.new) }
-        ensures some { OnErr result (WritesSome (K.state sink.old).written (K.state sink.new).written self.old) }
-        ensures later { (K.state sink.old).faults ≤ (K.state sink.new).faults }
-        ensures failed { IsErr result → HasRisen (K.state sink.old).faults (K.state sink.new).faults }
-        ensures no_fault { OnOk result (Stays (K.state sink.old).faults (K.state sink.new).faults) }
+        ensures { BuffersText result (K.state sink.old) (K.state sink.new) self.old self.new }
     {
         if self.octets.len() < FULL {
             return Ok(());
@@ -154,12 +102,8 @@ impl LineBuffer {
 
     /// Writes the text.
     pub fn flush<K: Sink>(&mut self, sink: &mut K) -> Result<(), Failed>
-        ensures all { OnOk result (Appends (K.state sink.old).written (K.state sink.new).written self.old) }
+        ensures written { WritesText result (K.state sink.old) (K.state sink.new) self.old }
         ensures empty { OnOk result (self.new ≡ []) }
-        ensures some { OnErr result (WritesSome (K.state sink.old).written (K.state sink.new).written self.old) }
-        ensures later { (K.state sink.old).faults ≤ (K.state sink.new).faults }
-        ensures failed { IsErr result → HasRisen (K.state sink.old).faults (K.state sink.new).faults }
-        ensures no_fault { OnOk result (Stays (K.state sink.old).faults (K.state sink.new).faults) }
     {
         write_all(sink, self.octets.as_slice())?;
         self.octets.clear();
@@ -179,11 +123,7 @@ impl LineBuffer {
 
     /// Writes all of the text, where nothing more is printed.
     pub fn finish<K: Sink>(mut self, sink: &mut K) -> Result<(), Failed>
-        ensures all { OnOk result (Appends (K.state sink.old).written (K.state sink.new).written self) }
-        ensures some { OnErr result (WritesSome (K.state sink.old).written (K.state sink.new).written self) }
-        ensures later { (K.state sink.old).faults ≤ (K.state sink.new).faults }
-        ensures failed { IsErr result → HasRisen (K.state sink.old).faults (K.state sink.new).faults }
-        ensures no_fault { OnOk result (Stays (K.state sink.old).faults (K.state sink.new).faults) }
+        ensures { WritesText result (K.state sink.old) (K.state sink.new) self }
     {
         self.flush(sink)
     }

@@ -2,10 +2,16 @@
 use Rattle.std.specs.Prelude.{ℕ, ◌≤◌, List, Result, Ok, Err}
 use Rattle.outer_traits.specs.Outside.{HasRisen, Stays, WritesSome}
 use Rattle.outer_traits.specs.States.{OutputState}
+use Rattle.outer_traits.specs.declared.fault.Failed.{Failed}
 use Rattle.outer_traits.specs.declared.print_fault.PrintFault.{PrintFault}
-use Rattle.outer_traits.specs.declared.print_fault.PrintFault.TheVariants.{Write, OutOfMemory}
-use Rattle.dump_lines.specs.LineRoom.{HasLineRoom}
-use Rattle.dump_lines.specs.Output.{IsBuffered}
+use Rattle.outer_traits.specs.declared.print_fault.PrintFault.TheVariants.{Write, DiskFault, Damaged, OutOfMemory}
+use Rattle.line_buffer.specs.LineRoom.{HasLineRoom}
+use Rattle.line_buffer.specs.Output.{Appends, IsBuffered}
+
+-- all of a text was written, and no write failed
+pub record IsWritten (before after : OutputState) (text : List ℕ) : Type 0 where
+  pub all : Appends before.written after.written text
+  pub no_fault : Stays before.faults after.faults
 
 -- a text went on but for what is left in the buffer, and no write failed
 pub record IsPrinted (before after : OutputState) (text left : List ℕ) : Type 0 where
@@ -24,8 +30,20 @@ pub record IsPartPrinted (before after : OutputState) (text : List ℕ) : Type 0
   pub some : WritesSome before.written after.written text
   pub no_fault : Stays before.faults after.faults
 
--- what is left of printing a text, by what the call answers
+-- what is left of printing a text whose rows are in memory, by what the call answers: no disk is asked
 abbrev pub PrintsText : {X : Type 0} → Result X PrintFault → OutputState → OutputState → List ℕ → List ℕ → Type 0
 PrintsText (Ok _) before after text left = IsPrinted before after text left
 PrintsText (Err Write) before after text left = IsCutOff before after text
+PrintsText (Err DiskFault) before after text left = ⊥
+PrintsText (Err (Damaged file at)) before after text left = ⊥
 PrintsText (Err OutOfMemory) before after text left = IsPartPrinted before after text
+
+-- what a call leaves that writes a text
+abbrev pub WritesText : {X : Type 0} → Result X Failed → OutputState → OutputState → List ℕ → Type 0
+WritesText (Ok _) before after text = IsWritten before after text
+WritesText (Err _) before after text = IsCutOff before after text
+
+-- what one leaves that may keep some of it in the buffer
+abbrev pub BuffersText : {X : Type 0} → Result X Failed → OutputState → OutputState → List ℕ → List ℕ → Type 0
+BuffersText (Ok _) before after text left = IsPrinted before after text left
+BuffersText (Err _) before after text left = IsCutOff before after text

@@ -1,0 +1,2 @@
+pub mod LineBuffers
+pub mod PrintedTexts
