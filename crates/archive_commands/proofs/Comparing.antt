@@ -12,7 +12,7 @@ use Rattle.archive_store.specs.Entries.{FilledArchive}
 use Rattle.archive_store.specs.StoreView.{StoreView, filled_of}
 use Rattle.archive_verify.specs.declared.compared_sets.SetDifference.{SetDifference}
 use Rattle.archive_verify.specs.declared.verified.Sound.{Sound}
-use Rattle.archive_verify.specs.Verified.{IsCounted, IsVerifyRefusal, database_in}
+use Rattle.archive_verify.specs.Verified.{IsCounted, IsVerifyRefusal, database_of}
 use Rattle.archive_verify.proofs.Counting.{late_by_bases}
 use Rattle.archive_verify.proofs.Currents.{mismatch_unsound, one_mismatch}
 use Rattle.command_plans.specs.Plan.{OfMemory, Stopped, Interrupted, EachEnd, IsDetermined}
@@ -34,7 +34,7 @@ one_named : (filled : FilledArchive) (a b : Refusal) → IsCompared filled (Some
 one_named filled (Mismatch i n k s r) (Mismatch j m l t q) is other =
     let both = one_mismatch filled i j (record { parameter = is.parameter; cells = record { key = k; stored = s; replayed = r } }) (record { parameter = other.parameter; cells = record { key = l; stored = t; replayed = q } }) is.first other.first in
     let number : is.parameter ≡ other.parameter = ap (λ (d : SetDifference). d.parameter) both.1 in
-    let name : n ≡ m = same_name n m (sym is.named ∙ ap (slice_get (map (λ p. p.name) (database_in filled).parameters)) number ∙ other.named) in
+    let name : n ≡ m = same_name n m (sym is.named ∙ ap (slice_get (map (λ p. p.name) (database_of filled).parameters)) number ∙ other.named) in
     λ h. Mismatch (both.0 h) (name h) (both.1 h).cells.key (both.1 h).cells.stored (both.1 h).cells.replayed
 one_named filled (Mismatch i n k s r) b is none = absurd none
 one_named filled a b none is = absurd none
@@ -99,5 +99,5 @@ module _ {D : Type 0} (device : Device D) (e : Effects D) (filled : FilledArchiv
   ran_compared None (inr refused) report = absurd refused.0
   ran_compared (Some refusal) (inr refused) report = ran_unsound refusal refused.0 report refused.1
   ran_compared refusal (inl found) report =
-      let printed = ran_printed device e (archive_opened 0 filled) (verify_line filled) refusal refl refl found.printed found.later found.counted report disk in
+      let printed = ran_printed device e (archive_opened 0 filled) (verify_line filled) refusal refl refl found.printed report disk in
       record { way = printed.way; allows = inr (None, found.sound, printed.allows); did = printed.did }

@@ -213,7 +213,7 @@ unfolding head_with
 same_head x y tables mdb = ap (λ (t : List (List ℕ)). head_with t x.mdb) tables ∙ ap (λ (m : Database). head_with y.tables m) mdb
 
 -- sheets and a script give one head, or are refused in one way
-one_head_answer : (raw : RawMdb) (text : List ℕ) (a b : Result Head Refusal) → IsHeadAnswer raw text a → IsHeadAnswer raw text b → a ≡ b
+pub one_head_answer : (raw : RawMdb) (text : List ℕ) (a b : Result Head Refusal) → IsHeadAnswer raw text a → IsHeadAnswer raw text b → a ≡ b
 one_head_answer raw text a b = go a b
   where
     clash : (refusal : Refusal) → sheets_refusal raw ≡ None → sheets_refusal raw ≡ Some refusal → ⊥

@@ -1,17 +1,18 @@
 -- How the plan of `recover` goes.
-use Rattle.std.proofs.Common.{◌≡◌, ◌≤◌, inl, ℕ, zero, suc, false, true, List, length, Option, Some, None, refl, sym, ◌∙◌, ap}
+use Rattle.std.proofs.Common.{◌≡◌, inl, ℕ, zero, suc, false, true, List, length, Option, Some, None, refl, sym, ◌∙◌, ap}
 use Rattle.std.specs.Prelude.{IsTrue}
 use Rattle.arch_disk.specs.Disk.{Device}
 use Rattle.refusals.specs.declared.refusal.Refusal.{Refusal}
-use Rattle.refusals.specs.declared.refusal.Refusal.TheVariants.{DiskFault, Limit, OutOfMemory}
+use Rattle.refusals.specs.declared.refusal.Refusal.TheVariants.{DiskFault, Limit, NeedsReopen, OutOfMemory}
 use Rattle.interval_walks.specs.Counts.{late_intervals}
 use Rattle.archive_store.specs.Entries.{FilledArchive}
 use Rattle.archive_store.specs.StoreView.{StoreView, filled_of}
 use Rattle.command_plans.specs.Plan.{OfMemory, CommandPlan, EachEnd, Interrupted, IsDetermined}
 use Rattle.command_plans.proofs.Plans.{determined, each_end}
-use Rattle.command_runs.specs.Finishing.{IsFinished, WritesCounted}
+use Rattle.command_runs.specs.Finishing.{IsFinished}
 use Rattle.command_runs.specs.Command.{AllFilled, Effects, Extended, FillingFailed, HasDiskOutcome, Opened, Progress, Ran, archive_opened, opening_plan, printing_plan}
-use Rattle.late_filling.specs.Filling.{IsFillTakenBack, IsFillingRefusal, IsUnfailed, filling_refusal}
+use Rattle.history_items.specs.Fills.{pending_fault_of}
+use Rattle.load_session.specs.Filling.{IsFillFailed, IsFillingRefusal, IsUnfailed, filling_refusal}
 use Rattle.command_runs.specs.FillingPlan.{IsRecordCount, all_filled}
 use Rattle.archive_commands.specs.Recover.{archive_with_fills, late_plan, recover_line, recover_plan, recovering_plan}
 use Rattle.command_runs.specs.Report.{read_only}
@@ -49,7 +50,7 @@ module _ {D : Type 0} (device : Device D) (disk : D) where
 
 -- ---- an archive was opened
 
-module _ {D : Type 0} (device : Device D) (e : Effects D) (Recorded : ℕ → Type 0) (old new : StoreView D) (recorded : Recorded old.records)
+module _ {D : Type 0} (device : Device D) (e : Effects D) (Recorded : ℕ → Type 0) (old mid : StoreView D) (recorded : Recorded old.records)
     (as_filled : length (late_intervals old.exponent old.history old.fills) ≡ length (late_in_archive (filled_of old)))
     (still : length (late_in_archive (filled_of old)) ≡ 0 → HasDiskOutcome device e.disk e.disk' false (Opened (filled_of old))) where
   abbrev line : List ℕ
@@ -59,45 +60,45 @@ module _ {D : Type 0} (device : Device D) (e : Effects D) (Recorded : ℕ → Ty
   st = archive_with_fills (filled_of old)
 
   -- each late interval was filled
-  module _ (refusal : Option Refusal) (text : IsFinished refusal e.output.written e.output'.written line) (later : e.output.faults ≤ e.output'.faults)
-      (counted : WritesCounted refusal e.output.faults e.output'.faults) (report : e.report ≡ read_only refusal (length old.history))
+  module _ (refusal : Option Refusal) (text : IsFinished refusal e.output e.output' line) (report : e.report ≡ read_only refusal (length old.history))
       (disk : HasDiskOutcome device e.disk e.disk' false (AllFilled (filled_of old) old.history)) where
     filled_by : (late : ℕ) → length (late_in_archive (filled_of old)) ≡ late → filling_refusal old.records late ≡ None → Ran device (late_plan Recorded (filled_of old) late) e
     filled_by zero none fits =
         let s = archive_opened 0 (filled_of old) in
-        ran_later device e OfMemory s (printing_plan s line) (ran_printed device e s line refusal refl refl text later counted report (still none))
+        ran_later device e OfMemory s (printing_plan s line) (ran_printed device e s line refusal refl refl text report (still none))
     filled_by (suc late) is fits =
         let end = all_filled (filled_of old) old.history st in
         ran_all_filled Recorded (filled_of old) old.history (suc late) st (printing_plan end line) device e old.records recorded fits
-        (ran_printed device e end line refusal refl refl text later counted report disk)
+        (ran_printed device e end line refusal refl refl text report disk)
 
     pub ran_recovered : filling_refusal old.records (length (late_in_archive (filled_of old))) ≡ None → Ran device (recovering_plan Recorded (filled_of old)) e
     ran_recovered fits = filled_by (length (late_in_archive (filled_of old))) refl fits
 
   -- not each was
-  module _ (silent : e.output' ≡ e.output) (none_failed : length (late_in_archive (filled_of old)) ≡ 0 → IsFillTakenBack device old new → ⊥)
-      (unfailed : IsUnfailed device old new → HasDiskOutcome device e.disk e.disk' false (Extended (filled_of old) old.history))
-      (failed : IsFillTakenBack device old new → HasDiskOutcome device e.disk e.disk' true (FillingFailed (filled_of old) old.history)) where
+  module _ (silent : e.output' ≡ e.output) (healed : pending_fault_of old.fills ≡ None) (none_failed : length (late_in_archive (filled_of old)) ≡ 0 → IsFillFailed device old mid → ⊥)
+      (unfailed : IsUnfailed device old mid → HasDiskOutcome device e.disk e.disk' false (Extended (filled_of old) old.history))
+      (failed : IsFillFailed device old mid → HasDiskOutcome device e.disk e.disk' true (FillingFailed (filled_of old) old.history)) where
     -- where none is late memory was wanting
-    none_to_fill : (refusal : Refusal) → length (late_in_archive (filled_of old)) ≡ 0 → IsFillingRefusal device old new (IsFillTakenBack device old new) refusal
+    none_to_fill : (refusal : Refusal) → length (late_in_archive (filled_of old)) ≡ 0 → IsFillingRefusal device old mid refusal
         → e.report ≡ read_only (Some refusal) (length old.history) → Ran device (late_plan Recorded (filled_of old) 0) e
     none_to_fill OutOfMemory none r report = record {
       way = Interrupted (archive_opened 0 (filled_of old)) OfMemory;
       allows = inl refl;
       did = record { report = report; printed = rw silent (no_text e.output.written); output = record { counted = rw silent refl }; disk = still none };
     }
+    none_to_fill (NeedsReopen faults) none r report = let pending = r.0 in absurd (cc (healed, pending))
     none_to_fill (Limit which number) none r report =
         let never : ◌≡◌ {A = Option Refusal} (Some (Limit which number)) None = sym r.0 ∙ ap (filling_refusal old.records) (as_filled ∙ none) in absurd (cc (never))
     none_to_fill DiskFault none r report = absurd (none_failed none r)
     none_to_fill _ none r report = absurd r
 
-    unfilled_by : (late : ℕ) → length (late_in_archive (filled_of old)) ≡ late → (refusal : Refusal) → IsFillingRefusal device old new (IsFillTakenBack device old new) refusal
+    unfilled_by : (late : ℕ) → length (late_in_archive (filled_of old)) ≡ late → (refusal : Refusal) → IsFillingRefusal device old mid refusal
         → e.report ≡ read_only (Some refusal) (length old.history) → Ran device (late_plan Recorded (filled_of old) late) e
     unfilled_by zero none refusal r report = none_to_fill refusal none r report
     unfilled_by (suc late) is refusal r report =
-        ran_unfilled Recorded (filled_of old) old.history (suc late) st (line_next (filled_of old)) device e old new recorded (as_filled ∙ is) refl refl
-        (rw silent (no_text e.output.written)) (record { counted = rw silent refl }) unfailed failed refusal r report
+        ran_unfilled Recorded (filled_of old) old.history (suc late) st device e old mid recorded (as_filled ∙ is) healed refl refl
+        (rw silent (no_text e.output.written)) (record { counted = rw silent refl }) unfailed failed (line_next (filled_of old)) refusal r report
 
-    pub ran_unrecovered : (refusal : Refusal) → IsFillingRefusal device old new (IsFillTakenBack device old new) refusal → e.report ≡ read_only (Some refusal) (length old.history)
+    pub ran_unrecovered : (refusal : Refusal) → IsFillingRefusal device old mid refusal → e.report ≡ read_only (Some refusal) (length old.history)
         → Ran device (recovering_plan Recorded (filled_of old)) e
     ran_unrecovered = unfilled_by (length (late_in_archive (filled_of old))) refl

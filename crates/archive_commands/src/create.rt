@@ -23,7 +23,7 @@ use command_plans::read::read_limited;
 use command_runs::finishing::finish;
 use command_runs::report::{Ended, Report};
 use command_words::job::CreateWords;
-use dump_lines::line_buffer::LineBuffer;
+use line_buffer::LineBuffer;
 use mdb_model::{Mdb, RawMdb};
 use mdb_sheets::read_mdb;
 use outer_traits::inputs::Inputs;

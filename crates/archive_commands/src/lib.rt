@@ -2,7 +2,7 @@
 //!
 //! Stands for: their plans (specs/Create.antt, specs/Recover.antt, specs/Verify.antt). Called by the top call.
 //!
-//! The way of a script, for `create`: command_plans reads its octets, and script_answers says what they stand for, or why they are refused. late_filling fills
+//! The way of a script, for `create`: command_plans reads its octets, and script_answers says what they stand for, or why they are refused. load_session fills
 //! for `recover`, and archive_verify compares for `verify`. What `create` prints and leaves on a disk stands in `command_runs`, beside the other outcomes of a
 //! disk (specs/Creation.antt there).
 //!

@@ -9,9 +9,10 @@ ghost use Rattle.archive_commands.specs.Recover.{recover_plan};
 use arch_disk::Disk;
 use archive_store::Store;
 use command_runs::finishing::finish;
+use command_runs::healing::heal;
 use command_runs::report::{Ended, Report};
-use dump_lines::line_buffer::LineBuffer;
-use late_filling::fill_late::fill_late;
+use line_buffer::LineBuffer;
+use load_session::fill_late;
 use outer_traits::sink::Sink;
 use refusals::Refusal;
 use std::alloc::Global;
@@ -21,7 +22,7 @@ use std::alloc::Global;
 ///
 /// Refuses, in this order: by `DiskFault`, `NoArchive` or `Damaged`; fill by fill by `Limit` Records or by `DiskFault`; by
 /// `WriteFault`. `OutOfMemory` may come anywhere before the line. What was filled before a refusal stays filled, and where no
-/// interval is late the disk is left as it was.
+/// interval is late the disk is left as it was. A write that failed is taken back before it ends, as far as the disk lets it.
 pub fn recover<D: Disk, K: Sink>(alloc: Global, disk: D, sink: &mut K) -> Ended<D>
     // It took a way through its plan: where that ends stands what was printed, what became of the disk, what is reported,
     // and which calls failed.
@@ -47,19 +48,17 @@ fn work<D: Disk, K: Sink>(alloc: Global, disk: D, sink: &mut K) -> Result<(D, Re
     };
     let mut store = Store::open(alloc, disk)?;
     let rows = store.front();
-    match fill_late(alloc, &mut store) {
+    let filled = fill_late(alloc, &mut store);
+    heal(&mut store);
+    // It tells the proof which fills a crash leaves now.
+    store.front();
+    match filled {
         Ok(filled) => {
             put_recovered(&mut line_buffer, rows, filled);
             let refusal = finish(line_buffer, sink);
-            // It tells the proof which fills a crash leaves now.
-            store.front();
             Ok((store.into_disk(), Report::read_only(refusal, rows)))
         }
-        Err(refusal) => {
-            // It tells the proof which fills a crash leaves now.
-            store.front();
-            Ok((store.into_disk(), Report::read_only(Some(refusal), rows)))
-        }
+        Err(refusal) => Ok((store.into_disk(), Report::read_only(Some(refusal), rows))),
     }
 }
 

@@ -1,6 +1,7 @@
 //! The command `verify`: whether what is stored of an archive's intervals is what their rows give.
 
 ghost use Rattle.std.specs.Prelude.{◌≡◌, [], IsTrue};
+ghost use Rattle.store_fills.specs.LastFills.{AreOwn};
 ghost use Rattle.archive_store.specs.StoreView.{filled_of};
 ghost use Rattle.command_plans.specs.Plan.{IsDue};
 ghost use Rattle.command_runs.specs.Command.{Ran, effects_of};
@@ -13,7 +14,7 @@ use archive_store::Store;
 use archive_verify::Sound;
 use command_runs::finishing::finish;
 use command_runs::report::{Ended, Report};
-use dump_lines::line_buffer::LineBuffer;
+use line_buffer::LineBuffer;
 use outer_traits::sink::Sink;
 use refusals::Refusal;
 use std::alloc::Global;
@@ -46,21 +47,23 @@ fn work<D: Disk, K: Sink>(alloc: Global, disk: D, sink: &mut K) -> Result<(D, Re
     let Ok(line_buffer) = LineBuffer::new(alloc) else {
         return Err((disk, Refusal::OutOfMemory));
     };
-    let store = Store::open(alloc, disk)?;
+    let mut store = Store::open(alloc, disk)?;
     let rows = store.front();
-    let refusal = compare(alloc, &store, line_buffer, sink);
+    let refusal = compare(alloc, &mut store, line_buffer, sink);
     Ok((store.into_disk(), Report::read_only(refusal, rows)))
 }
 
 /// Compares, and prints the line of an archive that was found sound, or says why it wasn't.
 fn compare<D: Disk, K: Sink>(
     alloc: Global,
-    store: &Store<D>,
+    store: &mut Store<D>,
     line_buffer: LineBuffer,
     sink: &mut K,
 ) -> Option<Refusal>
-    requires { line_buffer ≡ [] }
-    ensures { IsVerifyReply (filled_of store.now) result (K.state sink.old) (K.state sink.new) }
+    requires line { line_buffer ≡ [] }
+    requires own { AreOwn store.old.filled }
+    ensures reply { IsVerifyReply (filled_of store.old) result (K.state sink.old) (K.state sink.new) }
+    ensures same { store.new ≡ store.old }
 {
     // It tells the proof that the fill list has the bases of the fills that are there.
     let _bases = store.front();

@@ -1,5 +1,5 @@
 -- Sheets of asks: read before all else, checked, and answered.
-use Rattle.std.proofs.Common.{◌≡◌, ◌∙◌, ◌+◌, ◌<◌, ◌⊎◌, inl, inr, ℕ, suc, List, [], ◌∷◌, ◌++◌, length, Option, Some, None, refl, sym, ap, subst, arith, append_assoc}
+use Rattle.std.proofs.Common.{◌≡◌, ◌∙◌, ◌+◌, ◌<◌, ◌⊎◌, inl, inr, ℕ, suc, List, [], ◌∷◌, ◌++◌, length, Option, Some, None, refl, sym, ap, subst, arith, append-nil, append_assoc}
 use Rattle.std.specs.Prelude.{Result, Ok, Err, unwrap_or}
 use Rattle.std.specs.Arc.{arc_value}
 use Rattle.arch_disk.specs.Disk.{Device}
@@ -10,30 +10,32 @@ use Rattle.arch_types.specs.declared.cell.Cell.{Cell}
 use Rattle.refusals.specs.declared.refusal.Refusal.{Refusal}
 use Rattle.refusals.specs.declared.refusal.Refusal.TheVariants.{OutOfMemory, WriteFault}
 use Rattle.refusals.specs.declared.refusal.Which.TheVariants.{SheetOctets}
-use Rattle.archive_store.specs.declared.head.Head.{Head}
-use Rattle.archive_store.specs.Entries.{FilledArchive}
+use Rattle.archive_store.specs.Entries.{Archive, FilledArchive}
 use Rattle.archive_store.specs.declared.finding.FoundRequest.{FoundRequest}
 use Rattle.archive_store.specs.Finding.{IsRequestFound}
 use Rattle.command_plans.specs.Plan.{OfMemory, OfInputs, CommandPlan, Way, Returned, Stopped, Interrupted, Allows, IsDetermined, and_then, map_done, way_map_done}
 use Rattle.command_plans.proofs.Plans.{allows_map_done, cut, determined, determined_map_done, ended, gave}
 use Rattle.outer_traits.specs.declared.print_fault.PrintFault.{PrintFault}
 use Rattle.outer_traits.specs.declared.print_fault.PrintFault.TheVariants as unprinted
-use Rattle.dump_lines.specs.Output.{IsBuffered, PrintCounted}
-use Rattle.command_runs.specs.Finishing.{IsFinished, WritesCounted}
-use Rattle.dump_lines.proofs.LineBuffers.{buffered_all, wrote_then}
+use Rattle.line_buffer.specs.Output.{IsBuffered}
+use Rattle.line_buffer.specs.Printed.{IsPrinted, PrintsText}
+use Rattle.command_runs.specs.Finishing.{IsFinished}
+use Rattle.line_buffer.proofs.PrintedTexts.{all_then, cut_front, left_cut, left_written, part_front, printed_cut}
 use Rattle.command_plans.specs.Inputs.{AnsweredByPlan, WasRead}
 use Rattle.command_plans.proofs.Inputs.{reads_determined}
+use Rattle.history_items.specs.Databases.{database_in}
 use Rattle.mdb_items.specs.Database.{Database}
 use Rattle.mdb_sheets.specs.Asks.{asks_of}
 use Rattle.mdb_sheets.specs.Plans.{ask_sheet_plan}
-use Rattle.outer_traits.specs.Outside.{Files, WritesSome}
-use Rattle.outer_traits.specs.States.{InputsState}
+use Rattle.outer_traits.specs.Outside.{Files, Stays, WritesSome}
+use Rattle.outer_traits.specs.States.{InputsState, OutputState}
 use Rattle.command_plans.specs.Ledger.{UsedInputs}
 use Rattle.command_plans.proofs.Ledgers.{used_inputs_then}
 use Rattle.retrieval.specs.AnswerText.{answer_lines}
-use Rattle.retrieval.specs.AskText.{asks_refusal}
 use Rattle.refusals.specs.Refusal.{refusal_of_print}
 use Rattle.retrieval.specs.FilledAnswer.{IsFilledAnswer, filled_answer}
+use Rattle.retrieval.specs.FoundAsks.{asks_found}
+use Rattle.retrieval.specs.declared.found_asks.FoundAsk.{FoundAsk}
 use Rattle.ask_answers.specs.Asks.{AreAnswerable, ArePrinted, AreRefused, after_asks_check, archive_ask_text, archive_asks_text, asked_plan, asks_check_plan, with_sources}
 use Rattle.command_runs.specs.Command.{Progress, Effects, EndedAt, HasEffects, Ran, RanOver, failed_at, nothing_done, sources_at}
 use Rattle.command_runs.specs.Report.{unopened}
@@ -101,8 +103,8 @@ asked_determined all (Some name) next each =
 
 -- ---- the asks are checked
 
-module _ (s : Progress) (head : Head) where
-  pub check_determined : (sheet : Result (List Ask) Refusal) → IsDetermined (asks_check_plan s head sheet)
+module _ (s : Progress) (archive : Archive) where
+  pub check_determined : (sheet : Result (List Ask) Refusal) → IsDetermined (asks_check_plan s archive sheet)
   check_determined (Err refusal) = tt
   check_determined (Ok asks) = (λ a b h k. h ∙ sym k, λ found h. each found)
     where
@@ -111,24 +113,24 @@ module _ (s : Progress) (head : Head) where
       each (Some refusal) = tt
 
   -- none is refused,
-  pub checked : (sheet : Result (List Ask) Refusal) (asks : List Ask) → AreAnswerable head sheet asks → Allows (asks_check_plan s head sheet) (Returned asks)
-  checked sheet asks is = subst (λ (r : Result (List Ask) Refusal). Allows (asks_check_plan s head r) (Returned asks)) (sym is.0) (inr (None, sym is.1, refl))
+  pub checked : (sheet : Result (List Ask) Refusal) (asks : List Ask) → AreAnswerable archive sheet asks → Allows (asks_check_plan s archive sheet) (Returned asks)
+  checked sheet asks is = subst (λ (r : Result (List Ask) Refusal). Allows (asks_check_plan s archive r) (Returned asks)) (sym is.0) (inr (None, sym is.1, refl))
 
   -- or the sheet is
-  pub check_refused : (sheet : Result (List Ask) Refusal) (refusal : Refusal) → AreRefused head sheet refusal →
-      Allows (asks_check_plan s head sheet) (Stopped s (Some refusal)) ⊎ ((refusal ≡ OutOfMemory) × Allows (asks_check_plan s head sheet) (Interrupted s OfMemory))
+  pub check_refused : (sheet : Result (List Ask) Refusal) (refusal : Refusal) → AreRefused archive sheet refusal →
+      Allows (asks_check_plan s archive sheet) (Stopped s (Some refusal)) ⊎ ((refusal ≡ OutOfMemory) × Allows (asks_check_plan s archive sheet) (Interrupted s OfMemory))
   check_refused (Err refused) refusal is = inl (rw is refl)
   check_refused (Ok asks) refusal (inl is) = inl (inr (Some refusal, sym is, refl))
   check_refused (Ok asks) refusal (inr is) = inr (is, inl refl)
 
   -- and nothing else was done
   pub ran_refused : {D : Type 0} (device : Device D) (e : Effects D) (next : List Ask → CommandPlan Progress ⊥) (sheet : Result (List Ask) Refusal) (refusal : Refusal) →
-      AreRefused head sheet refusal → EndedAt device e s (Some refusal) s.failed → Ran device (and_then (asks_check_plan s head sheet) next) e
+      AreRefused archive sheet refusal → EndedAt device e s (Some refusal) s.failed → Ran device (and_then (asks_check_plan s archive sheet) next) e
   ran_refused device e next sheet refusal is did = elim (check_refused sheet refusal is) [
-    | inl stopped ↦ record { way = Stopped s (Some refusal); allows = ended (asks_check_plan s head sheet) next s (Some refusal) stopped; did = did }
+    | inl stopped ↦ record { way = Stopped s (Some refusal); allows = ended (asks_check_plan s archive sheet) next s (Some refusal) stopped; did = did }
     | inr memory ↦ record {
       way = Interrupted s OfMemory;
-      allows = cut (asks_check_plan s head sheet) next s OfMemory memory.1;
+      allows = cut (asks_check_plan s archive sheet) next s OfMemory memory.1;
       did = record {
         report = did.report ∙ ap (λ (r : Refusal). record s.report { refusal = Some r }) memory.0;
         printed = did.printed;
@@ -151,17 +153,35 @@ next_text filled k first now all held asks ask rest e h =
     ∙ ap (λ (n : ℕ). (held ++ archive_ask_text filled k ask) ++ archive_asks_text filled n rest) more in
     subst (λ (t : List ℕ). IsBuffered first now all t) text h
 
+-- one failed, whose front is a front of all, behind some without a failed write
+pub one_failed : {X : Type 0} (r : Result X PrintFault) (e inner : PrintFault) (first now new : OutputState) (all part lost last : List ℕ) → r ≡ Err e → e ≡ inner → Stays first.faults now.faults →
+    PrintsText {X = X} (Err inner) now new part lost → (WritesSome now.written new.written part → WritesSome first.written new.written all) → PrintsText r first new all last
+one_failed r e unprinted.Write first now new all part lost last is same stays failed more = rw (is, same) (record {
+  some = more failed.some;
+  later = let later = failed.later in omega (arith, stays, later);
+  failed = λ small. let risen = failed.failed small in omega (arith, stays, risen);
+})
+one_failed r e unprinted.DiskFault first now new all part lost last is same stays failed more = absurd failed
+one_failed r e (unprinted.Damaged file at) first now new all part lost last is same stays failed more = absurd failed
+one_failed r e unprinted.OutOfMemory first now new all part lost last is same stays failed more = rw (is, same) (record { some = more failed.some; no_fault = failed.no_fault ∙ stays })
+
+-- behind the last ask none is left
+pub no_text : (filled : FilledArchive) (k : ℕ) (first now : Option (List ℕ)) (all held : List ℕ) (asks : List FoundAsk) → asks ≡ [] →
+    IsBuffered first now all (held ++ archive_asks_text filled k (asks_found asks)) → IsBuffered first now all held
+no_text filled k first now all held asks none h =
+    subst (IsBuffered first now all) (ap (λ (left : List FoundAsk). held ++ archive_asks_text filled k (asks_found left)) none ∙ append-nil held) h
+
 -- ---- what is printed
 
 same_number : (a b : ℕ) → ◌≡◌ {A = Option ℕ} (Some a) (Some b) → a ≡ b
 same_number a b e = cc
 
 -- the lines of the answer to a request that was found are the text of its ask
-pub found_text : (filled : FilledArchive) (k : ℕ) (found : FoundRequest) (answer : Answer) → IsRequestFound filled.plain.head.mdb found
-    → IsFilledAnswer filled.plain.head.mdb filled.plain.exponent filled.plain.history filled.fillings found.request answer →
+pub found_text : (filled : FilledArchive) (k : ℕ) (found : FoundRequest) (answer : Answer) → IsRequestFound (database_in filled.plain.head.mdb filled.plain.history) found
+    → IsFilledAnswer (database_in filled.plain.head.mdb filled.plain.history) filled.plain.exponent filled.plain.history filled.fillings found.request answer →
     answer_lines k answer.front (arc_value found.mdb) found.number answer.cells ≡ archive_ask_text filled k (Values found.request)
 found_text filled k found answer at is =
-    let db = filled.plain.head.mdb in
+    let db = database_in filled.plain.head.mdb filled.plain.history in
     let history = filled.plain.history in
     let fillings = filled.fillings in
     let number = same_number is.number found.number (sym is.named ∙ at.number) in
@@ -171,29 +191,35 @@ found_text filled k found answer at is =
     ∙ sym (ap (λ (o : Option ℕ). answer_lines k (length history) db (unwrap_or o 0) (filled_answer db (unwrap_or o 0) found.request filled.plain.exponent history fillings)) at.number)
 
 -- all went on, or not to its end
-pub finished_text : (asks : List Ask) (refusal : Option Refusal) (before mid now : Option (List ℕ)) (text left : List ℕ) → IsBuffered before mid text left → IsFinished refusal mid now left →
+pub finished_text : (asks : List Ask) (refusal : Option Refusal) (before mid now : OutputState) (text left : List ℕ) → IsPrinted before mid text left → IsFinished refusal mid now left →
     ArePrinted asks refusal before now text
-finished_text asks None before mid now text left buffered all = buffered_all before mid now text left buffered all
-finished_text asks (Some WriteFault) before mid now text left buffered some =
-    subst (WritesSome before now) (sym buffered.1) (wrote_then before mid now buffered.0 left buffered.2 some)
-finished_text asks (Some other) before mid now text left buffered none = absurd none
+finished_text asks None before mid now text left is written = left_written before mid now text left is written
+finished_text asks (Some WriteFault) before mid now text left is part = left_cut before mid now text left is part
+finished_text asks (Some other) before mid now text left is never = absurd never
 
 -- and so with a line behind it
-pub finished_line : (asks : List Ask) (refusal known : Option Refusal) (before mid now : Option (List ℕ)) (text left line last : List ℕ) → known ≡ refusal → last ≡ left ++ line →
-    IsBuffered before mid text left → IsFinished refusal mid now last → ArePrinted asks known before now (text ++ line)
-finished_line asks refusal known before mid now text left line last is put buffered finished =
-    let all : text ++ line ≡ buffered.0 ++ last = ap (λ (l : List ℕ). l ++ line) buffered.1 ∙ append_assoc buffered.0 left line ∙ ap (λ (l : List ℕ). buffered.0 ++ l) (sym put) in
-    rw is (finished_text asks refusal before mid now (text ++ line) last (buffered.0, all, buffered.2) finished)
-
-pub finished_count : (refusal known : Option Refusal) (first mid now : ℕ) → known ≡ refusal → mid ≡ first → WritesCounted refusal mid now → WritesCounted known first now
-finished_count refusal known first mid now is same counted = rw is (subst (λ (n : ℕ). WritesCounted refusal n now) same counted)
+pub finished_line : (asks : List Ask) (refusal known : Option Refusal) (before mid now : OutputState) (text left line last : List ℕ) → known ≡ refusal → last ≡ left ++ line →
+    IsPrinted before mid text left → IsFinished refusal mid now last → ArePrinted asks known before now (text ++ line)
+finished_line asks refusal known before mid now text left line last is put printed finished =
+    rw is (each refusal (subst (IsFinished refusal mid now) put finished))
+  where
+    each : (o : Option Refusal) → IsFinished o mid now (left ++ line) → ArePrinted asks o before now (text ++ line)
+    each None written = all_then before mid now text line left printed written
+    each (Some WriteFault) part = printed_cut before mid now text line left printed part
+    each (Some other) never = absurd never
 
 -- the answers didn't
-pub unfinished_text : (asks : List Ask) (fault : PrintFault) (before now : Option (List ℕ)) (text : List ℕ) → 0 < length asks → WritesSome before now text →
+pub unfinished_text : (asks : List Ask) (fault : PrintFault) (before now : OutputState) (text left : List ℕ) → 0 < length asks → PrintsText {X = Unit {0}} (Err fault) before now text left →
     ArePrinted asks (Some (refusal_of_print fault)) before now text
-unfinished_text asks unprinted.Write before now text some wrote = wrote
-unfinished_text asks unprinted.OutOfMemory before now text some wrote = (some, wrote)
+unfinished_text asks unprinted.Write before now text left some printed = printed
+unfinished_text asks unprinted.DiskFault before now text left some printed = absurd printed
+unfinished_text asks (unprinted.Damaged file at) before now text left some printed = absurd printed
+unfinished_text asks unprinted.OutOfMemory before now text left some printed = (some, printed)
 
-pub unfinished_count : (fault : PrintFault) (before now : ℕ) → PrintCounted (Some fault) before now → WritesCounted (Some (refusal_of_print fault)) before now
-unfinished_count unprinted.Write before now counted = counted
-unfinished_count unprinted.OutOfMemory before now counted = counted
+-- and so with a line that was to come
+pub unfinished_line : (asks : List Ask) (fault : PrintFault) (before now : OutputState) (text left line : List ℕ) → 0 < length asks → PrintsText {X = Unit {0}} (Err fault) before now text left →
+    ArePrinted asks (Some (refusal_of_print fault)) before now (text ++ line)
+unfinished_line asks unprinted.Write before now text left line some printed = cut_front before now text line printed
+unfinished_line asks unprinted.DiskFault before now text left line some printed = absurd printed
+unfinished_line asks (unprinted.Damaged file at) before now text left line some printed = absurd printed
+unfinished_line asks unprinted.OutOfMemory before now text left line some printed = (some, part_front before now text line printed)

@@ -3,12 +3,12 @@ use Rattle.std.specs.Prelude.{◌≡◌, ◌⊎◌, ◌<◌, ℕ, ◌+◌, List,
 use Rattle.asks.specs.declared.ask.Ask.{Ask}
 use Rattle.refusals.specs.declared.refusal.Refusal.{Refusal}
 use Rattle.refusals.specs.declared.refusal.Refusal.TheVariants.{OutOfMemory, WriteFault}
-use Rattle.archive_store.specs.declared.head.Head.{Head}
-use Rattle.archive_store.specs.Entries.{FilledArchive}
+use Rattle.archive_store.specs.Entries.{Archive, FilledArchive}
 use Rattle.command_plans.specs.Plan.{OfMemory, CommandPlan, Return, Stop, May, Question, and_then, map_done}
-use Rattle.dump_lines.specs.Output.{Appends}
+use Rattle.line_buffer.specs.Printed.{IsCutOff, IsPartPrinted, IsWritten}
 use Rattle.mdb_sheets.specs.Plans.{ask_sheet_plan}
-use Rattle.outer_traits.specs.Outside.{Files, WritesSome}
+use Rattle.outer_traits.specs.Outside.{Files}
+use Rattle.outer_traits.specs.States.{OutputState}
 use Rattle.retrieval.specs.AskText.{ask_text, asks_refusal, asks_text}
 use Rattle.command_runs.specs.Command.{Progress, nothing_done}
 
@@ -32,22 +32,26 @@ abbrev pub after_asks_check : Progress → List Ask → Option Refusal → Comma
 after_asks_check s asks None = Return asks
 after_asks_check s asks (Some refusal) = Stop s (Some refusal)
 
--- gives the asks of a sheet that a head can answer: the refusal of the sheet, if it has one; else that of the first
--- ask that is refused, for which memory may be wanting
-abbrev pub asks_check_plan : Progress → Head → Result (List Ask) Refusal → CommandPlan Progress (List Ask)
-asks_check_plan s head (Ok asks) =
-    May OfMemory s (Question (λ found. found ≡ asks_refusal head asks) (after_asks_check s asks))
-asks_check_plan s head (Err refusal) = Stop s (Some refusal)
+-- the refusal of the first ask that an archive doesn't answer
+abbrev pub archive_asks_refusal : Archive → List Ask → Option Refusal
+archive_asks_refusal archive asks = asks_refusal archive.head archive.history asks
 
--- the asks of a sheet are these, and a head can answer them
-abbrev pub AreAnswerable : Head → Result (List Ask) Refusal → List Ask → Type 0
-AreAnswerable head sheet asks = (sheet ≡ Ok asks) × (asks_refusal head asks ≡ None)
+-- gives the asks of a sheet that an archive can answer: the refusal of the sheet, if it has one; else that of the
+-- first ask that is refused, for which memory may be wanting
+abbrev pub asks_check_plan : Progress → Archive → Result (List Ask) Refusal → CommandPlan Progress (List Ask)
+asks_check_plan s archive (Ok asks) =
+    May OfMemory s (Question (λ found. found ≡ archive_asks_refusal archive asks) (after_asks_check s asks))
+asks_check_plan s archive (Err refusal) = Stop s (Some refusal)
 
--- a sheet of asks is refused over a head: by its own refusal, or that of its first ask that is refused; or there was
--- no memory to say so
-abbrev pub AreRefused : Head → Result (List Ask) Refusal → Refusal → Type 0
-AreRefused head (Ok asks) refusal = (asks_refusal head asks ≡ Some refusal) ⊎ (refusal ≡ OutOfMemory)
-AreRefused head (Err refused) refusal = refusal ≡ refused
+-- the asks of a sheet are these, and an archive can answer them
+abbrev pub AreAnswerable : Archive → Result (List Ask) Refusal → List Ask → Type 0
+AreAnswerable archive sheet asks = (sheet ≡ Ok asks) × (archive_asks_refusal archive asks ≡ None)
+
+-- a sheet of asks is refused over an archive: by its own refusal, or that of its first ask that is refused; or there
+-- was no memory to say so
+abbrev pub AreRefused : Archive → Result (List Ask) Refusal → Refusal → Type 0
+AreRefused archive (Ok asks) refusal = (archive_asks_refusal archive asks ≡ Some refusal) ⊎ (refusal ≡ OutOfMemory)
+AreRefused archive (Err refused) refusal = refusal ≡ refused
 
 -- ---- the answers are printed
 
@@ -62,8 +66,8 @@ archive_asks_text filled k asks =
     asks_text filled.plain.head filled.plain.exponent filled.plain.history filled.fillings k asks
 
 -- how a text is printed in which asks are answered: all of it, or a prefix; memory may be wanting where there are asks
-abbrev pub ArePrinted : List Ask → Option Refusal → Option (List ℕ) → Option (List ℕ) → List ℕ → Type 0
-ArePrinted asks None before now text = Appends before now text
-ArePrinted asks (Some WriteFault) before now text = WritesSome before now text
-ArePrinted asks (Some OutOfMemory) before now text = (0 < length asks) × WritesSome before now text
-ArePrinted asks (Some other) before now text = ⊥
+abbrev pub ArePrinted : List Ask → Option Refusal → OutputState → OutputState → List ℕ → Type 0
+ArePrinted asks None before after text = IsWritten before after text
+ArePrinted asks (Some WriteFault) before after text = IsCutOff before after text
+ArePrinted asks (Some OutOfMemory) before after text = (0 < length asks) × IsPartPrinted before after text
+ArePrinted asks (Some other) before after text = ⊥

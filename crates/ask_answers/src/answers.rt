@@ -1,23 +1,22 @@
 //! A sheet of asks: found in an archive's store, and answered over its history and its fills.
 
-ghost use Rattle.std.specs.Prelude.{◌≡◌, ◌≤◌, ◌<◌, ◌++◌, [], OnOk, OnErr, IfOk, IfErr, length};
-ghost use Rattle.std.specs.Result.{result_err};
-ghost use Rattle.outer_traits.specs.Outside.{WritesSome};
+ghost use Rattle.std.specs.Prelude.{◌≡◌, ◌<◌, ◌++◌, [], OnErr, IfOk, IfErr, length};
+ghost use Rattle.history_items.specs.Databases.{database_in};
 ghost use Rattle.store_fills.specs.LastFills.{fillings_in};
 ghost use Rattle.asks.specs.declared.ask.Ask.TheVariants.{Values};
 ghost use Rattle.archive_store.specs.Finding.{IsRequestFound};
-ghost use Rattle.archive_store.specs.StoreView.{filled_of};
+ghost use Rattle.archive_store.specs.StoreView.{archive_of, filled_of};
 ghost use Rattle.retrieval.specs.FilledAnswer.{IsFilledAnswer};
 ghost use Rattle.retrieval.specs.FoundAsks.{AreFound, IsAskFound, ask_found, asks_found};
-ghost use Rattle.dump_lines.specs.Output.{IsBuffered, PrintCounted};
+ghost use Rattle.line_buffer.specs.Printed.{PrintsText};
 ghost use Rattle.ask_answers.specs.Asks.{AreAnswerable, AreRefused, archive_ask_text, archive_asks_text};
-ghost use Rattle.dump_lines.specs.LineRoom.{HasLineRoom};
+ghost use Rattle.line_buffer.specs.LineRoom.{HasLineRoom};
 
 use arch_disk::Disk;
 use arch_types::steps::Steps;
 use archive_store::{FoundRequest, Store};
 use asks::{Answer, Asks};
-use dump_lines::line_buffer::LineBuffer;
+use line_buffer::LineBuffer;
 use outer_traits::print_fault::PrintFault;
 use outer_traits::sink::Sink;
 use refusals::Refusal;
@@ -35,9 +34,10 @@ pub fn check_asks<D: Disk>(
     store: &Store<D>,
     sheet: Result<Asks, Refusal>,
 ) -> Result<FoundAsks, Refusal>
-    ensures found { IfOk result (AreFound store.now.head) }
-    ensures answerable { IfOk result (λ asks. AreAnswerable store.now.head sheet (asks_found asks)) }
-    ensures refused { IfErr result (AreRefused store.now.head sheet) }
+    ensures found { IfOk result (AreFound store.now.head store.now.history) }
+    ensures answerable { IfOk result (λ asks.
+        AreAnswerable (archive_of store.now) sheet (asks_found asks)) }
+    ensures refused { IfErr result (AreRefused (archive_of store.now) sheet) }
 {
     match sheet {
         Ok(asks) => find_asks(alloc, store, asks),
@@ -53,16 +53,11 @@ pub fn print_asks<D: Disk, K: Sink>(
     line_buffer: &mut LineBuffer,
     sink: &mut K,
 ) -> Result<(), PrintFault>
-    requires found { AreFound store.old.head asks.now }
+    requires found { AreFound store.old.head store.old.history asks.now }
     requires empty { line_buffer.old ≡ [] }
-    ensures buffered { OnOk result (IsBuffered (K.state sink.old).written (K.state sink.new).written
-        (archive_asks_text (filled_of store.old) 1 (asks_found asks.now)) line_buffer.new) }
-    ensures room { OnOk result (HasLineRoom line_buffer.new) }
-    ensures some { OnErr result (WritesSome (K.state sink.old).written (K.state sink.new).written
-        (archive_asks_text (filled_of store.old) 1 (asks_found asks.now))) }
+    ensures printed { PrintsText result (K.state sink.old) (K.state sink.new)
+        (archive_asks_text (filled_of store.old) 1 (asks_found asks.now)) line_buffer.new }
     ensures asked { OnErr result (0 < length (asks_found asks.now)) }
-    ensures later { (K.state sink.old).faults ≤ (K.state sink.new).faults }
-    ensures counted { PrintCounted (result_err result) (K.state sink.old).faults (K.state sink.new).faults }
     ensures same { store.new ≡ store.old }
 {
     for (i, ask) in asks.iter().enumerate() {
@@ -80,15 +75,10 @@ fn print_ask<D: Disk, K: Sink>(
     line_buffer: &mut LineBuffer,
     sink: &mut K,
 ) -> Result<(), PrintFault>
-    requires found { IsAskFound store.old.head ask.now }
+    requires found { IsAskFound store.old.head store.old.history ask.now }
     requires room { HasLineRoom line_buffer.old }
-    ensures buffered { OnOk result (IsBuffered (K.state sink.old).written (K.state sink.new).written
-        (line_buffer.old ++ archive_ask_text (filled_of store.old) k (ask_found ask.now)) line_buffer.new) }
-    ensures room { OnOk result (HasLineRoom line_buffer.new) }
-    ensures some { OnErr result (WritesSome (K.state sink.old).written (K.state sink.new).written
-        (line_buffer.old ++ archive_ask_text (filled_of store.old) k (ask_found ask.now))) }
-    ensures later { (K.state sink.old).faults ≤ (K.state sink.new).faults }
-    ensures counted { PrintCounted (result_err result) (K.state sink.old).faults (K.state sink.new).faults }
+    ensures printed { PrintsText result (K.state sink.old) (K.state sink.new)
+        (line_buffer.old ++ archive_ask_text (filled_of store.old) k (ask_found ask.now)) line_buffer.new }
     ensures same { store.new ≡ store.old }
 {
     match ask {
@@ -106,16 +96,10 @@ fn print_values<D: Disk, K: Sink>(
     line_buffer: &mut LineBuffer,
     sink: &mut K,
 ) -> Result<(), PrintFault>
-    requires found { IsRequestFound store.old.head.mdb found.now }
+    requires found { IsRequestFound (database_in store.old.head.mdb store.old.history) found.now }
     requires room { HasLineRoom line_buffer.old }
-    ensures buffered { OnOk result (IsBuffered (K.state sink.old).written (K.state sink.new).written
-        (line_buffer.old ++ archive_ask_text (filled_of store.old) k (Values found.now.request))
-        line_buffer.new) }
-    ensures room { OnOk result (HasLineRoom line_buffer.new) }
-    ensures some { OnErr result (WritesSome (K.state sink.old).written (K.state sink.new).written
-        (line_buffer.old ++ archive_ask_text (filled_of store.old) k (Values found.now.request))) }
-    ensures later { (K.state sink.old).faults ≤ (K.state sink.new).faults }
-    ensures counted { PrintCounted (result_err result) (K.state sink.old).faults (K.state sink.new).faults }
+    ensures printed { PrintsText result (K.state sink.old) (K.state sink.new)
+        (line_buffer.old ++ archive_ask_text (filled_of store.old) k (Values found.now.request)) line_buffer.new }
     ensures same { store.new ≡ store.old }
 {
     let answer = answer_of::<D, Brand>(alloc, Blank::new(1), store, found)?;
@@ -130,10 +114,10 @@ fn answer_of<D: Disk, L: Ledger>(
     store: &mut Store<D>,
     found: &FoundRequest,
 ) -> Result<Answer, AllocError>
-    requires found { IsRequestFound store.old.head.mdb found.now }
+    requires found { IsRequestFound (database_in store.old.head.mdb store.old.history) found.now }
     requires blank { (blank.name ≡ L.name) × (blank.parts ≡ L.parts) × (0 < blank.parts) }
-    ensures filled { IfOk result (IsFilledAnswer store.old.head.mdb store.old.exponent store.old.history
-        (fillings_in store.old.filled) found.now.request) }
+    ensures filled { IfOk result (IsFilledAnswer (database_in store.old.head.mdb store.old.history)
+        store.old.exponent store.old.history (fillings_in store.old.filled) found.now.request) }
     ensures same { store.new ≡ store.old }
 {
     let (book, share) = blank.open::<L>();

@@ -1,5 +1,5 @@
 -- How the parts of plans go.
-use Rattle.std.proofs.Common.{◌≡◌, inl, inr, ℕ, ◌≤◌, true, false, List, [], Option, Some, None, refl, sym, ap, append-nil, arith}
+use Rattle.std.proofs.Common.{◌≡◌, inl, inr, ℕ, true, false, List, [], Option, Some, None, refl, sym, ap, append-nil, arith}
 use Rattle.std.specs.Prelude.{IsTrue}
 use Rattle.arch_disk.specs.Disk.{Device, LeavesOnly}
 use Rattle.refusals.specs.declared.refusal.Refusal.{Refusal}
@@ -10,8 +10,8 @@ use Rattle.archive_store.specs.Stands.{StandsFilled}
 use Rattle.disk_journal.specs.Calls.{CountsNeverFall, IsJournalOpenFailed}
 use Rattle.command_plans.specs.Plan.{Interruption, OfMemory, OfInputs, OfDisk, OfOutput, CommandPlan, May, Way, Returned, Stopped, Interrupted, Allows, IsDetermined, IsDue, refusal_at, and_then}
 use Rattle.command_plans.proofs.Plans.{required, gave}
-use Rattle.dump_lines.specs.Output.{Appends}
-use Rattle.command_runs.specs.Finishing.{IsFinished, WritesCounted}
+use Rattle.line_buffer.specs.Output.{Appends}
+use Rattle.command_runs.specs.Finishing.{IsFinished}
 use Rattle.outer_traits.specs.States.{InputsState, OutputState}
 use Rattle.command_plans.specs.Ledger.{UsedDisk}
 use Rattle.command_plans.proofs.Ledgers.{risen_counted}
@@ -35,24 +35,24 @@ module _ {D : Type 0} (device : Device D) (e : Effects D) where
 
   -- a text was printed
   pub ran_printed : (s : Progress) (text : List ℕ) (refusal : Option Refusal) → s.failed OfOutput ≡ false → s.failed OfDisk ≡ false →
-      IsFinished refusal e.output.written e.output'.written text → e.output.faults ≤ e.output'.faults → WritesCounted refusal e.output.faults e.output'.faults →
+      IsFinished refusal e.output e.output' text →
       e.report ≡ record s.report { refusal = refusal } → HasDiskOutcome device e.disk e.disk' false s.disk → Ran device (printing_plan s text) e
-  ran_printed s text None no_output no_disk text_is later counted report disk = record {
+  ran_printed s text None no_output no_disk written report disk = record {
     way = Stopped (record s { text = text; is_whole = true }) None;
     allows = inr refl;
-    did = record { report = report; printed = text_is; output = record { counted = rw no_output counted }; disk = rw no_disk disk };
+    did = record { report = report; printed = written.all; output = record { counted = rw no_output written.no_fault }; disk = rw no_disk disk };
   }
-  ran_printed s text (Some WriteFault) no_output no_disk text_is later counted report disk = record {
+  ran_printed s text (Some WriteFault) no_output no_disk cut report disk = record {
     way = Interrupted (record s { text = text; is_whole = false }) OfOutput;
     allows = inl refl;
     did = record {
       report = report;
-      printed = text_is;
-      output = record { counted = risen_counted e.output.faults e.output'.faults later counted };
+      printed = cut.some;
+      output = record { counted = risen_counted e.output.faults e.output'.faults cut.later cut.failed };
       disk = rw no_disk disk;
     };
   }
-  ran_printed s text (Some other) no_output no_disk text_is later counted report disk = absurd text_is
+  ran_printed s text (Some other) no_output no_disk never report disk = absurd never
 
   -- the refusal at the end of the way is that of the report
   pub ended_is : (way : Way Progress ⊥) → HasEffects device e way → refusal_at way ≡ e.report.refusal

@@ -1,8 +1,8 @@
 -- How the rest of a dump is answered.
-use Rattle.std.proofs.Common.{◌≡◌, ℕ, ◌-◌, List, [], ◌∷◌, length, Some, arith, ◌+◌, ◌≤◌, drop, Bool, true, false, refl}
+use Rattle.std.proofs.Common.{◌≡◌, ℕ, ◌-◌, List, [], ◌∷◌, length, Some, arith, ◌+◌, ◌≤◌, drop, Bool, true, false, refl, ap}
 use Rattle.refusals.specs.declared.refusal.Refusal.TheVariants.{BadPacket}
 use Rattle.refusals.specs.declared.refusal.BadKind.{BadKind}
-use Rattle.command_runs.specs.DumpRest.{ending_of_rest, IsBadRest}
+use Rattle.command_runs.specs.DumpRest.{ending_of, ending_of_rest, IsBadRest}
 use Rattle.std.specs.Prelude.{nat_lt, if◌then◌else◌}
 use Rattle.std.proofs.lemmas.List.{length-drop}
 use Rattle.refusals.specs.declared.refusal.BadKind.TheVariants as bad
@@ -43,3 +43,13 @@ bad_rest dump (octet ∷ rest) at kind len e = (len, kind_cases (nat_lt octet 32
 -- where a rest begins, and its length
 pub end_is : (dump : List ℕ) (at : ℕ) → at ≤ length dump → at + length (drop at dump) ≡ length dump
 end_is dump at within = let len = length-drop at dump in omega (arith, len, within)
+
+-- the rest of a dump that begins at an octet tells why the dump ends there
+pub ending_same : (dump rest : List ℕ) (at : ℕ) → at + length rest ≡ length dump → ending_of (why_of rest) at ≡ ending_of_rest dump rest
+ending_same dump [] at len = refl
+ending_same dump (octet ∷ rest) at len = go (nat_lt octet 32) (omega (arith, len))
+  where
+    go : (b : Bool) → at ≡ length dump - length (octet ∷ rest)
+        → ending_of (if b then why.Truncated else why.Version) at ≡ Some (BadPacket (length dump - length (octet ∷ rest)) (if b then bad.Truncated else bad.Version))
+    go true place = ap (λ (n : ℕ). Some (BadPacket n bad.Truncated)) place
+    go false place = ap (λ (n : ℕ). Some (BadPacket n bad.Version)) place

@@ -1,11 +1,12 @@
 -- The disk of a call that fills what is late.
-use Rattle.std.proofs.Common.{◌≡◌, ◌⊎◌, inl, inr, ℕ, ◌≤◌, true, false, List, [], ◌∷◌, Bool, Option, Some, None, refl, sym, ◌∙◌, ap, subst, arith}
-use Rattle.std.specs.Prelude.{IsTrue, filter, fold, if◌then◌else◌}
+use Rattle.std.proofs.Common.{◌≡◌, ◌⊎◌, inl, inr, ℕ, ◌≤◌, true, false, List, [], ◌∷◌, ◌++◌, Bool, Option, Some, None, refl, sym, ◌∙◌, ap, subst, arith}
+use Rattle.std.specs.Prelude.{◌≢◌, IsTrue, IfErr, IfOk, Result, Ok, Err, filter, fold, if◌then◌else◌}
 use Rattle.std.specs.List.{AllByRecursion}
 use Rattle.std.specs.Option.{option_map_or}
 use Rattle.std.proofs.Math.Path.{fun_ext}
 use Rattle.arch_disk.specs.Image.{Image}
-use Rattle.arch_disk.specs.Disk.{Device, raised}
+use mathlib.Core.List.{IsPrefix}
+use Rattle.arch_disk.specs.Disk.{Device, LeavesOnly, raised}
 use Rattle.intervals.specs.declared.interval.Interval.{Interval}
 use Rattle.history_items.specs.declared.fills.Addition.TheVariants as additions
 use Rattle.history_items.specs.declared.fills.Fill.{Fill}
@@ -17,22 +18,31 @@ use Rattle.interval_walks.proofs.Counts.{none_late}
 use Rattle.late_marks.specs.Mark.{is_late_by}
 use Rattle.store_fills.specs.Faults.{IsDone, faults_in}
 use Rattle.store_fills.proofs.Faults.{Rising-in, pending_fault_of-in, rows_of_faults-in, unacknowledged-in}
-use Rattle.store_fills.specs.LastFills.{fillings_in}
+use Rattle.store_fills.specs.LastFills.{PlacedFills, fillings_in}
 use Rattle.store_fills.specs.Sound.{base_of_filling}
 use Rattle.archive_store.specs.declared.head.Head.{Head}
 use Rattle.archive_store.specs.Entries.{FilledArchive, archive, filled_archive}
-use Rattle.archive_store.specs.Stands.{StandsFor}
+use Rattle.archive_store.specs.Stands.{StandsFilled, StandsFor}
 use Rattle.archive_store.specs.StoreView.{CrashInvariant, FaultInvariant, IsKeptWithFills, StoreView, archive_of, filled_of}
 use Rattle.archive_store.proofs.PlainLog.{HoldsNoRows, kept_rows}
-use Rattle.refusals.specs.declared.refusal.Refusal.TheVariants.{DiskFault}
-use Rattle.load_session.specs.Session.{OneOrTwo}
+use Rattle.refusals.specs.declared.refusal.Refusal.{Refusal}
+use Rattle.refusals.specs.declared.refusal.Refusal.TheVariants.{DiskFault, Limit, NeedsReopen, OutOfMemory}
+use Rattle.arch_types.specs.declared.row.Row.{Row}
+use Rattle.history_items.specs.declared.fills.Addition.{Addition}
+use Rattle.history_items.specs.declared.items.Item.{Item}
+use Rattle.history_items.specs.Items.{items_of}
+use Rattle.archive_store.specs.Unacknowledged.{with_rows}
+use Rattle.load_session.specs.During.{IsDuring}
+use Rattle.load_session.specs.Filling.{AllLateFilled, IsFillFailed, IsFilledOn, IsFillingRefusal, IsUnfailed}
+use Rattle.command_runs.specs.Healing.{IsHealed, IsTakenBack, OneOrTwo}
+use Rattle.command_runs.proofs.Healed.{more_faults, taken_back}
 use Rattle.command_plans.specs.Ledger.{UsedDisk, UsedWithoutFailedWrite}
-use Rattle.command_runs.specs.Command.{AllFilled, Extended, FillingFailed, HasDiskOutcome}
+use Rattle.command_runs.specs.Command.{AllFilled, Extended, ExtensionFailed, FillingFailed, HasDiskOutcome}
 use Rattle.command_runs.specs.Durable.{FailedAtMostOnce, IsDurableAs, IsDurableWithFills}
 use Rattle.archive_store.specs.AddedFills.{AddsWholeFills}
-use Rattle.command_runs.specs.Extension.{IsDuring, KeepsFills}
+use Rattle.command_runs.specs.Extension.{KeepsFills, batch_left}
 use Rattle.command_runs.specs.ReadOnly.{IsOpenedThen}
-use Rattle.command_runs.proofs.During.{IsOpened, load_images}
+use Rattle.command_runs.proofs.During.{IsOpened, failed_images, left, load_images}
 use Rattle.archive_store.specs.LateFills.{late_in_archive}
 
 -- ---- a store that was opened
@@ -51,6 +61,28 @@ idle_from j (Fault count wrote unacknowledged ∷ fills) all o none = absurd all
 -- has no flight
 pub idle_done : (fills : List Fill) → AllByRecursion IsDone fills → (j : Interval) → in_flight j fills ≡ None
 idle_done fills all j = idle_from j fills all None refl
+
+-- and none behind faults
+faults_idle : (j : Interval) (fills : List Fill) → (o : Option ℕ) → o ≡ None → fold (flight_after j) o (faults_in fills) ≡ None
+faults_idle j [] o none = none
+faults_idle j (Begun i b ∷ fills) o none = faults_idle j fills o none
+faults_idle j (Done i b ∷ fills) o none = faults_idle j fills o none
+faults_idle j (Freed i ∷ fills) o none = faults_idle j fills o none
+faults_idle j (Fault count wrote unacknowledged ∷ fills) o none = faults_idle j fills o none
+
+behind_from : (j : Interval) (fills more : List Fill) → AllByRecursion IsDone fills → (o : Option ℕ) → o ≡ None → fold (flight_after j) o (fills ++ faults_in more) ≡ None
+behind_from j [] more all o none = faults_idle j more o none
+behind_from j (Begun i b ∷ fills) more all o none = absurd all.0
+behind_from j (Done i b ∷ fills) more all o none = behind_from j fills more all.1 (if is_same j i then None else o) (go (is_same j i))
+  where
+    go : (t : Bool) → (if t then None else o) ≡ None
+    go true = refl
+    go false = none
+behind_from j (Freed i ∷ fills) more all o none = absurd all.0
+behind_from j (Fault count wrote unacknowledged ∷ fills) more all o none = absurd all.0
+
+pub idle_behind : (fills more : List Fill) → AllByRecursion IsDone fills → (j : Interval) → in_flight j (fills ++ faults_in more) ≡ None
+idle_behind fills more all j = behind_from j fills more all None refl
 
 -- ---- late intervals by the fill list are those by the fills
 
@@ -79,7 +111,7 @@ module _ {D : Type 0} (device : Device D) (disk : D) (old new : StoreView D) (he
   no_failed_write none = pending_fault_of-in new.fills ∙ ap pending_fault_of none
 
   images : rows_of_faults new.fills ≡ [] → IsTrue device.is_transparent → IsOpenedThen device disk new.disk (IsDuring (archive_of old) new.history [])
-  images none known = load_images device disk old new (opened known) [] none head exponent opening (keeps known)
+  images none known = load_images device disk old new (opened known) opening (keeps known) none head exponent
 
   images_still : faults_in new.fills ≡ [] → IsTrue device.is_transparent → IsOpenedThen device disk new.disk (IsDuring (archive_of old) new.history [])
   images_still none = images (rows_of_faults-in new.fills ∙ ap rows_of_faults none)
@@ -112,34 +144,63 @@ module _ {D : Type 0} (device : Device D) (disk : D) (old new : StoreView D) (he
       subst (λ (e : ℕ). IsDurableAs device new.disk old.head e new.history) exponent
       (subst (λ (h : Head). IsDurableAs device new.disk h new.exponent new.history) head (record { reads = now (device.reads new.disk) (device.reads_as_image new.disk known); now = now }))
 
-  used_failed : raised (device.fault_count disk) ≤ device.fault_count new.disk → OneOrTwo (Some DiskFault) (device.failed_writes disk) (device.failed_writes new.disk)
-      → UsedDisk device disk new.disk true 1 2
+  used_failed : raised (device.fault_count disk) ≤ device.fault_count new.disk → OneOrTwo (device.failed_writes disk) (device.failed_writes new.disk) → UsedDisk device disk new.disk true 1 2
   used_failed rose (inl one) = record { faults = rose; writes = (1, omega arith, omega arith, one) }
   used_failed rose (inr two) = record { faults = rose; writes = (2, omega arith, omega arith, two) }
 
-  pub fill_has_failed : (count : ℕ) (wrote : Bool) (i : Interval) (base : ℕ) → faults_in new.fills ≡ Fault count wrote (additions.Fill i base) ∷ [] → (wrote ≡ false) ⊎ (raised (raised (device.fault_count new.opened)) ≤ device.fault_count new.disk)
-      → OneOrTwo (Some DiskFault) (device.failed_writes disk) (device.failed_writes new.disk) → HasDiskOutcome device disk new.disk true (FillingFailed (filled_of old) new.history)
-  fill_has_failed count wrote i base one tried writes =
-      let rising = subst (λ (fills : List Fill). Rising (above (device.fault_count new.opened)) (device.fault_count new.disk) fills) one (Rising-in new.fills (above (device.fault_count new.opened)) (device.fault_count new.disk) faults.rising) in
-      let low = rising.0 in
-      let high = rising.1 in
-      let later = faults.later in
-      let none = no_rows count wrote i base in (
-        used_failed (omega (arith, low, high, later, first, ap device.fault_count opening)) writes,
+  module _ (addition : Addition) (failed : IsTakenBack device disk new addition) where
+    used_by_failure : UsedDisk device disk new.disk true 1 2
+    used_by_failure =
+        let rose = more_faults device new failed.count failed.wrote addition faults failed.fault in
+        used_failed (omega (arith, rose, first, ap device.fault_count opening)) failed.writes
+
+    -- where the disk failed once the write was taken back
+    healed_once : FailedAtMostOnce device disk new.disk → pending_fault_of new.fills ≡ None
+    healed_once once =
+        let back : faults_in new.fills ≡ Fault failed.count false addition ∷ [] =
+        subst (λ (b : Bool). faults_in new.fills ≡ Fault failed.count b addition ∷ []) (taken_back_once failed.wrote failed.tried once) failed.fault in
+        pending_fault_of-in new.fills ∙ ap pending_fault_of back
+
+  pub fill_has_failed : (i : Interval) (base : ℕ) → IsTakenBack device disk new (additions.Fill i base) → HasDiskOutcome device disk new.disk true (FillingFailed (filled_of old) new.history)
+  fill_has_failed i base failed =
+      let none = no_rows failed.count failed.wrote i base in (
+        used_by_failure (additions.Fill i base) failed,
         λ known. record {
           stands = (opened known).stands;
-          images = images (rows_of_faults-in new.fills ∙ ap rows_of_faults one ∙ none.0) known;
-          durable = durable_rows (subst HoldsNoRows (sym (unacknowledged-in new.fills ∙ ap unacknowledged_in one)) none.1) known;
-          healed = λ once.
-              let back : faults_in new.fills ≡ Fault count false (additions.Fill i base) ∷ [] = subst (λ (b : Bool). faults_in new.fills ≡ Fault count b (additions.Fill i base) ∷ []) (taken_back_once wrote tried once) one in
-              keeps_fills known (pending_fault_of-in new.fills ∙ ap pending_fault_of back);
+          images = images (rows_of_faults-in new.fills ∙ ap rows_of_faults failed.fault ∙ none.0) known;
+          durable = durable_rows (subst HoldsNoRows (sym (unacknowledged-in new.fills ∙ ap unacknowledged_in failed.fault)) none.1) known;
+          healed = λ once. keeps_fills known (healed_once (additions.Fill i base) failed once);
         },
       )
 
+  -- a batch did
+  as_old : filled_of new ≡ filled_archive old.head old.exponent new.history (fillings_in new.filled)
+  as_old =
+      ap (λ (h : Head). filled_archive h new.exponent new.history (fillings_in new.filled)) head
+      ∙ ap (λ (e : ℕ). filled_archive old.head e new.history (fillings_in new.filled)) exponent
+
+  pub batch_has_failed : (rows : List Row) → IsTakenBack device disk new (additions.Rows rows)
+      → (IsTrue device.is_transparent → IsOpenedThen device disk new.disk (IsDuring (archive_of old) new.history (batch_left rows)))
+      → HasDiskOutcome device disk new.disk true (ExtensionFailed (filled_of old) new.history rows)
+  batch_has_failed rows failed during = (
+    used_by_failure (additions.Rows rows) failed,
+    λ known. record {
+      stands = (opened known).stands;
+      images = during known;
+      fillings = fillings_in new.filled;
+      adds = adds;
+      now = λ c leaves. elim (left device new failed.count failed.wrote rows (keeps known) (kept known) failed.fault c leaves) [
+        | inl stands ↦ inl (subst (StandsFilled c) as_old stands)
+        | inr more ↦ inr (subst (StandsFilled c) (ap (λ (a : FilledArchive). with_rows a (items_of rows)) as_old) more)
+      ];
+      durable = λ once. with_fills known (healed_once (additions.Rows rows) failed once);
+    },
+  )
+
   -- no interval is late
-  module _ (none : (i : Interval) → IsLate new.exponent i new.history new.fills → ⊥) (bases : (i : Interval) → base_in i new.fills ≡ base_of_filling (fillings_in new.filled) i) where
-    none_by_fills : late_in_archive (filled_archive old.head old.exponent new.history (fillings_in new.filled)) ≡ []
-    none_by_fills = sym (late_as_filled (filled_archive old.head old.exponent new.history (fillings_in new.filled)) new.fills bases) ∙ none_late old.exponent new.history new.fills (subst (λ (e : ℕ). (i : Interval) → IsLate e i new.history new.fills → ⊥) exponent none)
+  module _ (none : (i : Interval) → IsLate new.exponent i new.history new.fills → ⊥) (bases : IsTrue device.is_transparent → (i : Interval) → base_in i new.fills ≡ base_of_filling (fillings_in new.filled) i) where
+    none_by_fills : IsTrue device.is_transparent → late_in_archive (filled_archive old.head old.exponent new.history (fillings_in new.filled)) ≡ []
+    none_by_fills known = sym (late_as_filled (filled_archive old.head old.exponent new.history (fillings_in new.filled)) new.fills (bases known)) ∙ none_late old.exponent new.history new.fills (subst (λ (e : ℕ). (i : Interval) → IsLate e i new.history new.fills → ⊥) exponent none)
 
     pub all_are_filled : faults_in new.fills ≡ [] → device.failed_writes new.disk ≡ device.failed_writes disk → HasDiskOutcome device disk new.disk false (AllFilled (filled_of old) new.history)
     all_are_filled no_fault writes = (
@@ -150,6 +211,101 @@ module _ {D : Type 0} (device : Device D) (disk : D) (old new : StoreView D) (he
           images = images_still no_fault known;
           kept = record { fillings = fillings_in new.filled; adds = adds; durable = with_fills known (no_failed_write no_fault) };
         };
-        none_late = none_by_fills;
+        none_late = none_by_fills known;
       },
     )
+
+-- ---- a store behind fills, and a failed write that was taken back
+
+module _ {D : Type 0} (device : Device D) (disk : D) (old between mid new : StoreView D) (opened : IsTrue device.is_transparent → IsOpened device disk old) (first : device.fault_count disk ≤ device.fault_count old.opened)
+    (head : between.head ≡ old.head) (exponent : between.exponent ≡ old.exponent) (opening : between.opened ≡ old.opened) (filled : between.filled ≡ old.filled)
+    (filled_on : IsFilledOn between mid) (healed : IsHealed device mid new)
+    (keeps : IsTrue device.is_transparent → CrashInvariant device new) (faults : FaultInvariant device new)
+    (kept : IsTrue device.is_transparent → pending_fault_of new.fills ≡ None → IsKeptWithFills device new) where
+  pub new_head : new.head ≡ old.head
+  new_head = ap (λ (s : StoreView D). s.head) healed.left ∙ filled_on.head ∙ head
+
+  pub new_exponent : new.exponent ≡ old.exponent
+  new_exponent = ap (λ (s : StoreView D). s.exponent) healed.left ∙ filled_on.exponent ∙ exponent
+
+  new_opening : new.opened ≡ old.opened
+  new_opening = ap (λ (s : StoreView D). s.opened) healed.left ∙ filled_on.opened ∙ opening
+
+  pub new_rows : new.history ≡ between.history
+  new_rows = ap (λ (s : StoreView D). s.history) healed.left ∙ filled_on.rows
+
+  -- what was added to the fills since the opening
+  pub new_fills : AddsWholeFills old.head old.exponent new.history (fillings_in old.filled) (fillings_in new.filled)
+  new_fills =
+      subst (λ (h : Head). AddsWholeFills h old.exponent new.history (fillings_in old.filled) (fillings_in new.filled)) head
+      (subst (λ (e : ℕ). AddsWholeFills between.head e new.history (fillings_in old.filled) (fillings_in new.filled)) exponent
+      (subst (λ (h : List Item). AddsWholeFills between.head between.exponent h (fillings_in old.filled) (fillings_in new.filled)) (sym new_rows)
+      (subst (λ (f : PlacedFills). AddsWholeFills between.head between.exponent between.history (fillings_in f) (fillings_in new.filled)) filled
+      (subst (λ (f : PlacedFills). AddsWholeFills between.head between.exponent between.history (fillings_in between.filled) (fillings_in f)) (sym (ap (λ (s : StoreView D). s.filled) healed.left)) filled_on.sets))))
+
+  -- no call of the disk had failed before the fills
+  module _ (no_fault : faults_in between.fills ≡ []) (writes : device.failed_writes between.disk ≡ device.failed_writes disk) where
+    pub untouched : IsUnfailed device between mid → new ≡ mid
+    untouched unfailed = healed.same (pending_fault_of-in mid.fills ∙ ap pending_fault_of (unfailed.same_faults ∙ no_fault))
+
+    no_faults : IsUnfailed device between mid → faults_in new.fills ≡ []
+    no_faults unfailed = ap (λ (s : StoreView D). faults_in s.fills) (untouched unfailed) ∙ unfailed.same_faults ∙ no_fault
+
+    same_writes : IsUnfailed device between mid → device.failed_writes new.disk ≡ device.failed_writes disk
+    same_writes unfailed = ap (λ (s : StoreView D). device.failed_writes s.disk) (untouched unfailed) ∙ unfailed.no_failed_write ∙ writes
+
+    -- and none failed at a fill,
+    pub unfailed_disk : IsUnfailed device between mid → HasDiskOutcome device disk new.disk false (Extended (filled_of old) between.history)
+    unfailed_disk unfailed =
+        subst (λ (h : List Item). HasDiskOutcome device disk new.disk false (Extended (filled_of old) h)) new_rows
+        (still_extended device disk old new new_head new_exponent new_opening opened first keeps faults kept new_fills (no_faults unfailed) (same_writes unfailed))
+
+    -- or one did,
+    pub failed_disk : IsFillFailed device between mid → HasDiskOutcome device disk new.disk true (FillingFailed (filled_of old) between.history)
+    failed_disk failed =
+        let fill = additions.Fill failed.interval failed.base in
+        let back = taken_back device disk mid new fill failed.count healed (failed.fault ∙ ap (λ (l : List Fill). l ++ Fault failed.count true fill ∷ []) no_fault) (failed.wrote ∙ ap raised writes) in
+        subst (λ (h : List Item). HasDiskOutcome device disk new.disk true (FillingFailed (filled_of old) h)) new_rows
+        (fill_has_failed device disk old new new_head new_exponent new_opening opened first keeps faults kept new_fills failed.interval failed.base back)
+
+    -- or each late interval was filled
+    pub filled_disk : (late : ℕ) → AllLateFilled device between mid late → (IsTrue device.is_transparent → (i : Interval) → base_in i new.fills ≡ base_of_filling (fillings_in new.filled) i)
+        → HasDiskOutcome device disk new.disk false (AllFilled (filled_of old) between.history)
+    filled_disk late done bases =
+        let none = subst (λ (s : StoreView D). (i : Interval) → IsLate s.exponent i s.history s.fills → ⊥) (sym (untouched done.unfailed)) done.none_late in
+        subst (λ (h : List Item). HasDiskOutcome device disk new.disk false (AllFilled (filled_of old) h)) new_rows
+        (all_are_filled device disk old new new_head new_exponent new_opening opened first keeps faults kept new_fills none bases (no_faults done.unfailed) (same_writes done.unfailed))
+
+  -- the disk had failed at the rows of a batch, so no fill came
+  module _ (rows : List Row) (count : ℕ) (fault : faults_in between.fills ≡ Fault count true (additions.Rows rows) ∷ []) (wrote : device.failed_writes between.disk ≡ raised (device.failed_writes disk)) where
+    unhealed : pending_fault_of between.fills ≢ None
+    unhealed none = let pending = pending_fault_of-in between.fills ∙ ap pending_fault_of fault in cc (pending, none)
+
+    same_faults : (r : Result ℕ Refusal) → IfOk r (AllLateFilled device between mid) → IfErr r (IsFillingRefusal device between mid) → faults_in mid.fills ≡ Fault count true (additions.Rows rows) ∷ []
+    same_faults (Ok late) done refused = done.unfailed.same_faults ∙ fault
+    same_faults (Err OutOfMemory) done refused = refused.same_faults ∙ fault
+    same_faults (Err (NeedsReopen faults)) done refused = refused.1.same_faults ∙ fault
+    same_faults (Err (Limit which number)) done refused = refused.1.same_faults ∙ fault
+    same_faults (Err DiskFault) done refused = absurd (unhealed refused.healed)
+    same_faults (Err other) done refused = absurd refused
+
+    as_mid : filled_of mid ≡ filled_archive old.head old.exponent between.history (fillings_in mid.filled)
+    as_mid =
+        ap (λ (h : Head). filled_archive h mid.exponent mid.history (fillings_in mid.filled)) (filled_on.head ∙ head)
+        ∙ ap (λ (e : ℕ). filled_archive old.head e mid.history (fillings_in mid.filled)) (filled_on.exponent ∙ exponent)
+        ∙ ap (λ (h : List Item). filled_archive old.head old.exponent h (fillings_in mid.filled)) filled_on.rows
+
+    pub batch_failed_disk : (r : Result ℕ Refusal) → IfOk r (AllLateFilled device between mid) → IfErr r (IsFillingRefusal device between mid)
+        → (IsTrue device.is_transparent → LeavesOnly device old.opened old.disk (λ c. StandsFilled c (filled_of old))) → IsPrefix old.history between.history
+        → (IsTrue device.is_transparent → LeavesOnly device old.disk between.disk (IsDuring (archive_of old) between.history (rows_of_faults between.fills)))
+        → HasDiskOutcome device disk new.disk true (ExtensionFailed (filled_of old) between.history rows)
+    batch_failed_disk r done refused since grew session =
+        let one = same_faults r done refused in
+        let back = taken_back device disk mid new (additions.Rows rows) count healed one (ap device.failed_writes (filled_on.no_call unhealed) ∙ wrote) in
+        let held : rows_of_faults between.fills ≡ batch_left rows = rows_of_faults-in between.fills ∙ ap rows_of_faults fault in
+        let pending : unacknowledged_in mid.fills ≡ Some (additions.Rows rows) = unacknowledged-in mid.fills ∙ ap unacknowledged_in one in
+        let during = λ (known : IsTrue device.is_transparent).
+        subst (λ (h : List Item). IsOpenedThen device disk new.disk (IsDuring (archive_of old) h (batch_left rows))) (sym new_rows)
+        (failed_images device disk old new (opened known) new_opening (keeps known) between mid rows (since known) grew (session known) held (filled_on.no_call unhealed) as_mid pending (healed.crash known)) in
+        subst (λ (h : List Item). HasDiskOutcome device disk new.disk true (ExtensionFailed (filled_of old) h rows)) new_rows
+        (batch_has_failed device disk old new new_head new_exponent new_opening opened first keeps faults kept new_fills rows back during)

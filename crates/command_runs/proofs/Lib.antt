@@ -3,6 +3,7 @@ pub mod DumpRest
 pub mod During
 pub mod FilledDisks
 pub mod FillingPlan
+pub mod Healed
 pub mod Moments
 pub mod Openings
 pub mod OverInputs

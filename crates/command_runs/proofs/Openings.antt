@@ -1,14 +1,23 @@
 -- What an opening finds, where the disk is transparent.
 use Rattle.std.proofs.Common.{◌≡◌, ◌∙◌, ℕ, refl, sym, ap}
 use Rattle.std.specs.Prelude.{IsTrue}
-use Rattle.arch_disk.specs.Disk.{Device}
+use Rattle.arch_disk.specs.Disk.{Device, LeavesOnly}
 use Rattle.arch_disk.specs.Image.{Image}
+use Rattle.disk_journal.specs.Calls.{CountsNeverFall}
+use Rattle.archive_store.specs.Calls.{IsStoreOpened}
+use Rattle.archive_store.specs.StoreView.{StoreView}
 use Rattle.archive_store.specs.Entries.{FilledArchive}
 use Rattle.archive_store.specs.Stands.{StandsFilled, StandsFor}
 use Rattle.archive_store.proofs.Exact.{damaged_once, filled_not_damaged, filled_once, none_not_damaged, none_not_stands}
 use Rattle.command_plans.specs.Plan.{EachEnd, IsDetermined}
 use Rattle.command_runs.specs.Command.{OpeningResult, NoneFound, DamageFound, ArchiveFound, IsOpeningResult, opening_plan, after_opening}
+use Rattle.command_runs.specs.Opened.{IsOpenedOn}
 use Rattle.command_runs.proofs.OverInputs.{HasRead}
+
+-- what `Store::open` says of a store
+pub opened_on : {D : Type 0} {device : Device D} {disk : D} {store : StoreView D} → IsStoreOpened device disk store → device.reads store.disk ≡ device.reads disk
+    → LeavesOnly device disk store.opened (device.images disk) → CountsNeverFall device disk store.opened → IsOpenedOn device disk store
+opened_on opened reads crash counts = record { opened = opened; reads = reads; crash = crash; counts = counts }
 
 -- with its fills an archive is there, and so without
 pub plain_stands : (image : Image) (filled : FilledArchive) → StandsFilled image filled → StandsFor image filled.plain

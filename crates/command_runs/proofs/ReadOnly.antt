@@ -1,5 +1,5 @@
 -- The disk of a call that asks an archive.
-use Rattle.std.proofs.Common.{◌≡◌, ◌∙◌, false, List, [], ◌∷◌, length, sym, ap, subst, arith}
+use Rattle.std.proofs.Common.{◌≡◌, ◌∙◌, true, false, List, [], ◌∷◌, ◌++◌, length, sym, ap, subst, arith}
 use Rattle.std.specs.Prelude.{IsTrue}
 use Rattle.std.specs.List.{AllByRecursion}
 use Rattle.std.proofs.lemmas.List.{nil_from_length}
@@ -10,13 +10,15 @@ use Rattle.history_items.specs.declared.fills.Fill.{Fill}
 use Rattle.history_items.specs.declared.fills.Fill.TheVariants.{Fault}
 use Rattle.interval_walks.specs.Counts.{late_intervals}
 use Rattle.store_fills.specs.Faults.{IsDone, faults_in}
-use Rattle.store_fills.proofs.Faults.{faults_in-done}
+use Rattle.store_fills.proofs.Faults.{faults_in-done, pending_fault_of-in}
+use Rattle.history_items.specs.Fills.{pending_fault_of}
+use Rattle.command_runs.specs.Healing.{IsHealed}
 use Rattle.archive_store.specs.Calls.{IsStoreOpened}
 use Rattle.archive_store.specs.StoreView.{StoreView, filled_of, CrashInvariant, FaultInvariant}
 use Rattle.archive_store.specs.Stands.{IsSoundImage, StandsFilled}
 use Rattle.disk_journal.specs.Calls.{CountsNeverFall}
 use Rattle.command_runs.specs.Command.{HasDiskOutcome, Opened}
-use Rattle.late_filling.specs.Filling.{IsFillTakenBack}
+use Rattle.load_session.specs.Filling.{IsFillFailed}
 use Rattle.command_runs.specs.ReadOnly.{IsReadOnly}
 use Rattle.archive_store.specs.LateFills.{late_in_archive}
 
@@ -44,6 +46,13 @@ opened_outcome device disk s opened reads handed_in counts keeps faults =
 
 -- ---- filling where no interval is late
 
+-- and nothing was to be taken back
+pub unchanged_by : {D : Type 0} (device : Device D) (s mid new : StoreView D) → faults_in s.fills ≡ [] → (late_intervals s.exponent s.history s.fills ≡ [] → mid ≡ s) → IsHealed device mid new
+    → late_intervals s.exponent s.history s.fills ≡ [] → new ≡ s
+unchanged_by {D = D} device s mid new no_fault unchanged healed none =
+    let same = unchanged none in
+    healed.same (ap (λ (x : StoreView D). pending_fault_of x.fills) same ∙ pending_fault_of-in s.fills ∙ ap pending_fault_of no_fault) ∙ same
+
 -- it left the archive as it was
 pub still_opened : {D : Type 0} (device : Device D) (disk : D) (s new : StoreView D) → IsStoreOpened device disk s → device.reads s.disk ≡ device.reads disk →
     LeavesOnly device disk s.opened (device.images disk) → CountsNeverFall device disk s.opened → (IsTrue device.is_transparent → CrashInvariant device s) → FaultInvariant device s →
@@ -54,8 +63,11 @@ still_opened {D = D} device disk s new opened reads handed_in counts keeps fault
     subst (λ (x : StoreView D). HasDiskOutcome device disk x.disk false (Opened (filled_of s))) (sym same) (opened_outcome device disk s opened reads handed_in counts keeps faults)
 
 -- and no fill failed
-pub none_failed : {D : Type 0} (device : Device D) (s new : StoreView D) → AllByRecursion IsDone s.fills → length (late_intervals s.exponent s.history s.fills) ≡ length (late_in_archive (filled_of s)) →
-    (late_intervals s.exponent s.history s.fills ≡ [] → new ≡ s) → length (late_in_archive (filled_of s)) ≡ 0 → IsFillTakenBack device s new → ⊥
-none_failed {D = D} device s new done as_late unchanged none failed =
-    let same : new ≡ s = unchanged (nil_from_length (late_intervals s.exponent s.history s.fills) (as_late ∙ none)) in
-    let never : ◌≡◌ {A = List Fill} (Fault failed.count failed.wrote (additions.Fill failed.interval failed.base) ∷ []) [] = sym failed.fault ∙ ap (λ (x : StoreView D). faults_in x.fills) same ∙ faults_in-done s.fills done in cc (never)
+pub none_failed : {D : Type 0} (device : Device D) (s mid : StoreView D) → AllByRecursion IsDone s.fills → length (late_intervals s.exponent s.history s.fills) ≡ length (late_in_archive (filled_of s)) →
+    (late_intervals s.exponent s.history s.fills ≡ [] → mid ≡ s) → length (late_in_archive (filled_of s)) ≡ 0 → IsFillFailed device s mid → ⊥
+none_failed {D = D} device s mid done as_late unchanged none failed =
+    let same : mid ≡ s = unchanged (nil_from_length (late_intervals s.exponent s.history s.fills) (as_late ∙ none)) in
+    let empty = faults_in-done s.fills done in
+    let fault = Fault failed.count true (additions.Fill failed.interval failed.base) in
+    let one : faults_in mid.fills ≡ fault ∷ [] = failed.fault ∙ ap (λ (l : List Fill). l ++ fault ∷ []) empty in
+    let never : ◌≡◌ {A = List Fill} (fault ∷ []) [] = sym one ∙ ap (λ (x : StoreView D). faults_in x.fills) same ∙ empty in cc (never)

@@ -9,17 +9,17 @@ use Rattle.disk_journal.specs.Format.{HoldsNone}
 use Rattle.outer_traits.specs.Outside.{WritesSome}
 use Rattle.outer_traits.specs.States.{InputsState, OutputState}
 use Rattle.command_plans.specs.Ledger.{UsedWithoutFailedWrite, UsedDisk, UsedInputs, UsedOutput, WritesFailedAtMost}
-use Rattle.dump_lines.specs.Output.{Appends}
+use Rattle.line_buffer.specs.Output.{Appends}
 use Rattle.command_plans.specs.Plan.{FailedCalls, OfMemory, OfInputs, OfOutput, OfDisk, interruption_refusal, no_failed_calls, with_failed_call, CommandPlan, Return, Stop, May, Question, Way, Returned, Stopped, Interrupted, Allows}
 use Rattle.archive_store.specs.declared.head.Head.{Head}
-use Rattle.history_items.specs.Items.{Item}
+use Rattle.history_items.specs.declared.items.Item.{Item}
 use Rattle.archive_store.specs.Entries.{FilledArchive}
 use Rattle.archive_store.specs.Stands.{StandsFilled, IsArchiveDamagedAt}
 use Rattle.command_runs.specs.declared.report.Report.{Report}
 use Rattle.command_runs.specs.Creation.{IsMade, IsMakingFailed}
 use Rattle.command_runs.specs.ReadOnly.{IsReadAsBefore, IsReadOnly}
 use Rattle.command_runs.specs.Report.{unopened, read_only}
-use Rattle.command_runs.specs.Extension.{IsAllFilled, IsExtended, IsExtendedUnfilled, IsExtensionFailed, IsFillingFailed}
+use Rattle.command_runs.specs.Extension.{IsAllFilled, IsExtended, IsExtensionFailed, IsFillingFailed}
 
 -- ---- what was done
 
@@ -37,10 +37,8 @@ pub data DiskOutcome : Type 0 where
   MakingFailed : Head → DiskOutcome
   -- an archive of this head was made
   Made : Head → DiskOutcome
-  -- this archive was opened, and its history extended to this
+  -- this archive was opened, and its history extended to this; late intervals may have got fills
   Extended : FilledArchive → List Item → DiskOutcome
-  -- it was extended to this, and no interval was filled
-  ExtendedUnfilled : FilledArchive → List Item → DiskOutcome
   -- it was extended to this, and the disk failed as these rows were to stand behind it
   ExtensionFailed : FilledArchive → List Item → List Row → DiskOutcome
   -- it was extended to this, and each late interval was filled
@@ -64,9 +62,6 @@ HasDiskOutcome device old new failed (Made head) =
 HasDiskOutcome device old new failed (Extended before reached) =
     UsedWithoutFailedWrite device old new failed
     × (IsTrue device.is_transparent → IsExtended device old new before reached)
-HasDiskOutcome device old new failed (ExtendedUnfilled before reached) =
-    UsedWithoutFailedWrite device old new failed
-    × (IsTrue device.is_transparent → IsExtendedUnfilled device old new before reached)
 HasDiskOutcome device old new failed (ExtensionFailed before reached rows) =
     UsedDisk device old new failed 1 2
     × (IsTrue device.is_transparent → IsExtensionFailed device old new before reached rows)

@@ -5,6 +5,8 @@ pub mod Durable
 pub mod Extension
 pub mod FillingPlan
 pub mod Finishing
+pub mod Healing
 pub mod Moment
+pub mod Opened
 pub mod ReadOnly
 pub mod Report

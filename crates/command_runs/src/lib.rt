@@ -3,7 +3,8 @@
 //! Stands for: `Progress` and `DiskOutcome` (what was done so far), the parts that the plans of commands are made of, and `Ran`, `RanOver`: a call took a way
 //! that its plan allows, and did what is said where that ended (specs/Command.antt). A disk was only read, made, extended or filled (specs/ReadOnly.antt,
 //! Creation.antt, Extension.antt, Durable.antt, FillingPlan.antt). Called by the crates of commands. What runs here is small: the report and the exit status
-//! (src/report.rt), the end of a text (src/finishing.rt), the refusal of a dump's rest (src/dump_rest.rt).
+//! (src/report.rt), the end of a text (src/finishing.rt), the refusal of a dump's rest (src/dump_rest.rt), and the one attempt to take a failed write back, which
+//! each command makes that writes, behind all that it writes (src/healing.rt).
 //!
 //! A further outcome of a disk is a constructor of `DiskOutcome` and its case in `HasDiskOutcome`; a further field of a report changes specs/Report.antt and
 //! src/report.rt together.
@@ -16,4 +17,5 @@
 
 pub mod dump_rest;
 pub mod finishing;
+pub mod healing;
 pub mod report;

@@ -5,11 +5,15 @@
 //! folder that the environment's `YARCH_HOME` names, or else `yarch`; that it isn't there is met by the first call that wants it.
 #![tactic(auto)]
 
+mod printed;
+
+use crate::printed::PrintedFault;
 use archive_cli::Ended;
 use archive_cli::run::run;
 use outer_real::{RealClock, RealDisk, RealInputs, RealSink, StandardStreams, keep_freed_memory};
-use refusals::{FaultText, Refusal};
+use refusals::Refusal;
 use std::env::{self, VarError};
+use std::io::IsTerminal;
 use std::process::ExitCode;
 
 fn main(rt: HostRuntime) -> ExitCode {
@@ -45,16 +49,25 @@ fn run_command(rt: &HostRuntime) -> ExitCode {
         &mut RealSink::new(rt),
         &mut RealClock::new(rt),
     );
+    let is_busy = disk.is_busy();
     drop(disk);
     if let Some(refusal) = &report.refusal {
-        let _ = eprintln!(rt; "{}", FaultText(refusal));
+        say(rt, refusal, is_busy);
     }
     ExitCode::from(status)
 }
 
+/// Says on standard error why a command was refused, and on a terminal, in a line more, whether another program is why.
+fn say(rt: &HostRuntime, refusal: &Refusal, is_busy: bool) {
+    let _ = eprintln!(rt; "{}", PrintedFault(refusal));
+    if is_busy && matches!(refusal, Refusal::DiskFault) && rt.stderr().is_terminal() {
+        let _ = eprintln!(rt; "another program works on the archive");
+    }
+}
+
 /// Says on standard error why nothing was begun, and gives the status of that.
 fn refused(rt: &HostRuntime, refusal: &Refusal) -> ExitCode {
-    let _ = eprintln!(rt; "{}", FaultText(refusal));
+    say(rt, refusal, false);
     ExitCode::from(refusal.status())
 }
 

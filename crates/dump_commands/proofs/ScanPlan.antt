@@ -16,7 +16,7 @@ use Rattle.command_plans.specs.Plan.{OfOutput, Stopped, Interrupted, EachEnd, Is
 use Rattle.command_plans.proofs.Plans.{determined, determined_map_done}
 use Rattle.dump_lines.specs.declared.rows.DumpTable.{DumpTable}
 use Rattle.dump_lines.specs.DumpTable.{IsDumpTable}
-use Rattle.dump_lines.specs.Output.{Appends}
+use Rattle.line_buffer.specs.Output.{Appends}
 use Rattle.dump_lines.specs.Printing.{text_of_loaded}
 use Rattle.dump_lines.specs.Text.{scan_text}
 use Rattle.command_plans.specs.Inputs.{AnsweredByPlan, WasRead}

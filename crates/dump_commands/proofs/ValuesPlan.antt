@@ -1,5 +1,5 @@
 -- How the plan of `values` goes.
-use Rattle.std.proofs.Common.{◌≡◌, ◌≤◌, ◌+◌, ◌∙◌, inl, inr, ℕ, ℤ, false, true, List, drop, Option, Some, None, refl, sym, ap, subst}
+use Rattle.std.proofs.Common.{◌≡◌, ◌+◌, ◌∙◌, inl, inr, ℕ, ℤ, false, true, List, [], drop, Option, Some, None, refl, sym, ap, subst}
 use Rattle.std.specs.Prelude.{IsSome, Err}
 use Rattle.arch_disk.specs.Disk.{Device}
 use Rattle.refusals.specs.declared.refusal.Refusal.{Refusal}
@@ -17,7 +17,9 @@ use Rattle.outer_traits.specs.declared.print_fault.PrintFault.{PrintFault}
 use Rattle.outer_traits.specs.declared.print_fault.PrintFault.TheVariants as printing
 use Rattle.dump_lines.specs.declared.rows.DumpTable.{DumpTable}
 use Rattle.dump_lines.specs.DumpTable.{IsDumpTable}
-use Rattle.dump_lines.specs.Output.{Appends, PrintCounted}
+use Rattle.line_buffer.specs.Output.{Appends}
+use Rattle.line_buffer.specs.Printed.{IsPrinted, PrintsText}
+use Rattle.line_buffer.proofs.PrintedTexts.{all_went}
 use Rattle.command_plans.specs.Inputs.{AnsweredByPlan, WasRead}
 use Rattle.command_plans.proofs.Inputs.{reads_determined}
 use Rattle.command_plans.proofs.Readings.{first_not_read, then_not_read, then_read}
@@ -104,40 +106,41 @@ module _ {D : Type 0} (device : Device D) (e : Effects D) (files : Option Files)
       text_is = text_of_rows db number dump moment loaded l ∙ ap (λ (d : Database). values_text d number l.packets (drop loaded.at dump) moment) p.database
 
       -- its cells were printed
-      pub ran_valued : e.report ≡ unopened (ending_of loaded.why loaded.at) → Appends e.output.written e.output'.written (text_of_cells db number loaded.table.stored loaded.why) →
-          e.output'.faults ≡ e.output.faults → RanOver device (values_plan files next words) e a b
-      ran_valued report printed still = ran_read device e (values_inputs_plan files words) (valuing_plan next words.name) a b 4 (raw, dump) read (valued_after next words.name (raw, dump)) (record {
+      pub ran_valued : e.report ≡ unopened (ending_of loaded.why loaded.at) → IsPrinted e.output e.output' (text_of_cells db number loaded.table.stored loaded.why) [] →
+          RanOver device (values_plan files next words) e a b
+      ran_valued report printed = ran_read device e (values_inputs_plan files words) (valuing_plan next words.name) a b 4 (raw, dump) read (valued_after next words.name (raw, dump)) (record {
         way = Stopped (record (nothing_done 4) { text = text; is_whole = true }) (ending_of_rest dump (drop loaded.at dump));
         allows = (moment, told, inr (None, sym p.admitted, (number, ap (λ (d : Database). parameter_number d words.name) (sym p.database) ∙ p.named, ((l.packets, drop loaded.at dump), l.parts, inr (inr refl)))));
         did = record {
           report = report ∙ ap unopened (ending_is dump moment loaded l);
-          printed = subst (Appends e.output.written e.output'.written) text_is printed;
-          output = record { counted = still };
+          printed = subst (Appends e.output.written e.output'.written) text_is (all_went e.output e.output' (text_of_cells db number loaded.table.stored loaded.why) printed).all;
+          output = record { counted = printed.no_fault };
           disk = same;
         };
       })
 
       -- or some of them
       pub ran_some_valued : (fault : PrintFault) → e.report ≡ unopened (Some (refusal_of_print fault)) →
-          WritesSome e.output.written e.output'.written (text_of_cells db number loaded.table.stored loaded.why) → e.output.faults ≤ e.output'.faults →
-          PrintCounted (Some fault) e.output.faults e.output'.faults → RanOver device (values_plan files next words) e a b
-      ran_some_valued printing.Write report printed later counted = ran_read device e (values_inputs_plan files words) (valuing_plan next words.name) a b 4 (raw, dump) read (valued_after next words.name (raw, dump)) (record {
+          PrintsText {X = Unit {0}} (Err fault) e.output e.output' (text_of_cells db number loaded.table.stored loaded.why) [] → RanOver device (values_plan files next words) e a b
+      ran_some_valued printing.Write report printed = ran_read device e (values_inputs_plan files words) (valuing_plan next words.name) a b 4 (raw, dump) read (valued_after next words.name (raw, dump)) (record {
         way = Interrupted (record (nothing_done 4) { text = text; is_whole = false }) OfOutput;
         allows = (moment, told, inr (None, sym p.admitted, (number, ap (λ (d : Database). parameter_number d words.name) (sym p.database) ∙ p.named, ((l.packets, drop loaded.at dump), l.parts, inr (inl refl)))));
         did = record {
           report = report;
-          printed = subst (WritesSome e.output.written e.output'.written) text_is printed;
-          output = record { counted = risen_counted e.output.faults e.output'.faults later counted };
+          printed = subst (WritesSome e.output.written e.output'.written) text_is printed.some;
+          output = record { counted = risen_counted e.output.faults e.output'.faults printed.later printed.failed };
           disk = same;
         };
       })
-      ran_some_valued printing.OutOfMemory report printed later counted = ran_read device e (values_inputs_plan files words) (valuing_plan next words.name) a b 4 (raw, dump) read (valued_after next words.name (raw, dump)) (record {
+      ran_some_valued printing.DiskFault report printed = absurd printed
+      ran_some_valued (printing.Damaged file at) report printed = absurd printed
+      ran_some_valued printing.OutOfMemory report printed = ran_read device e (values_inputs_plan files words) (valuing_plan next words.name) a b 4 (raw, dump) read (valued_after next words.name (raw, dump)) (record {
         way = Interrupted (record (nothing_done 4) { text = text; is_whole = false }) OfMemory;
         allows = (moment, told, inr (None, sym p.admitted, (number, ap (λ (d : Database). parameter_number d words.name) (sym p.database) ∙ p.named, ((l.packets, drop loaded.at dump), l.parts, inl refl))));
         did = record {
           report = report;
-          printed = subst (WritesSome e.output.written e.output'.written) text_is printed;
-          output = record { counted = counted };
+          printed = subst (WritesSome e.output.written e.output'.written) text_is printed.some;
+          output = record { counted = printed.no_fault };
           disk = same;
         };
       })

@@ -1,24 +1,24 @@
 //! The command `scan`: the rows of a dump, as text.
 
-ghost use Rattle.std.specs.Prelude.{◌≡◌, ◌≤◌, OnOk, OnErr, IsErr, IsSome, ◌++◌, []};
+ghost use Rattle.std.specs.Prelude.{◌≡◌, IsSome, ◌++◌, []};
 ghost use Rattle.std.specs.Result.{result_err};
-ghost use Rattle.outer_traits.specs.Outside.{HasRisen, Stays, WritesSome};
 ghost use Rattle.command_plans.specs.Ledger.{UsedClock};
 ghost use Rattle.command_plans.specs.Plan.{IsDue};
-ghost use Rattle.dump_lines.specs.Output.{Appends, IsBuffered};
+ghost use Rattle.line_buffer.specs.Printed.{BuffersText, WritesText};
 ghost use Rattle.dump_lines.specs.Printing.{lines_of, end_of, text_of_loaded};
 ghost use Rattle.std.specs.List.{AllByRecursion};
 ghost use Rattle.dump_lines.specs.DumpTable.{IsVisible};
 ghost use Rattle.command_runs.specs.Command.{RanOver, effects_of};
 ghost use Rattle.command_runs.specs.Report.{status_at, unopened};
 ghost use Rattle.dump_commands.specs.Scan.{scan_plan};
-ghost use Rattle.dump_lines.specs.LineRoom.{HasLineRoom};
+ghost use Rattle.line_buffer.specs.LineRoom.{HasLineRoom};
 
 use crate::scan_input::{ended, read_scan_input};
 use arch_disk::Disk;
 use command_runs::report::Ended;
-use dump_lines::line_buffer::LineBuffer;
+use dump_lines::lines::{put_counts, put_row};
 use dump_lines::rows::DumpTable;
+use line_buffer::LineBuffer;
 use outer_traits::clock::Clock;
 use outer_traits::fault::Failed;
 use outer_traits::inputs::Inputs;
@@ -88,13 +88,7 @@ fn print<K: Sink>(
 ) -> Result<(), Failed>
     requires empty { line_buffer.old ≡ [] }
     requires shown { AllByRecursion IsVisible loaded.now.table.stored }
-    ensures all { OnOk result (Appends (K.state sink.old).written (K.state sink.new).written
-        (text_of_loaded loaded.now)) }
-    ensures some { OnErr result (WritesSome (K.state sink.old).written (K.state sink.new).written
-        (text_of_loaded loaded.now)) }
-    ensures later { (K.state sink.old).faults ≤ (K.state sink.new).faults }
-    ensures failed { IsErr result → HasRisen (K.state sink.old).faults (K.state sink.new).faults }
-    ensures no_fault { OnOk result (Stays (K.state sink.old).faults (K.state sink.new).faults) }
+    ensures { WritesText result (K.state sink.old) (K.state sink.new) (text_of_loaded loaded.now) }
 {
     print_rows(&loaded.table, line_buffer, sink)?;
     put_end(line_buffer, loaded);
@@ -107,7 +101,7 @@ fn put_end(line_buffer: &mut LineBuffer, loaded: &DumpTable)
     ensures { line_buffer.new ≡ line_buffer.old ++ end_of loaded.now.why loaded.now.counts }
 {
     match loaded.why {
-        Why::End => line_buffer.put_counts(loaded.counts),
+        Why::End => put_counts(line_buffer, loaded.counts),
         Why::Version | Why::Truncated => {}
     }
 }
@@ -120,17 +114,10 @@ fn print_rows<K: Sink>(
 ) -> Result<(), Failed>
     requires empty { line_buffer.old ≡ [] }
     requires shown { AllByRecursion IsVisible table.now.stored }
-    ensures buffered { OnOk result (IsBuffered (K.state sink.old).written (K.state sink.new).written
-        (lines_of table.now.stored) line_buffer.new) }
-    ensures room { OnOk result (HasLineRoom line_buffer.new) }
-    ensures some { OnErr result (WritesSome (K.state sink.old).written (K.state sink.new).written
-        (lines_of table.now.stored)) }
-    ensures later { (K.state sink.old).faults ≤ (K.state sink.new).faults }
-    ensures failed { IsErr result → HasRisen (K.state sink.old).faults (K.state sink.new).faults }
-    ensures no_fault { OnOk result (Stays (K.state sink.old).faults (K.state sink.new).faults) }
+    ensures { BuffersText result (K.state sink.old) (K.state sink.new) (lines_of table.now.stored) line_buffer.new }
 {
     for row in table.rows_at(u64::MAX) {
-        line_buffer.put_row(row);
+        put_row(line_buffer, row);
         line_buffer.flush_if_full(sink)?;
     }
     Ok(())

@@ -1,21 +1,20 @@
 //! The command `values`: the cells of a parameter over a dump, as text.
 
-ghost use Rattle.std.specs.Prelude.{◌≡◌, ◌<◌, ◌≤◌, ◌+◌, ◌^◌, ◌++◌, [], OnOk, OnErr, IfOk, IsSome, length};
+ghost use Rattle.std.specs.Prelude.{◌≡◌, ◌<◌, ◌+◌, ◌^◌, ◌++◌, [], IfOk, IsSome, length};
 ghost use Rattle.std.specs.List.{AllByRecursion};
 ghost use Rattle.std.specs.Result.{result_err};
-ghost use Rattle.outer_traits.specs.Outside.{WritesSome};
 ghost use Rattle.command_plans.specs.Ledger.{UsedClock};
 ghost use Rattle.command_plans.specs.Plan.{IsDue};
 ghost use Rattle.arch_types.specs.Table.{sorted};
 ghost use Rattle.yarch_table.specs.Stored.{rows_of};
 ghost use Rattle.command_words.specs.JobView.{words_of};
-ghost use Rattle.dump_lines.specs.Output.{Appends, IsBuffered, PrintCounted};
+ghost use Rattle.line_buffer.specs.Printed.{PrintsText};
 ghost use Rattle.dump_lines.specs.DumpTable.{IsVisible};
 ghost use Rattle.command_runs.specs.Command.{RanOver, effects_of};
 ghost use Rattle.command_runs.specs.Report.{status_at, unopened};
 ghost use Rattle.dump_commands.specs.Values.{values_plan};
 ghost use Rattle.dump_commands.specs.ValuesPrinting.{line_of, cells_in_row, cells_of_stored, lines_of_cells, end_of_cells, text_of_cells};
-ghost use Rattle.dump_lines.specs.LineRoom.{HasLineRoom};
+ghost use Rattle.line_buffer.specs.LineRoom.{HasLineRoom};
 
 use crate::scan_input::{ended, read_scan_input};
 use arch_disk::Disk;
@@ -24,8 +23,8 @@ use arch_types::steps::Steps;
 use command_runs::report::Ended;
 use command_words::job::ValuesWords;
 use container_extract::Extractor;
-use dump_lines::line_buffer::LineBuffer;
 use dump_lines::rows::DumpTable;
+use line_buffer::LineBuffer;
 use mdb_sheets::read_mdb;
 use outer_traits::clock::Clock;
 use outer_traits::inputs::Inputs;
@@ -102,7 +101,7 @@ fn work<D: Disk, I: Inputs, K: Sink, C: Clock>(
     }
 }
 
-/// Prints the cells in key order, and where nothing is left of the dump how many there are.
+/// Prints the cells in key order, and where nothing is left of the dump how many there are. Nothing stays buffered.
 fn print<K: Sink>(
     alloc: Global,
     known: &KnownParameter,
@@ -114,12 +113,8 @@ fn print<K: Sink>(
     requires shown { AllByRecursion IsVisible loaded.now.table.stored }
     requires few { length (sorted (rows_of loaded.now.table.stored)) < 2 ^ 64 }
     requires number { known.now.number < length known.now.mdb.parameters }
-    ensures all { OnOk result (Appends (K.state sink.old).written (K.state sink.new).written
-        (text_of_cells known.now.mdb known.now.number loaded.now.table.stored loaded.now.why)) }
-    ensures some { OnErr result (WritesSome (K.state sink.old).written (K.state sink.new).written
-        (text_of_cells known.now.mdb known.now.number loaded.now.table.stored loaded.now.why)) }
-    ensures later { (K.state sink.old).faults ≤ (K.state sink.new).faults }
-    ensures counted { PrintCounted (result_err result) (K.state sink.old).faults (K.state sink.new).faults }
+    ensures { PrintsText result (K.state sink.old) (K.state sink.new)
+        (text_of_cells known.now.mdb known.now.number loaded.now.table.stored loaded.now.why) [] }
 {
     let count = print_cells::<K, Brand>(
         alloc,
@@ -159,15 +154,10 @@ fn print_cells<K: Sink, L: Ledger>(
     requires few { length (sorted (rows_of table.now.stored)) < 2 ^ 64 }
     requires number { known.now.number < length known.now.mdb.parameters }
     requires blank { (blank.name ≡ L.name) × (blank.parts ≡ L.parts) × (0 < blank.parts) }
-    ensures buffered { OnOk result (IsBuffered (K.state sink.old).written (K.state sink.new).written
-        (lines_of_cells known.now.mdb known.now.number table.now.stored) line_buffer.new) }
-    ensures room { OnOk result (HasLineRoom line_buffer.new) }
+    ensures printed { PrintsText result (K.state sink.old) (K.state sink.new)
+        (lines_of_cells known.now.mdb known.now.number table.now.stored) line_buffer.new }
     ensures count { IfOk result (λ count.
         count ≡ length (cells_of_stored known.now.mdb known.now.number table.now.stored)) }
-    ensures some { OnErr result (WritesSome (K.state sink.old).written (K.state sink.new).written
-        (lines_of_cells known.now.mdb known.now.number table.now.stored)) }
-    ensures later { (K.state sink.old).faults ≤ (K.state sink.new).faults }
-    ensures counted { PrintCounted (result_err result) (K.state sink.old).faults (K.state sink.new).faults }
 {
     let mut extractor = Extractor::new(alloc)?;
     let (book, share) = blank.open::<L>();

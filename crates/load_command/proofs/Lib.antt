@@ -1,3 +1,4 @@
+pub mod FoundBehind
 pub mod LoadPlan
 pub mod LoadReports
 pub mod NotLoaded

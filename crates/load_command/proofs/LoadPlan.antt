@@ -1,5 +1,5 @@
 -- How the plan of `load` goes.
-use Rattle.std.proofs.Common.{◌≡◌, ◌≤◌, ◌<◌, ◌∙◌, inl, inr, ℕ, ℤ, Bool, true, false, List, [], ◌∷◌, length, Option, Some, None, refl, sym, ap, subst, arith}
+use Rattle.std.proofs.Common.{◌≡◌, ◌≤◌, ◌<◌, ◌∙◌, ◌⊎◌, inl, inr, ℕ, ℤ, Bool, true, false, List, [], ◌∷◌, length, Option, Some, None, refl, sym, ap, subst, arith}
 use Rattle.std.specs.Prelude.{Err, IfSome, IsSome, IsSomeAnd, IsTrue, Result, Ok}
 use Rattle.std.specs.FinMap.{get}
 use Rattle.arch_disk.specs.Disk.{Device, LeavesOnly}
@@ -13,7 +13,7 @@ use Rattle.archive_store.specs.Stands.{StandsFilled}
 use Rattle.disk_journal.specs.Calls.{CountsNeverFall}
 use Rattle.outer_traits.specs.declared.fault.OpenFault.{OpenFault}
 use Rattle.outer_traits.specs.declared.fault.OpenFault.TheVariants.{Missing, Failed, OutOfMemory}
-use Rattle.outer_traits.specs.Outside.{Files, IsLeftAtFirst, OpeningCounted}
+use Rattle.outer_traits.specs.Outside.{Files, IsLeftAtFirst, OpeningCounted, Stays}
 use Rattle.outer_traits.specs.Whole.{IsInput, IsThere}
 use Rattle.command_plans.specs.Plan.{FailedCalls, OfMemory, OfInputs, OfOutput, OfDisk, no_failed_calls, with_failed_call, CommandPlan, Way, Stopped, Interrupted, Allows, EachEnd, IsDetermined, interruption_refusal}
 use Rattle.command_plans.proofs.Plans.{cut, determined, end_of, ended, gave}
@@ -28,10 +28,10 @@ use Rattle.ask_answers.specs.Asks.{asks_check_plan}
 use Rattle.command_runs.specs.Moment.{IsMomentOf}
 use Rattle.command_runs.specs.Command.{Progress, EndedAt, HasDiskOutcome, Opened, Effects, ArchiveFound, Ran, RanOver, archive_opened, nothing_done, opening_plan}
 use Rattle.command_runs.specs.DumpRest.{ending_of_rest, dump_limit}
-use Rattle.load_command.specs.Load.{IsRecordedBehind, after_dump, after_dump_found, after_link, after_packets, after_route, after_session, archive_load_plan, bad_packet_left, dump_too_long, history_extended, late_behind, load_plan, load_printing_plan, loading_plan, reading_plan, route_plan, routed_load_plan, session_plan}
+use Rattle.load_command.specs.Load.{IsRecordedBehind, after_dump, after_dump_found, after_link, after_packets, after_route, after_session, archive_load_plan, dump_too_long, history_extended, late_behind, load_plan, load_printing_plan, loading_plan, reading_plan, refused_session_plan, route_plan, routed_load_plan, session_plan}
 use Rattle.command_runs.specs.FillingPlan.{IsRecordCount}
-use Rattle.command_runs.proofs.FillingPlan.{filling_determined, filling_reads}
-use Rattle.load_command.specs.Loading.{IsDumpRefusal, IsNotReceived, IsOpeningFault, IsReady, IsRouteAnswer, IsUnready, link_refusal}
+use Rattle.command_runs.proofs.FillingPlan.{behind_reads, filling_determined, filling_reads}
+use Rattle.load_command.specs.Loading.{IsDumpRefusal, IsOpeningFault, IsReady, IsRouteAnswer, IsUnready, LoadAsked, link_refusal, load_asked}
 use Rattle.command_runs.specs.Report.{read_only, unopened}
 use Rattle.script_answers.specs.Scripts.{OrNoMemory}
 use Rattle.load_session.specs.Receiving.{Receiving, receiving}
@@ -67,20 +67,20 @@ session_after Began filled r asks dump = λ s h. each s s.refusal
     printing [] s = ((refl, refl), (refl, refl))
     printing (ask ∷ asks) s = ((refl, refl), ((refl, refl), (refl, refl)))
 
-    left : (s : SessionResult) (failed : Bool) → HasRead 1 (Stopped (bad_packet_left filled r.link s failed) None)
-    left s false = (refl, refl)
-    left s true = (refl, refl)
+    told : (link : Option ℕ) (s : SessionResult) (refusal : Refusal) → EachEnd (HasRead 1) (refused_session_plan Began filled link s refusal)
+    told link s refusal =
+        behind_reads (IsRecordedBehind Began filled.plain.history s.reached) filled s.reached (length (late_behind filled s)) 1 (history_extended filled link s) refusal (refl, refl)
 
     whole : (s : SessionResult) (rest : Option Refusal) → EachEnd (HasRead 1) (after_packets Began filled r asks s rest)
     whole s None =
         filling_reads (IsRecordedBehind Began filled.plain.history s.reached) filled s.reached (length (late_behind filled s)) (history_extended filled None s)
         (load_printing_plan filled r asks s) 1 (refl, refl) (printing asks s)
-    whole s (Some refusal) = λ failed h. left s failed
+    whole s (Some refusal) = told (Some r.link) s refusal
 
     each : (s : SessionResult) (refusal : Option Refusal) → EachEnd (HasRead 1) (after_session Began filled r asks dump s refusal)
     each s None = whole s (ending_of_rest dump s.rest)
     each s (Some refused.DiskFault) = (refl, refl)
-    each s (Some other) = (refl, refl)
+    each s (Some other) = told None s other
 
 module _ {D : Type 0} (device : Device D) (e : Effects D) (files : Option Files) (next : Option ℤ) (words : LoadWords) (text : Option (List ℕ)) (sheet : Result (List Ask) Refusal) (a b : InputsState) where
   abbrev plan : CommandPlan Progress ⊥
@@ -154,21 +154,24 @@ module _ {D : Type 0} (device : Device D) (e : Effects D) (files : Option Files)
       abbrev archive : Archive
       archive = filled.plain
 
+      abbrev asked : LoadAsked
+      asked = load_asked text sheet words.link
+
       -- an archive was
       goes_on : (way : Way Progress ⊥) → Allows (loading_plan Began files next words text sheet filled) way → Allows plan way
       goes_on way goes = inr (true, there, inr (gave (opening_plan 1 device e.disk) (loading_plan Began files next words text sheet) filled way (inr (inr (ArchiveFound filled, stands, refl))) goes))
 
       -- the asks of a sheet that the archive can answer are checked, and the dump is read
-      routes_on : (route : List RouteStatement) → link_refusal words.link ≡ None → IsRouteAnswer archive.head text (Ok route) → (way : Way Progress ⊥)
+      routes_on : (route : List RouteStatement) → link_refusal words.link ≡ None → IsRouteAnswer archive text (Ok route) → (way : Way Progress ⊥)
           → Allows (after_route Began files next words sheet filled route) way → Allows (loading_plan Began files next words text sheet filled) way
       routes_on route near is way goes =
-          (None, sym near, gave (route_plan (archive_opened 1 filled) archive.head text) (after_route Began files next words sheet filled) route way (inr (Ok route, is, refl)) goes)
+          (None, sym near, gave (route_plan (archive_opened 1 filled) archive text) (after_route Began files next words sheet filled) route way (inr (Ok route, is, refl)) goes)
 
-      reads_on : (route : List RouteStatement) (asks : List Ask) → IsReady archive.head text sheet words.link route asks → (way : Way Progress ⊥)
+      reads_on : (route : List RouteStatement) (asks : List Ask) → IsReady archive asked route asks → (way : Way Progress ⊥)
           → Allows (reading_plan Began files next words filled route asks) way → Allows (loading_plan Began files next words text sheet filled) way
       reads_on route asks ready way goes =
           let s = archive_opened 1 filled in
-          routes_on route ready.0 ready.1 way (gave (asks_check_plan s archive.head sheet) (reading_plan Began files next words filled route) asks way (checked s archive.head sheet asks ready.2) goes)
+          routes_on route ready.0 ready.1 way (gave (asks_check_plan s archive sheet) (reading_plan Began files next words filled route) asks way (checked s archive sheet asks ready.2) goes)
 
       abbrev reports : Refusal → Option ℕ → Type 0
       reports refusal link = e.report ≡ record (read_only (Some refusal) (length archive.history)) { link = link }
@@ -203,34 +206,34 @@ module _ {D : Type 0} (device : Device D) (e : Effects D) (files : Option Files)
             record { ran = record { way = way; allows = goes_on way goes; did = left None refused.OutOfMemory (with_failed_call OfMemory no_failed_calls) refl refl report }; inputs = used false counted }
 
         -- the route was refused
-        load_unrouted : (refusal : Refusal) → link_refusal words.link ≡ None → OrNoMemory (IsRouteAnswer archive.head text) (Err refusal) → reports refusal None → Counted false a.faults b.faults
+        load_unrouted : (refusal : Refusal) → link_refusal words.link ≡ None → OrNoMemory (IsRouteAnswer archive text) (Err refusal) → reports refusal None → Counted false a.faults b.faults
             → RanOver device plan e a b
         load_unrouted refusal near (inl memory) report counted =
             let s = archive_opened 1 filled in
             cut_short false (subst (λ (r : Refusal). reports r None) memory report) counted
-            (None, sym near, cut (route_plan s archive.head text) (after_route Began files next words sheet filled) s OfMemory (inl refl))
+            (None, sym near, cut (route_plan s archive text) (after_route Began files next words sheet filled) s OfMemory (inl refl))
         load_unrouted refusal near (inr is) report counted =
             let s = archive_opened 1 filled in
             stopped None refusal report counted
-            (None, sym near, ended (route_plan s archive.head text) (after_route Began files next words sheet filled) s (Some refusal) (inr (Err refusal, is, refl)))
+            (None, sym near, ended (route_plan s archive text) (after_route Began files next words sheet filled) s (Some refusal) (inr (Err refusal, is, refl)))
 
         -- the link was, or the route, or the sheet of asks
-        load_unready : (refusal : Refusal) → IsUnready archive.head text sheet words.link refusal → reports refusal None → Counted false a.faults b.faults → RanOver device plan e a b
+        load_unready : (refusal : Refusal) → IsUnready archive asked refusal → reports refusal None → Counted false a.faults b.faults → RanOver device plan e a b
         load_unready refusal (inl far) report counted = stopped None refusal report counted (Some refusal, sym far, refl)
         load_unready refusal (inr (inl near)) report counted = load_unrouted refusal near.0 near.1 report counted
         load_unready refusal (inr (inr near)) report counted =
             let s = archive_opened 1 filled in
             let route = near.1.0 in
             let f = reading_plan Began files next words filled route in
-            elim (check_refused s archive.head sheet refusal near.1.2) [
+            elim (check_refused s archive sheet refusal near.1.2) [
               | inl ending ↦ stopped None refusal report counted
-                  (routes_on route near.0 near.1.1 (Stopped s (Some refusal)) (ended (asks_check_plan s archive.head sheet) f s (Some refusal) ending))
+                  (routes_on route near.0 near.1.1 (Stopped s (Some refusal)) (ended (asks_check_plan s archive sheet) f s (Some refusal) ending))
               | inr memory ↦ cut_short false (subst (λ (r : Refusal). reports r None) memory.0 report) counted
-                  (routes_on route near.0 near.1.1 (Interrupted s OfMemory) (cut (asks_check_plan s archive.head sheet) f s OfMemory memory.1))
+                  (routes_on route near.0 near.1.1 (Interrupted s OfMemory) (cut (asks_check_plan s archive sheet) f s OfMemory memory.1))
             ]
 
         -- the dump wasn't read
-        load_unread : (left : Option (List ℕ)) (refusal : Refusal) (link : Option ℕ) (route : List RouteStatement) (asks : List Ask) → IsLeftAtFirst files words.dump left → IsReady archive.head text sheet words.link route asks
+        load_unread : (left : Option (List ℕ)) (refusal : Refusal) (link : Option ℕ) (route : List RouteStatement) (asks : List Ask) → IsLeftAtFirst files words.dump left → IsReady archive asked route asks
             → IsDumpRefusal left words.link refusal link → ReadsCounted (Some refusal) a.faults b.faults → reports refusal link → RanOver device plan e a b
         load_unread left (refused.Limit DumpOctets most) link route asks gives ready u counted report =
             let limit = refused.Limit DumpOctets dump_limit in
@@ -247,15 +250,16 @@ module _ {D : Type 0} (device : Device D) (e : Effects D) (files : Option Files)
 
         -- nothing was ingested
         pub load_not_received : (left : Option (List ℕ)) (faults faults' : ℕ) (refusal : Refusal) (link : Option ℕ) → IsLeftAtFirst files words.dump left
-            → IsNotReceived archive.head text sheet words.link left faults faults' refusal link → ((ending : Option Refusal) → ReadsCounted ending faults faults' → ReadsCounted ending a.faults b.faults)
-            → reports refusal link → RanOver device plan e a b
+            → (IsUnready archive asked refusal × (link ≡ None) × Stays faults faults')
+            ⊎ ((route : List RouteStatement) × (asks : List Ask) × IsReady archive asked route asks × IsDumpRefusal left words.link refusal link × ReadsCounted (Some refusal) faults faults')
+            → ((ending : Option Refusal) → ReadsCounted ending faults faults' → ReadsCounted ending a.faults b.faults) → reports refusal link → RanOver device plan e a b
         load_not_received left faults faults' refusal link gives (inl unready) counts report =
             load_unready refusal unready.0 (named refusal link None unready.1 report) (counts None unready.2)
         load_not_received left faults faults' refusal link gives (inr unread) counts report =
             load_unread left refusal link unread.0 unread.1 gives unread.2 unread.3 (counts (Some refusal) unread.4) report
 
       -- the packets of the dump were ingested, so far
-      pub load_received : (dump : List ℕ) (moment : ℤ) (route : List RouteStatement) (asks : List Ask) → IsReady archive.head text sheet words.link route asks → IsInput files words.dump dump
+      pub load_received : (dump : List ℕ) (moment : ℤ) (route : List RouteStatement) (asks : List Ask) → IsReady archive asked route asks → IsInput files words.dump dump
           → length dump ≤ dump_limit → IsMomentOf next moment → UsedInputs a b 1 false
           → Ran device (session_plan Began filled (receiving archive.head route words.link moment) asks dump) e → RanOver device plan e a b
       load_received dump moment route asks ready input short clock used went =
@@ -283,12 +287,12 @@ session_determined is filled r asks dump = λ s h. each s s.refusal
     whole s None =
         filling_determined (IsRecordedBehind is filled.plain.history s.reached) filled s.reached (length (late_behind filled s)) (history_extended filled None s)
         (load_printing_plan filled r asks s) (printing asks s)
-    whole s (Some refusal) = λ failed h. tt
+    whole s (Some refusal) = λ end h. tt
 
     each : (s : SessionResult) (refusal : Option Refusal) → IsDetermined (after_session is filled r asks dump s refusal)
     each s None = whole s (ending_of_rest dump s.rest)
     each s (Some refused.DiskFault) = tt
-    each s (Some other) = tt
+    each s (Some other) = λ end h. tt
 
 module _ (Began : ℕ → Type 0) (all : Files) (next : Option ℤ) (words : LoadWords) where
   dump_determined : (filled : FilledArchive) (route : List RouteStatement) (asks : List Ask) (read : InputRead (List ℕ)) → IsDetermined (after_dump Began next words.link filled route asks read)
@@ -298,7 +302,7 @@ module _ (Began : ℕ → Type 0) (all : Files) (next : Option ℤ) (words : Loa
   routed_determined : IsThere (Some all) words.dump → (sheet : Result (List Ask) Refusal) (filled : FilledArchive) (route : List RouteStatement) →
       IsDetermined (after_route Began (Some all) next words sheet filled route)
   routed_determined there sheet filled route =
-      determined (asks_check_plan (archive_opened 1 filled) filled.plain.head sheet) (reading_plan Began (Some all) next words filled route) (check_determined (archive_opened 1 filled) filled.plain.head sheet)
+      determined (asks_check_plan (archive_opened 1 filled) filled.plain sheet) (reading_plan Began (Some all) next words filled route) (check_determined (archive_opened 1 filled) filled.plain sheet)
       (λ asks. (((reads_determined DumpOctets (λ octets. octets) all words.dump 0).1 true there).0, λ read h. dump_determined filled route asks read))
 
   loading_determined : IsThere (Some all) words.dump → (text : Option (List ℕ)) (sheet : Result (List Ask) Refusal) (filled : FilledArchive) →
@@ -307,7 +311,7 @@ module _ (Began : ℕ → Type 0) (all : Files) (next : Option ℤ) (words : Loa
     where
       each : (found : Option Refusal) → IsDetermined (after_link Began (Some all) next words text sheet filled found)
       each None =
-          determined (route_plan (archive_opened 1 filled) filled.plain.head text) (after_route Began (Some all) next words sheet filled) (route_determined (archive_opened 1 filled) filled.plain.head text)
+          determined (route_plan (archive_opened 1 filled) filled.plain text) (after_route Began (Some all) next words sheet filled) (route_determined (archive_opened 1 filled) filled.plain text)
           (routed_determined there sheet filled)
       each (Some refusal) = tt
 

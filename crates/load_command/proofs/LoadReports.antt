@@ -1,30 +1,22 @@
 -- What is printed and reported of a session.
-use Rattle.std.proofs.Common.{◌≡◌, ◌∙◌, ◌⊎◌, inl, inr, ℕ, ◌+◌, ◌-◌, ◌≤◌, List, [], ◌++◌, length, Option, Some, None, append_assoc, refl, sym, ap, subst, arith}
-use Rattle.std.specs.Prelude.{IfErr, IfOk, Result, Ok, Err}
-use Rattle.arch_disk.specs.Disk.{Device}
+use Rattle.std.proofs.Common.{◌≡◌, ◌∙◌, ℕ, ◌+◌, ◌-◌, ◌≤◌, List, ◌++◌, length, Option, Some, None, append_assoc, refl, sym, ap, subst, arith}
 use Rattle.asks.specs.declared.ask.Ask.{Ask}
 use Rattle.refusals.specs.declared.refusal.Refusal.{Refusal}
-use Rattle.refusals.specs.declared.refusal.Refusal.TheVariants.{BadPacket, DiskFault, Limit, OutOfMemory}
-use Rattle.refusals.specs.declared.refusal.BadKind.{BadKind}
-use Rattle.refusals.specs.declared.refusal.BadKind.TheVariants as bad
-use Rattle.space_packet.specs.declared.dump.Why.{Why}
-use Rattle.space_packet.specs.declared.dump.Why.TheVariants as why
-use Rattle.history_items.specs.Items.{Item}
-use Rattle.load_session.specs.declared.batches.DumpSummary.{DumpSummary}
+use Rattle.history_items.specs.declared.items.Item.{Item}
+use Rattle.load_session.specs.declared.session.DumpSummary.{DumpSummary}
 use Rattle.load_session.specs.Receiving.{Receiving, arrived, rows_received}
 use Rattle.load_session.specs.Session.{IsSession, IsSummary, SessionResult}
 use Rattle.load_session.proofs.Sessions.{session_added}
+use Rattle.outer_traits.specs.States.{OutputState}
 use Rattle.command_runs.specs.declared.report.Report.{Report}
-use Rattle.load_command.specs.LoadLine.{load_line}
-use Rattle.load_command.specs.Loading.{IsBadLoad, IsPrintedLoad, IsUnfilledLoad, printed_report}
+use Rattle.load_command.specs.LoadLine.{load_line, load_text}
+use Rattle.load_command.specs.Loading.{printed_report}
 use Rattle.store_fills.specs.LastFills.{fillings_in}
+use Rattle.archive_store.specs.declared.head.Head.{Head}
 use Rattle.archive_store.specs.Entries.{filled_archive}
-use Rattle.archive_store.specs.StoreView.{StoreView}
+use Rattle.archive_store.specs.StoreView.{StoreView, filled_of}
 use Rattle.ask_answers.specs.Asks.{ArePrinted, archive_asks_text}
-use Rattle.late_filling.specs.Filling.{AllLateFilled, IsFillTakenBack, IsFillingRefusal, IsUnfailed}
 use Rattle.command_runs.specs.Report.{loaded}
-use Rattle.command_runs.specs.DumpRest.{ending_of}
-use Rattle.command_runs.proofs.DumpRest.{rest_is_none, why_bad, bad_rest, end_is}
 
 -- the six pieces of a line, put one behind the other
 pub six_put : (old first second third fourth fifth last a b c d e f g h i j k : List ℕ) → first ≡ old ++ a ++ b → second ≡ first ++ c ++ d → third ≡ second ++ e ++ f
@@ -44,15 +36,6 @@ not_printed report refusal before rows packets routed idle is =
     is ∙ ap (λ (o : Option Refusal). printed_report o before rows packets routed idle) (sym (ap (λ (r : Report). r.refusal) is))
 
 -- ---- the session
-
--- what filling came to
-pub went_or_failed : {D : Type 0} (device : Device D) (reached new : StoreView D) (r : Result ℕ Refusal) → IfOk r (AllLateFilled device reached new) → IfErr r (IsFillingRefusal device reached new (IsFillTakenBack device reached new))
-    → IsUnfailed device reached new ⊎ IsFillTakenBack device reached new
-went_or_failed device reached new (Ok filled) done refused = inl done.unfailed
-went_or_failed device reached new (Err OutOfMemory) done refused = inl refused
-went_or_failed device reached new (Err (Limit which number)) done refused = inl refused.1
-went_or_failed device reached new (Err DiskFault) done refused = inr refused
-went_or_failed device reached new (Err other) done refused = absurd refused
 
 module _ (r : Receiving) (before : ℕ) (dump : List ℕ) (s : SessionResult) (whole : DumpSummary) (i : IsSummary dump r s whole) (all : s.refusal ≡ None) where
   abbrev all_rows : ℕ
@@ -79,11 +62,6 @@ module _ (r : Receiving) (before : ℕ) (dump : List ℕ) (s : SessionResult) (w
       ∙ ap (λ (n : ℕ). printed_report o before (length s.reached) n all_rows whole.idle) i.of_packets
       ∙ ap (λ (n : ℕ). printed_report o before (length s.reached) (length s.packets) all_rows n) idle_are
 
-  nothing_left : (reason : Why) → whole.why ≡ reason → ending_of reason whole.at ≡ None → s.rest ≡ []
-  nothing_left why.End is none = rest_is_none s.rest (sym is ∙ i.why)
-  nothing_left why.Version is none = cc
-  nothing_left why.Truncated is none = cc
-
   -- there are no more new rows than the packets are
   pub counts_whole : (exponent : ℕ) (Began : ℕ → Type 0) (history : List Item) → IsSession exponent Began history dump r s → before ≡ length history → length s.reached ≤ whole.routed + before
   counts_whole exponent Began history session first =
@@ -91,42 +69,19 @@ module _ (r : Receiving) (before : ℕ) (dump : List ℕ) (s : SessionResult) (w
       let of_routed = i.of_routed in
       omega (arith, most, of_routed, first)
 
-  module _ {D : Type 0} (device : Device D) (reached new : StoreView D) (written written' : Option (List ℕ)) (report : Report) where
-    -- all was printed, or not to its end
-    pub all_was_printed : (asks : List Ask) (filled : ℕ) → AllLateFilled device reached new filled → ending_of whole.why whole.at ≡ None
-        → ArePrinted asks report.refusal written written' (archive_asks_text (filled_archive r.head new.exponent s.reached (fillings_in new.filled)) 1 asks
-        ++ load_line whole.packets (length s.reached - before) (whole.routed - (length s.reached - before)) whole.idle (length s.reached))
-        → report ≡ printed_report report.refusal before (length s.reached) whole.packets whole.routed whole.idle → IsPrintedLoad device reached new r asks before s written written' report
-    all_was_printed asks filled done none wrote is = record {
-      all = all;
-      rest = nothing_left whole.why refl none;
-      filled = filled;
-      done = done;
-      text = subst (λ (line : List ℕ). ArePrinted asks report.refusal written written' (archive_asks_text (filled_archive r.head new.exponent s.reached (fillings_in new.filled)) 1 asks ++ line)) (line_same (length s.reached - before) (length s.reached)) wrote;
-      report_is = is ∙ report_same report.refusal;
-    }
+  module _ {D : Type 0} (new : StoreView D) (rows : new.history ≡ s.reached) where
+    -- what was printed is the text of the load
+    pub wrote_load : (asks : List Ask) (o : Option Refusal) (output output' : OutputState) → new.head ≡ r.head
+        → ArePrinted asks o output output' (archive_asks_text (filled_of new) 1 asks
+        ++ load_line whole.packets (length new.history - before) (whole.routed - (length new.history - before)) whole.idle (length new.history))
+        → ArePrinted asks o output output' (load_text r new.exponent asks (fillings_in new.filled) before s.reached s.packets)
+    wrote_load asks o output output' head wrote =
+        let fillings = fillings_in new.filled in
+        let fresh = length s.reached - before in
+        subst (λ (line : List ℕ). ArePrinted asks o output output' (archive_asks_text (filled_archive r.head new.exponent s.reached fillings) 1 asks ++ line)) (line_same fresh (length s.reached))
+        (subst (λ (h : Head). ArePrinted asks o output output' (archive_asks_text (filled_archive h new.exponent s.reached fillings) 1 asks ++ load_line whole.packets fresh (whole.routed - fresh) whole.idle (length s.reached))) head
+        (subst (λ (h : List Item). ArePrinted asks o output output' (archive_asks_text (filled_archive new.head new.exponent h fillings) 1 asks ++ load_line whole.packets (length h - before) (whole.routed - (length h - before)) whole.idle (length h))) rows wrote))
 
-    -- a fill was refused
-    pub fill_was_refused : (refusal : Refusal) → IsFillingRefusal device reached new (IsFillTakenBack device reached new) refusal → ending_of whole.why whole.at ≡ None → written' ≡ written → report ≡ loaded (Some refusal) None before (length s.reached) 0 0 0
-        → IsUnfilledLoad device reached new before s written written' report
-    fill_was_refused refusal cause none silent is = record { all = all; rest = nothing_left whole.why refl none; refusal = refusal; cause = cause; silent = silent; report_is = is }
-
-    -- a rest is left
-    rest_of : (kind : BadKind) → whole.why ≡ why_bad kind → IsUnfailed device reached new ⊎ IsFillTakenBack device reached new → written' ≡ written
-        → report ≡ loaded (Some (BadPacket whole.at kind)) (Some r.link) before (length s.reached) 0 0 0 → IsBadLoad device reached new r.link before dump s written written' report
-    rest_of kind reason filling silent is =
-        let end = end_is dump whole.at i.within in
-        let len = ap length i.rest in
-        record { all = all; at = whole.at; kind = kind; bad = bad_rest dump s.rest whole.at kind (omega (arith, end, len)) (sym reason ∙ i.why); filling = filling; silent = silent; report_is = is }
-
-    bad_cases : (reason : Why) → whole.why ≡ reason → (o : Option Refusal) → ending_of reason whole.at ≡ o → (refusal : Refusal) → o ≡ Some refusal → IsUnfailed device reached new ⊎ IsFillTakenBack device reached new → written' ≡ written
-        → report ≡ loaded o (Some r.link) before (length s.reached) 0 0 0 → IsBadLoad device reached new r.link before dump s written written' report
-    bad_cases why.End reason o ending refusal some filling silent is = absurd (let none = ending ∙ some in cc)
-    bad_cases why.Version reason o ending refusal some filling silent is =
-        rest_of bad.Version reason filling silent (is ∙ ap (λ (x : Option Refusal). loaded x (Some r.link) before (length s.reached) 0 0 0) (sym ending))
-    bad_cases why.Truncated reason o ending refusal some filling silent is =
-        rest_of bad.Truncated reason filling silent (is ∙ ap (λ (x : Option Refusal). loaded x (Some r.link) before (length s.reached) 0 0 0) (sym ending))
-
-    pub bad_was_left : (refusal : Refusal) → ending_of whole.why whole.at ≡ Some refusal → IsUnfailed device reached new ⊎ IsFillTakenBack device reached new → written' ≡ written
-        → report ≡ loaded (Some refusal) (Some r.link) before (length s.reached) 0 0 0 → IsBadLoad device reached new r.link before dump s written written' report
-    bad_was_left refusal ending filling silent is = bad_cases whole.why refl (Some refusal) ending refusal refl filling silent is
+    pub reports_load : (report : Report) → report ≡ printed_report report.refusal before (length new.history) whole.packets whole.routed whole.idle
+        → report ≡ printed_report report.refusal before (length s.reached) (length s.packets) all_rows idle_rows
+    reports_load report is = is ∙ ap (λ (h : List Item). printed_report report.refusal before (length h) whole.packets whole.routed whole.idle) rows ∙ report_same report.refusal

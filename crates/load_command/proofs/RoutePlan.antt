@@ -1,10 +1,11 @@
 -- The script of a route: read before all else, and what it stands for over a head.
 use Rattle.std.proofs.Common.{◌≡◌, ◌∙◌, ℕ, List, Option, Some, None, sym, ap}
-use Rattle.std.specs.Prelude.{map, Result, Ok, Err}
+use Rattle.std.specs.Prelude.{Result, Ok, Err}
 use Rattle.arch_disk.specs.Disk.{Device}
 use Rattle.refusals.specs.declared.refusal.Refusal.{Refusal}
 use Rattle.refusals.specs.declared.refusal.Which.TheVariants.{ScriptOctets}
-use Rattle.archive_store.specs.declared.head.Head.{Head}
+use Rattle.history_items.specs.Databases.{names_in}
+use Rattle.archive_store.specs.Entries.{Archive}
 use Rattle.command_plans.specs.Plan.{CommandPlan, IsDetermined, map_done}
 use Rattle.command_plans.proofs.Plans.{determined, determined_map_done}
 use Rattle.command_plans.specs.Inputs.{AnsweredByPlan, WasRead}
@@ -18,9 +19,9 @@ use Rattle.stream_graph.specs.Routes.{route_statements}
 use Rattle.ask_answers.specs.Asks.{with_sources}
 use Rattle.command_runs.specs.Command.{Progress, Effects, RanOver, nothing_done}
 use Rattle.load_command.specs.Load.{route_plan, routed_plan}
-use Rattle.load_command.specs.Loading.{IsRouteAnswer}
+use Rattle.load_command.specs.Loading.{IsRouteAnswer, IsRouteScript}
 use Rattle.command_runs.specs.Report.{unopened}
-use Rattle.script_answers.specs.Scripts.{IsScriptAnswer, script_octets_plan}
+use Rattle.script_answers.specs.Scripts.{script_octets_plan}
 use Rattle.ask_answers.proofs.AskSheets.{ran_behind}
 use Rattle.command_runs.proofs.OverInputs.{ran_unread}
 use Rattle.script_answers.proofs.ScriptAnswers.{answered_determined, one_script_answer}
@@ -46,33 +47,36 @@ module _ {D : Type 0} (device : Device D) (e : Effects D) (files : Option Files)
 
 -- ---- what it stands for
 
-module _ (head : Head) where
+module _ (archive : Archive) where
+  abbrev tables : List (List ℕ)
+  tables = archive.head.tables
+
   abbrev names : List (List ℕ)
-  names = map (λ c. c.name) head.mdb.containers
+  names = names_in archive.head.mdb archive.history
 
-  same_script : (text : List ℕ) (x y : List TypedStatement) → IsScriptAnswer ScriptPlace.Route head.tables names text (Ok x) → IsScriptAnswer ScriptPlace.Route head.tables names text (Ok y) → x ≡ y
+  same_script : (text : List ℕ) (x y : List TypedStatement) → IsRouteScript archive text (Ok x) → IsRouteScript archive text (Ok y) → x ≡ y
   same_script text x y h k =
-      let same : ◌≡◌ {A = Result (List TypedStatement) Refusal} (Ok x) (Ok y) = one_script_answer ScriptPlace.Route head.tables names text (Ok x) (Ok y) h k in cc
+      let same : ◌≡◌ {A = Result (List TypedStatement) Refusal} (Ok x) (Ok y) = one_script_answer ScriptPlace.Route tables names text (Ok x) (Ok y) h k in cc
 
-  apart : (text : List ℕ) (x : List TypedStatement) (refusal : Refusal) → IsScriptAnswer ScriptPlace.Route head.tables names text (Ok x) →
-      IsScriptAnswer ScriptPlace.Route head.tables names text (Err refusal) → ⊥
+  apart : (text : List ℕ) (x : List TypedStatement) (refusal : Refusal) → IsRouteScript archive text (Ok x) →
+      IsRouteScript archive text (Err refusal) → ⊥
   apart text x refusal h k =
-      let same : ◌≡◌ {A = Result (List TypedStatement) Refusal} (Ok x) (Err refusal) = one_script_answer ScriptPlace.Route head.tables names text (Ok x) (Err refusal) h k in absurd (cc (same))
+      let same : ◌≡◌ {A = Result (List TypedStatement) Refusal} (Ok x) (Err refusal) = one_script_answer ScriptPlace.Route tables names text (Ok x) (Err refusal) h k in absurd (cc (same))
 
   -- a load has one route, or one refusal of it
-  one_route_answer : (text : Option (List ℕ)) (a b : Result (List RouteStatement) Refusal) → IsRouteAnswer head text a → IsRouteAnswer head text b → a ≡ b
+  one_route_answer : (text : Option (List ℕ)) (a b : Result (List RouteStatement) Refusal) → IsRouteAnswer archive text a → IsRouteAnswer archive text b → a ≡ b
   one_route_answer None a b h k = h ∙ sym k
   one_route_answer (Some text) (Ok a) (Ok b) h k = ap Ok (h.2 ∙ ap route_statements (same_script text h.0 k.0 h.1 k.1) ∙ sym k.2)
   one_route_answer (Some text) (Ok a) (Err b) h k = absurd (apart text h.0 b h.1 k)
   one_route_answer (Some text) (Err a) (Ok b) h k = absurd (apart text k.0 a k.1 h)
   one_route_answer (Some text) (Err a) (Err b) h k =
-      let same : ◌≡◌ {A = Result (List TypedStatement) Refusal} (Err a) (Err b) = one_script_answer ScriptPlace.Route head.tables names text (Err a) (Err b) h k in
+      let same : ◌≡◌ {A = Result (List TypedStatement) Refusal} (Err a) (Err b) = one_script_answer ScriptPlace.Route tables names text (Err a) (Err b) h k in
       let is : a ≡ b = cc in ap Err is
 
 -- ---- which answer is due
 
-pub route_determined : (s : Progress) (head : Head) (text : Option (List ℕ)) → IsDetermined (route_plan s head text)
-route_determined s head text = (one_route_answer head text, λ answer is. answered_determined s answer)
+pub route_determined : (s : Progress) (archive : Archive) (text : Option (List ℕ)) → IsDetermined (route_plan s archive text)
+route_determined s archive text = (one_route_answer archive text, λ answer is. answered_determined s answer)
 
 pub route_read_determined : (all : Files) (name : Option (List ℕ)) (next : Option (List ℕ) → CommandPlan Progress ⊥) → ((text : Option (List ℕ)) → IsDetermined (next text)) →
     IsDetermined (routed_plan (Some all) name next)

@@ -1,6 +1,6 @@
 -- A route in which nothing is wrong names tables that there are.
 use Rattle.std.proofs.Common.{◌≡◌, ℕ, ◌<◌, List, [], ◌∷◌, ◌++◌, length, Option, Some, None, refl, arith}
-use Rattle.std.specs.Prelude.{is_some, unwrap_or, map, slice_get, Ok, if◌then◌else◌}
+use Rattle.std.specs.Prelude.{is_some, unwrap_or, slice_get, Ok, if◌then◌else◌}
 use Rattle.std.specs.List.{AllByRecursion}
 use Rattle.std.specs.Str.{bytes_eq}
 use Rattle.std.proofs.lemmas.List.Quantifiers.{position-Some}
@@ -15,7 +15,9 @@ use Rattle.ssql_types.specs.Typed.{known_number, typed_script}
 use Rattle.stream_graph.specs.Laws.{NamesTableBelow}
 use Rattle.stream_graph.specs.declared.statement.RouteStatement.{RouteStatement}
 use Rattle.stream_graph.specs.Routes.{every_packet_route, route_statements}
+use Rattle.history_items.specs.Databases.{names_in}
 use Rattle.archive_store.specs.declared.head.Head.{Head}
+use Rattle.archive_store.specs.Entries.{Archive}
 use Rattle.load_session.specs.Receiving.{IsRouteOver}
 use Rattle.load_command.specs.Loading.{IsRouteAnswer}
 
@@ -63,9 +65,10 @@ pub tm_below : (head : Head) → slice_get head.tables 0 ≡ Some tm → IsRoute
 tm_below head first = (first_there head.tables first, tt)
 
 -- and so does that of a text
-pub script_below : (head : Head) (text : List ℕ) (route : List RouteStatement) → IsRouteAnswer head (Some text) (Ok route) → IsRouteOver head route
-script_below head text route is =
+pub script_below : (archive : Archive) (text : List ℕ) (route : List RouteStatement) → IsRouteAnswer archive (Some text) (Ok route) → IsRouteOver archive.head route
+script_below archive text route is =
     let typed = is.1 in
-    let names = map (λ c. c.name) head.mdb.containers in
-    let below = all_below head.tables names [] typed.0.statements (each_sound (script_faults Route head.tables [] typed.0.statements) typed.0.places typed.2) in
+    let tables = archive.head.tables in
+    let names = names_in archive.head.mdb archive.history in
+    let below = all_below tables names [] typed.0.statements (each_sound (script_faults Route tables [] typed.0.statements) typed.0.places typed.2) in
     rw (is.2, typed.3) below

@@ -1,58 +1,54 @@
 -- How the session of a load went, what was filled behind it, and what it leaves of the disk.
-use Rattle.std.proofs.Common.{◌≡◌, inl, inr, ℕ, ◌+◌, ◌-◌, ◌<◌, ◌≤◌, Bool, true, false, List, [], ◌∷◌, ◌++◌, length, Some, None, Option, refl, sym, ap, ◌∙◌, subst, arith, append-nil}
-use Rattle.std.specs.Prelude.{IsTrue}
-use Rattle.std.specs.List.{AllByRecursion}
-use Rattle.arch_disk.specs.Disk.{Device, raised}
+use Rattle.std.proofs.Common.{◌≡◌, ◌⊎◌, inl, inr, ℕ, ◌+◌, ◌-◌, ◌<◌, ◌≤◌, true, false, List, [], ◌∷◌, ◌++◌, length, Some, None, Option, refl, sym, ap, ◌∙◌, subst, arith, append-nil}
+use Rattle.std.specs.Prelude.{IfErr, IfOk, IsTrue, Result, Ok, Err}
+use Rattle.std.specs.Result.{result_err}
+use mathlib.Core.List.{IsPrefix}
+use Rattle.arch_disk.specs.Disk.{Device, LeavesOnly, raised}
 use Rattle.asks.specs.declared.ask.Ask.{Ask}
 use Rattle.intervals.specs.declared.interval.Interval.{Interval}
 use Rattle.refusals.specs.declared.refusal.Refusal.{Refusal}
-use Rattle.refusals.specs.declared.refusal.Refusal.TheVariants.{WriteFault, BadPacket, DiskFault, Limit, OutOfMemory}
+use Rattle.refusals.specs.declared.refusal.Refusal.TheVariants.{WriteFault, DiskFault, Limit, OutOfMemory}
 use Rattle.arch_types.specs.declared.row.Row.{Row}
-use Rattle.history_items.specs.declared.fills.Addition.TheVariants.{Rows}
 use Rattle.history_items.specs.declared.fills.Fill.{Fill}
-use Rattle.history_items.specs.declared.fills.Fill.TheVariants.{Fault}
-use Rattle.history_items.specs.Fills.{base_in, in_flight, pending_fault_of, rows_of_faults}
+use Rattle.history_items.specs.declared.items.Item.{Item}
+use Rattle.history_items.specs.Fills.{base_in, pending_fault_of, rows_of_faults}
 use Rattle.interval_walks.specs.Counts.{late_intervals}
-use Rattle.store_fills.specs.Faults.{IsDone, faults_in}
+use Rattle.store_fills.specs.Faults.{faults_in}
 use Rattle.store_fills.specs.LastFills.{PlacedFills, fillings_in}
 use Rattle.store_fills.specs.Sound.{base_of_filling}
-use Rattle.store_fills.proofs.Faults.{pending_fault_of-in, rows_of_faults-in}
-use Rattle.history_items.specs.Items.{Item, items_of}
+use Rattle.store_fills.proofs.Faults.{pending_fault_of-in}
 use Rattle.archive_store.specs.declared.head.Head.{Head}
-use Rattle.archive_store.specs.Entries.{FilledArchive, filled_archive}
-use Rattle.archive_store.specs.StoreView.{StoreView, filled_of, FaultInvariant, CrashInvariant, IsKeptWithFills}
-use Rattle.archive_store.specs.Stands.{StandsFilled}
-use Rattle.archive_store.specs.Unacknowledged.{with_rows}
-use Rattle.command_plans.specs.Plan.{OfMemory, OfOutput, CommandPlan, Stop, May, Way, Stopped, Interrupted, Allows}
-use Rattle.command_runs.specs.Finishing.{WritesCounted}
-use Rattle.load_session.specs.Receiving.{Receiving, arrived, rows_received}
-use Rattle.load_session.specs.Session.{HasReached, HoldsFailedWrite, IsSession, IsSessionEnd, OneOrTwo, SessionResult, next_fresh_rows}
-use Rattle.load_session.proofs.Sessions.{more_faults, session_from}
-use Rattle.outer_traits.specs.States.{OutputState}
-use Rattle.command_plans.specs.Ledger.{UsedDisk, UsedOutput}
-use Rattle.command_plans.proofs.Ledgers.{risen_counted}
 use Rattle.archive_store.specs.AddedFills.{AddsWholeFills}
+use Rattle.archive_store.specs.Entries.{filled_archive}
+use Rattle.archive_store.specs.StoreView.{CrashInvariant, FaultInvariant, IsKeptWithFills, StoreView, archive_of, filled_of}
+use Rattle.command_plans.specs.Plan.{OfMemory, OfOutput, CommandPlan, Stop, May, Way, Stopped, Interrupted, Allows}
+use Rattle.load_session.specs.declared.session.DumpSummary.{DumpSummary}
+use Rattle.load_session.specs.During.{IsDuring}
+use Rattle.load_session.specs.Receiving.{Receiving, arrived, rows_received}
+use Rattle.load_session.specs.Session.{ExactlyOne, HasReached, HoldsFailedWrite, IsSession, IsSessionEnd, IsSummary, SessionResult, next_fresh_rows}
+use Rattle.load_session.proofs.Sessions.{session_begins, session_from}
+use Rattle.outer_traits.specs.States.{OutputState}
+use Rattle.space_packet.specs.declared.dump.Why.{Why}
+use Rattle.command_plans.specs.Ledger.{UsedOutput}
+use Rattle.command_plans.proofs.Ledgers.{risen_counted}
 use Rattle.retrieval.proofs.AddedFills.{same_texts}
 use Rattle.command_runs.specs.declared.report.Report.{Report}
 use Rattle.ask_answers.specs.Asks.{ArePrinted}
-use Rattle.command_runs.specs.Command.{AllFilled, Progress, Effects, Extended, ExtendedUnfilled, ExtensionFailed, FillingFailed, HasDiskOutcome, Ran, effects_of}
-use Rattle.command_runs.specs.Durable.{FailedAtMostOnce, IsDurableWithFills}
-use Rattle.late_filling.specs.Filling.{IsFillTakenBack, IsFilledOn, IsFillingRefusal, IsUnfailed, filling_refusal}
+use Rattle.command_runs.specs.Command.{AllFilled, Effects, Extended, ExtensionFailed, FillingFailed, HasDiskOutcome, Progress, Ran, effects_of}
+use Rattle.load_session.specs.Filling.{AllLateFilled, IsFillFailed, IsFilledOn, IsFillingRefusal, IsUnfailed, filling_refusal}
 use Rattle.command_runs.specs.FillingPlan.{IsRecordCount, all_filled, filling_plan}
-use Rattle.command_runs.specs.Extension.{IsExtensionFailed, batch_left}
-use Rattle.load_command.specs.Load.{IsRecordedBehind, after_packets, after_session, answering_asks_plan, bad_packet_left, extension_failed, extension_refused, history_extended, late_behind, load_printing_plan, session_plan}
+use Rattle.command_runs.specs.Healing.{IsHealed}
+use Rattle.command_runs.specs.Opened.{IsOpenedOn}
+use Rattle.load_command.specs.Load.{IsRecordedBehind, after_packets, after_session, answering_asks_plan, extension_failed, history_extended, late_behind, load_printing_plan, refused_session_plan, session_plan}
 use Rattle.load_command.specs.LoadLine.{line_of_load, load_text, whole_report}
-use Rattle.load_command.specs.Loading.{IsBadLoad, IsLoadRun, IsPrintedLoad, IsUnfilledLoad, IsWholeLoadEnd, printed_report}
-use Rattle.command_runs.specs.DumpRest.{ending_of_rest}
+use Rattle.load_command.specs.Loading.{IsTold, printed_report}
+use Rattle.command_runs.specs.DumpRest.{ending_of, ending_of_rest}
 use Rattle.command_runs.specs.Report.{loaded}
 use Rattle.command_runs.proofs.Commands.{no_text}
-use Rattle.command_runs.proofs.FilledDisks.{all_are_filled, fill_has_failed, idle_done, late_as_filled, still_extended, taken_back_once, with_fills}
-use Rattle.command_runs.proofs.FillingPlan.{ran_all_filled, ran_unfilled}
-use Rattle.command_runs.proofs.During.{load_images, left, IsOpened}
-use Rattle.command_runs.proofs.DumpRest.{bad_ending}
-
-no_rest : (dump rest : List ℕ) → rest ≡ [] → ending_of_rest dump rest ≡ None
-no_rest dump rest is = subst (λ (l : List ℕ). ending_of_rest dump l ≡ None) (sym is) refl
+use Rattle.command_runs.proofs.FilledDisks.{batch_failed_disk, failed_disk, filled_disk, late_as_filled, new_exponent, new_fills, new_rows, unfailed_disk}
+use Rattle.command_runs.proofs.FillingPlan.{ran_all_filled, ran_behind, ran_unfilled}
+use Rattle.command_runs.proofs.During.{IsOpened, opened_store}
+use Rattle.command_runs.proofs.DumpRest.{end_is, ending_same}
 
 -- where there are asks or not, what may follow their answers
 behind_answers : (asks : List Ask) (s : Progress) (plan : CommandPlan Progress ⊥) (way : Way Progress ⊥) → Allows plan way → Allows (answering_asks_plan asks s plan) way
@@ -64,338 +60,240 @@ wanting_memory : (asks : List Ask) (s : Progress) (plan : CommandPlan Progress �
 wanting_memory [] s plan some = absurd (omega (arith, some))
 wanting_memory (ask ∷ asks) s plan some = inl refl
 
--- ---- the way of the plan
+-- the rest of a dump that was ingested tells how it ends
+pub rest_told : (dump : List ℕ) (r : Receiving) (s : SessionResult) (whole : DumpSummary) → IsSummary dump r s whole → ending_of whole.why whole.at ≡ ending_of_rest dump s.rest
+rest_told dump r s whole i =
+    let place = end_is dump whole.at i.within in
+    let len = ap length i.rest in
+    ap (λ (why : Why). ending_of why whole.at) i.why ∙ ending_same dump s.rest whole.at (omega (arith, place, len))
 
-module _ {D : Type 0} (device : Device D) (disk : D) (old : StoreView D) (r : Receiving) (s : SessionResult) (asks : List Ask) (dump : List ℕ) (began : IsRecordCount device disk old.records)
-    (session : IsSession old.exponent (λ n. n ≡ old.records) old.history dump r s) where
+-- A store was opened, a session ran over it, what is late was filled behind that, and a failed write was taken back.
+module _ {D : Type 0} (device : Device D) (disk : D) (old between mid new : StoreView D) (on : IsOpenedOn device disk old) (asks : List Ask) (dump : List ℕ) (r : Receiving) (s : SessionResult)
+    (session : IsSession old.exponent (λ n. n ≡ old.records) old.history dump r s) (reached : HasReached old between r s) (writes : ExactlyOne s.refusal (device.failed_writes old.disk) (device.failed_writes between.disk))
+    (filling : Result ℕ Refusal) (filled : IfOk filling (AllLateFilled device between mid)) (unfilled : IfErr filling (IsFillingRefusal device between mid)) (filled_on : IsFilledOn between mid)
+    (healed : IsHealed device mid new) (keeps : IsTrue device.is_transparent → CrashInvariant device new) (faults : FaultInvariant device new)
+    (kept : IsTrue device.is_transparent → pending_fault_of new.fills ≡ None → IsKeptWithFills device new)
+    (bases : (i : Interval) → base_in i old.fills ≡ base_of_filling (fillings_in old.filled) i)
+    (output output' : OutputState) (report : Report) where
+  abbrev Began : ℕ → Type 0
+  Began = IsRecordCount device disk
+
+  abbrev went : Effects D
+  went = effects_of disk new.disk output output' report
+
+  abbrev plan : CommandPlan Progress ⊥
+  plan = session_plan Began (filled_of old) r asks dump
+
+  -- ---- the way of the plan
+
   -- the records at the beginning are those of the disk
-  counted_session : IsSession old.exponent (IsRecordCount device disk) old.history dump r s
-  counted_session = session_from old.exponent (λ n. n ≡ old.records) (IsRecordCount device disk) old.history dump r s (λ n is. subst (IsRecordCount device disk) (sym is) began) session
+  counted_session : IsSession old.exponent Began old.history dump r s
+  counted_session = session_from old.exponent (λ n. n ≡ old.records) Began old.history dump r s (λ n is. subst Began (sym is) on.opened.records) session
 
   -- it goes on by why the session ended
-  goes_on : (refusal : Option Refusal) (way : Way Progress ⊥) → s.refusal ≡ refusal → Allows (after_session (IsRecordCount device disk) (filled_of old) r asks dump s refusal) way
-      → Allows (session_plan (IsRecordCount device disk) (filled_of old) r asks dump) way
-  goes_on refusal way is allows = (s, counted_session, subst (λ (o : Option Refusal). Allows (after_session (IsRecordCount device disk) (filled_of old) r asks dump s o) way) (sym is) allows)
-
-  -- and by the rest of the dump
-  goes_on_whole : (rest : Option Refusal) (way : Way Progress ⊥) → s.refusal ≡ None → ending_of_rest dump s.rest ≡ rest → Allows (after_packets (IsRecordCount device disk) (filled_of old) r asks s rest) way
-      → Allows (session_plan (IsRecordCount device disk) (filled_of old) r asks dump) way
-  goes_on_whole rest way is left allows = goes_on None way is (subst (λ (o : Option Refusal). Allows (after_packets (IsRecordCount device disk) (filled_of old) r asks s o) way) (sym left) allows)
-
--- ---- a session that was refused
-
-module _ {D : Type 0} (device : Device D) (disk : D) (old new : StoreView D) (r : Receiving) (s : SessionResult) (reached : HasReached device old new r s)
-    (opened : IsTrue device.is_transparent → IsOpened device disk old) (first : device.fault_count disk ≤ device.fault_count old.opened)
-    (keeps : IsTrue device.is_transparent → CrashInvariant device new) (faults : FaultInvariant device new)
-    (kept : IsTrue device.is_transparent → pending_fault_of new.fills ≡ None → IsKeptWithFills device new) where
-  -- ---- the disk
-
-  abbrev rows : List Row
-  rows = next_fresh_rows r s
-
-  -- no fill came
-  no_more : AddsWholeFills old.head old.exponent new.history (fillings_in old.filled) (fillings_in new.filled)
-  no_more i = inl (ap (λ (f : PlacedFills). fillings_in f i) reached.filled)
-
-  as_before : filled_of new ≡ filled_archive old.head old.exponent new.history (fillings_in old.filled)
-  as_before =
-      ap (λ (h : Head). filled_archive h new.exponent new.history (fillings_in new.filled)) reached.head
-      ∙ ap (λ (e : ℕ). filled_archive old.head e new.history (fillings_in new.filled)) reached.exponent
-      ∙ ap (λ (f : PlacedFills). filled_archive old.head old.exponent new.history (fillings_in f)) reached.filled
-
-  -- no call of it failed in a batch
-  still : faults_in new.fills ≡ [] → device.failed_writes new.disk ≡ device.failed_writes disk → HasDiskOutcome device disk new.disk false (ExtendedUnfilled (filled_of old) s.reached)
-  still none writes =
-      let extended = still_extended device disk old new reached.head reached.exponent reached.opened opened first keeps faults kept no_more none writes in
-      subst (λ (h : List Item). HasDiskOutcome device disk new.disk false (ExtendedUnfilled (filled_of old) h)) reached.history (
-        extended.0,
-        λ known. record {
-          extended = extended.1 known;
-          durable =
-              subst (λ (f : PlacedFills). IsDurableWithFills device new.disk (filled_archive old.head old.exponent new.history (fillings_in f))) reached.filled
-              (with_fills device disk old new reached.head reached.exponent reached.opened opened first keeps faults kept no_more known (pending_fault_of-in new.fills ∙ ap pending_fault_of none));
-        },
-      )
-
-  -- one failed in the batch that held these rows
-  stopped_by : (count : ℕ) (wrote : Bool) → faults_in new.fills ≡ Fault count wrote (Rows rows) ∷ [] → (FailedAtMostOnce device disk new.disk → wrote ≡ false) → IsTrue device.is_transparent
-      → IsExtensionFailed device disk new.disk (filled_of old) new.history rows
-  stopped_by count wrote fills once known = record {
-    stands = (opened known).stands;
-    images = load_images device disk old new (opened known) (batch_left rows) (rows_of_faults-in new.fills ∙ ap rows_of_faults fills) reached.head reached.exponent reached.opened (keeps known);
-    now = λ c leaves. elim (left device new count wrote rows (keeps known) (kept known) fills c leaves) [
-      | inl stands ↦ inl (subst (StandsFilled c) as_before stands)
-      | inr more ↦ inr (subst (StandsFilled c) (ap (λ (a : FilledArchive). with_rows a (items_of rows)) as_before) more)
-    ];
-    durable = λ one.
-        let back : faults_in new.fills ≡ Fault count false (Rows rows) ∷ [] = subst (λ (b : Bool). faults_in new.fills ≡ Fault count b (Rows rows) ∷ []) (once one) fills in
-        subst (λ (f : PlacedFills). IsDurableWithFills device new.disk (filled_archive old.head old.exponent new.history (fillings_in f))) reached.filled
-        (with_fills device disk old new reached.head reached.exponent reached.opened opened first keeps faults kept no_more known (pending_fault_of-in new.fills ∙ ap pending_fault_of back));
+  goes_on : (refusal : Option Refusal) → s.refusal ≡ refusal → Ran device (after_session Began (filled_of old) r asks dump s refusal) went → Ran device plan went
+  goes_on refusal is ran = record {
+    way = ran.way;
+    allows = (s, counted_session, subst (λ (o : Option Refusal). Allows (after_session Began (filled_of old) r asks dump s o) ran.way) (sym is) ran.allows);
+    did = ran.did;
   }
 
-  used_failed : raised (device.fault_count disk) ≤ device.fault_count new.disk → OneOrTwo (Some DiskFault) (device.failed_writes disk) (device.failed_writes new.disk)
-      → UsedDisk device disk new.disk true 1 2
-  used_failed rose (inl one) = record { faults = rose; writes = (1, omega arith, omega arith, one) }
-  used_failed rose (inr two) = record { faults = rose; writes = (2, omega arith, omega arith, two) }
+  -- and by the rest of the dump
+  goes_on_whole : (rest : Option Refusal) → s.refusal ≡ None → ending_of_rest dump s.rest ≡ rest → Ran device (after_packets Began (filled_of old) r asks s rest) went → Ran device plan went
+  goes_on_whole rest is left ran = goes_on None is (record {
+    way = ran.way;
+    allows = subst (λ (o : Option Refusal). Allows (after_packets Began (filled_of old) r asks s o) ran.way) (sym left) ran.allows;
+    did = ran.did;
+  })
 
-  fails : HoldsFailedWrite device new rows (Some DiskFault) → OneOrTwo (Some DiskFault) (device.failed_writes disk) (device.failed_writes new.disk)
-      → HasDiskOutcome device disk new.disk true (ExtensionFailed (filled_of old) s.reached rows)
-  fails held writes =
-      let more = more_faults device new held.0 held.1 (Rows rows) faults held.2 in (
-        used_failed (omega (arith, first, ap device.fault_count reached.opened, more)) writes,
-        λ known. subst (λ (h : List Item). IsExtensionFailed device disk new.disk (filled_of old) h rows) reached.history
-            (stopped_by held.0 held.1 held.2 (taken_back_once device disk old new reached.head reached.exponent reached.opened opened first keeps faults kept no_more held.1 held.3) known),
-      )
+  -- ---- the disk
 
-  module _ (asks : List Ask) (dump : List ℕ) (began : IsRecordCount device disk old.records) (session : IsSession old.exponent (λ n. n ≡ old.records) old.history dump r s) (output output' : OutputState) (report : Report)
-      (silent : output'.written ≡ output.written) (counted : UsedOutput output output' false) where
-    abbrev went : Effects D
-    went = effects_of disk new.disk output output' report
+  opened : IsTrue device.is_transparent → IsOpened device disk old
+  opened known = opened_store device disk old (on.opened.filled known) on.reads on.opened.opening on.crash
 
-    -- no failed write is held
-    holds : (refusal : Option Refusal) → s.refusal ≡ refusal → HoldsFailedWrite device new rows refusal
-    holds refusal is = subst (HoldsFailedWrite device new rows) is reached.failed_write
+  holds : (refusal : Option Refusal) → s.refusal ≡ refusal → HoldsFailedWrite between (next_fresh_rows r s) refusal
+  holds refusal is = subst (HoldsFailedWrite between (next_fresh_rows r s)) is reached.failed_write
 
-    -- no call of the disk failed
-    refused_by : (refusal : Refusal) → Allows (after_session (IsRecordCount device disk) (filled_of old) r asks dump s (Some refusal)) (Stopped (extension_refused (filled_of old) s) (Some refusal))
-        → faults_in new.fills ≡ [] → s.refusal ≡ Some refusal → report ≡ loaded (Some refusal) None (length old.history) (length s.reached) 0 0 0
-        → device.failed_writes new.disk ≡ device.failed_writes disk → Ran device (session_plan (IsRecordCount device disk) (filled_of old) r asks dump) went
-    refused_by refusal allows none is report_is writes =
-        let way : Way Progress ⊥ = Stopped (extension_refused (filled_of old) s) (Some refusal) in
-        record {
-          way = way;
-          allows = goes_on device disk old r s asks dump began session (Some refusal) way is allows;
-          did = record { report = report_is; printed = rw silent (no_text output.written); output = counted; disk = still none writes };
-        }
-
-    -- a batch was refused
-    batch_refused : (refusal : Refusal) → s.refusal ≡ Some refusal → IsSessionEnd old.exponent (λ n. n ≡ old.records) old.history r s (Some refusal)
-        → report ≡ loaded (Some refusal) None (length old.history) (length s.reached) 0 0 0 → OneOrTwo (Some refusal) (device.failed_writes disk) (device.failed_writes new.disk)
-        → Ran device (session_plan (IsRecordCount device disk) (filled_of old) r asks dump) went
-    batch_refused OutOfMemory is cause report_is writes = refused_by OutOfMemory refl (holds (Some OutOfMemory) is) is report_is writes
-    batch_refused (Limit which number) is cause report_is writes = refused_by (Limit which number) refl (holds (Some (Limit which number)) is) is report_is writes
-    batch_refused DiskFault is cause report_is writes =
-        let way : Way Progress ⊥ = Stopped (extension_failed (filled_of old) r s) (Some DiskFault) in
-        record {
-          way = way;
-          allows = goes_on device disk old r s asks dump began session (Some DiskFault) way is refl;
-          did = record { report = report_is; printed = rw silent (no_text output.written); output = counted; disk = fails (holds (Some DiskFault) is) writes };
-        }
-    batch_refused other is cause report_is writes = absurd cause
-
--- ---- what is late was filled behind a session
-
-module _ {D : Type 0} (device : Device D) (old between : StoreView D) (r : Receiving) (s : SessionResult) (reached : HasReached device old between r s) (all : s.refusal ≡ None) (opened : AllByRecursion IsDone old.fills) where
-  done_behind : AllByRecursion IsDone between.fills
-  done_behind =
-      let none = subst (HoldsFailedWrite device between (next_fresh_rows r s)) all reached.failed_write in
-      subst (AllByRecursion IsDone) (sym (reached.fills ∙ ap (λ (l : List Fill). old.fills ++ l) none ∙ append-nil old.fills)) opened
-
-  pub idle_behind : (j : Interval) → in_flight j between.fills ≡ None
-  idle_behind = idle_done between.fills done_behind
-
-  pub none_behind : faults_in between.fills ≡ []
-  none_behind = subst (HoldsFailedWrite device between (next_fresh_rows r s)) all reached.failed_write
-
-module _ {D : Type 0} (device : Device D) (disk : D) (old between new : StoreView D) (r : Receiving) (s : SessionResult) (reached : HasReached device old between r s) (all : s.refusal ≡ None)
-    (opened : IsTrue device.is_transparent → IsOpened device disk old) (first : device.fault_count disk ≤ device.fault_count old.opened) (keeps : IsTrue device.is_transparent → CrashInvariant device new)
-    (faults : FaultInvariant device new) (kept : IsTrue device.is_transparent → pending_fault_of new.fills ≡ None → IsKeptWithFills device new) (filled_on : IsFilledOn between new)
-    (writes : device.failed_writes between.disk ≡ device.failed_writes disk) where
-  none_before : faults_in between.fills ≡ []
-  none_before = subst (HoldsFailedWrite device between (next_fresh_rows r s)) all reached.failed_write
-
-  same_fills : between.fills ≡ old.fills
-  same_fills = reached.fills ∙ ap (λ (l : List Fill). old.fills ++ l) none_before ∙ append-nil old.fills
-
-  same_head : new.head ≡ old.head
-  same_head = filled_on.head ∙ reached.head
-
-  same_exponent : new.exponent ≡ old.exponent
-  same_exponent = filled_on.exponent ∙ reached.exponent
-
-  same_opening : new.opened ≡ old.opened
-  same_opening = filled_on.opened ∙ reached.opened
+  wrote : (refusal : Option Refusal) → s.refusal ≡ refusal → ExactlyOne refusal (device.failed_writes disk) (device.failed_writes between.disk)
+  wrote refusal is =
+      subst (λ (n : ℕ). ExactlyOne refusal n (device.failed_writes between.disk)) on.opened.no_failed_write
+      (subst (λ (o : Option Refusal). ExactlyOne o (device.failed_writes old.disk) (device.failed_writes between.disk)) is writes)
 
   same_rows : new.history ≡ s.reached
-  same_rows = filled_on.rows ∙ reached.history
+  same_rows = new_rows device disk old between mid new opened on.counts.faults reached.head reached.exponent reached.opened reached.filled filled_on healed keeps faults kept ∙ reached.history
 
-  -- what was added to the fills since the opening
-  sets_added : AddsWholeFills old.head old.exponent new.history (fillings_in old.filled) (fillings_in new.filled)
-  sets_added =
-      subst (λ (h : Head). AddsWholeFills h old.exponent new.history (fillings_in old.filled) (fillings_in new.filled)) reached.head
-      (subst (λ (e : ℕ). AddsWholeFills between.head e new.history (fillings_in old.filled) (fillings_in new.filled)) reached.exponent
-      (subst (λ (h : List Item). AddsWholeFills between.head between.exponent h (fillings_in old.filled) (fillings_in new.filled)) (sym filled_on.rows)
-      (subst (λ (f : PlacedFills). AddsWholeFills between.head between.exponent between.history (fillings_in f) (fillings_in new.filled)) reached.filled filled_on.sets)))
+  -- no call of it failed in a batch
+  module _ (none : faults_in between.fills ≡ []) (no_write : device.failed_writes between.disk ≡ device.failed_writes disk) where
+    abbrev late : ℕ
+    late = length (late_behind (filled_of old) s)
 
-  -- the disk
-  unfailed_disk : IsUnfailed device between new → HasDiskOutcome device disk new.disk false (Extended (filled_of old) s.reached)
-  unfailed_disk unfailed =
-      subst (λ (h : List Item). HasDiskOutcome device disk new.disk false (Extended (filled_of old) h)) same_rows
-      (still_extended device disk old new same_head same_exponent same_opening opened first keeps faults kept sets_added unfailed.no_fault (unfailed.no_failed_write ∙ writes))
-
-  failed_disk : IsFillTakenBack device between new → HasDiskOutcome device disk new.disk true (FillingFailed (filled_of old) s.reached)
-  failed_disk failed =
-      subst (λ (h : List Item). HasDiskOutcome device disk new.disk true (FillingFailed (filled_of old) h)) same_rows
-      (fill_has_failed device disk old new same_head same_exponent same_opening opened first keeps faults kept sets_added failed.count failed.wrote failed.interval failed.base failed.fault failed.tried
-      (subst (λ (n : ℕ). OneOrTwo (Some DiskFault) n (device.failed_writes new.disk)) writes failed.writes))
-
-  -- which intervals were late behind the session
-  late_were : ((i : Interval) → base_in i old.fills ≡ base_of_filling (fillings_in old.filled) i) → late_intervals between.exponent between.history between.fills ≡ late_behind (filled_of old) s
-  late_were bases =
-      ap (λ (e : ℕ). late_intervals e between.history between.fills) reached.exponent
-      ∙ ap (λ (l : List Fill). late_intervals old.exponent between.history l) same_fills ∙ ap (λ (h : List Item). late_intervals old.exponent h old.fills) reached.history
-      ∙ late_as_filled (filled_archive old.head old.exponent s.reached (fillings_in old.filled)) old.fills bases
-
-  added_behind : r.head ≡ old.head → AddsWholeFills r.head old.exponent s.reached (fillings_in old.filled) (fillings_in new.filled)
-  added_behind of_head =
-      subst (λ (h : Head). AddsWholeFills h old.exponent s.reached (fillings_in old.filled) (fillings_in new.filled)) (sym of_head)
-      (subst (λ (h : List Item). AddsWholeFills old.head old.exponent h (fillings_in old.filled) (fillings_in new.filled)) same_rows sets_added)
-
-  module _ (asks : List Ask) (dump : List ℕ) (began : IsRecordCount device disk old.records) (session : IsSession old.exponent (λ n. n ≡ old.records) old.history dump r s) (output output' : OutputState) (report : Report)
-      (bases : (i : Interval) → base_in i old.fills ≡ base_of_filling (fillings_in old.filled) i) where
     abbrev Recorded : ℕ → Type 0
-    Recorded = IsRecordedBehind (IsRecordCount device disk) old.history s.reached
+    Recorded = IsRecordedBehind Began old.history s.reached
 
     recorded : Recorded between.records
-    recorded = (old.records, began, subst (λ (h : List Item). between.records + length old.history ≤ old.records + length h) reached.history (reached.records none_before))
+    recorded = (old.records, on.opened.records, subst (λ (h : List Item). between.records + length old.history ≤ old.records + length h) reached.history (reached.records none))
 
-    abbrev went_on : Effects D
-    went_on = effects_of disk new.disk output output' report
+    calm : pending_fault_of between.fills ≡ None
+    calm = pending_fault_of-in between.fills ∙ ap pending_fault_of none
 
-    abbrev st : Progress
-    st = history_extended (filled_of old) None s
+    same_fills : between.fills ≡ old.fills
+    same_fills = reached.fills ∙ ap (λ (l : List Fill). old.fills ++ l) none ∙ append-nil old.fills
 
-    abbrev printing_next : CommandPlan Progress ⊥
-    printing_next = load_printing_plan (filled_of old) r asks s
+    -- which intervals were late behind the session
+    late_were : length (late_intervals between.exponent between.history between.fills) ≡ late
+    late_were = ap length (
+        ap (λ (e : ℕ). late_intervals e between.history between.fills) reached.exponent
+        ∙ ap (λ (l : List Fill). late_intervals old.exponent between.history l) same_fills ∙ ap (λ (h : List Item). late_intervals old.exponent h old.fills) reached.history
+        ∙ late_as_filled (filled_archive old.head old.exponent s.reached (fillings_in old.filled)) old.fills bases)
 
-    on_plan : s.rest ≡ [] → Ran device (filling_plan Recorded (filled_of old) s.reached (length (late_behind (filled_of old) s)) st printing_next) went_on
-        → Ran device (session_plan (IsRecordCount device disk) (filled_of old) r asks dump) went_on
-    on_plan rest ran = record { way = ran.way; allows = goes_on_whole device disk old r s asks dump began session None ran.way all (no_rest dump s.rest rest) ran.allows; did = ran.did }
+    unfailed : IsUnfailed device between mid → HasDiskOutcome device disk new.disk false (Extended (filled_of old) s.reached)
+    unfailed is =
+        subst (λ (h : List Item). HasDiskOutcome device disk new.disk false (Extended (filled_of old) h)) reached.history
+        (unfailed_disk device disk old between mid new opened on.counts.faults reached.head reached.exponent reached.opened reached.filled filled_on healed keeps faults kept none no_write is)
 
-    -- a rest is left of the dump
-    bad_rest_left : IsBadLoad device between new r.link (length old.history) dump s output.written output'.written report → UsedOutput output output' false
-        → Ran device (session_plan (IsRecordCount device disk) (filled_of old) r asks dump) went_on
-    bad_rest_left b counted = elim b.filling [
-      | inl unfailed ↦ (
-          let way : Way Progress ⊥ = Stopped (bad_packet_left (filled_of old) r.link s false) (Some (BadPacket b.at b.kind)) in
-          record {
-            way = way;
-            allows = goes_on_whole device disk old r s asks dump began session (Some (BadPacket b.at b.kind)) way all (sym (bad_ending dump s.rest b.at b.kind b.bad)) (false, tt, refl);
-            did = record { report = b.report_is; printed = rw b.silent (no_text output.written); output = counted; disk = unfailed_disk unfailed };
-          })
-      | inr failed ↦ (
-          let way : Way Progress ⊥ = Stopped (bad_packet_left (filled_of old) r.link s true) (Some (BadPacket b.at b.kind)) in
-          record {
-            way = way;
-            allows = goes_on_whole device disk old r s asks dump began session (Some (BadPacket b.at b.kind)) way all (sym (bad_ending dump s.rest b.at b.kind b.bad)) (true, tt, refl);
-            did = record { report = b.report_is; printed = rw b.silent (no_text output.written); output = counted; disk = failed_disk failed };
-          })
-    ]
+    failed : IsFillFailed device between mid → HasDiskOutcome device disk new.disk true (FillingFailed (filled_of old) s.reached)
+    failed is =
+        subst (λ (h : List Item). HasDiskOutcome device disk new.disk true (FillingFailed (filled_of old) h)) reached.history
+        (failed_disk device disk old between mid new opened on.counts.faults reached.head reached.exponent reached.opened reached.filled filled_on healed keeps faults kept none no_write is)
 
-    -- a fill was refused
-    fill_refused : IsUnfilledLoad device between new (length old.history) s output.written output'.written report → UsedOutput output output' false
-        → Ran device (session_plan (IsRecordCount device disk) (filled_of old) r asks dump) went_on
-    fill_refused u counted =
-        on_plan u.rest
-        (ran_unfilled Recorded (filled_of old) s.reached (length (late_behind (filled_of old) s)) st printing_next device went_on between new recorded (ap length (late_were bases)) refl refl
-        (rw u.silent (no_text output.written)) counted unfailed_disk failed_disk u.refusal u.cause u.report_is)
+    module _ (new_bases : IsTrue device.is_transparent → (i : Interval) → base_in i new.fills ≡ base_of_filling (fillings_in new.filled) i) where
+      all : (count : ℕ) → AllLateFilled device between mid count → HasDiskOutcome device disk new.disk false (AllFilled (filled_of old) s.reached)
+      all count is =
+          subst (λ (h : List Item). HasDiskOutcome device disk new.disk false (AllFilled (filled_of old) h)) reached.history
+          (filled_disk device disk old between mid new opened on.counts.faults reached.head reached.exponent reached.opened reached.filled filled_on healed keeps faults kept none no_write count is new_bases)
 
-    -- all was printed, or not to its end
-    abbrev done : Progress
-    done = all_filled (filled_of old) s.reached st
+      -- ---- a refusal is told, whatever the filling came to
 
-    abbrev printing : Progress
-    printing = record done { text = load_text r old.exponent asks (fillings_in old.filled) (length old.history) s.reached s.packets; is_whole = false }
+      ran_refused : (link : Option ℕ) (refusal : Refusal) → output' ≡ output → report ≡ loaded (Some refusal) link (length old.history) (length s.reached) 0 0 0
+          → Ran device (refused_session_plan Began (filled_of old) link s refusal) went
+      ran_refused link refusal silent is =
+          ran_behind Recorded (filled_of old) s.reached late (history_extended (filled_of old) link s) device went between mid recorded late_were calm refl refl
+          (rw silent (no_text output.written)) (record { counted = ap (λ (o : OutputState). o.faults) silent }) unfailed failed all refusal is filling filled unfilled
 
-    abbrev printed : Progress
-    printed = record done {
-      text = load_text r old.exponent asks (fillings_in old.filled) (length old.history) s.reached s.packets;
-      report = whole_report r (length old.history) (length s.reached) s.packets;
-    }
+      -- ---- all packets of a whole dump were ingested
 
-    abbrev line_plan : CommandPlan Progress ⊥
-    line_plan = May OfOutput printing (Stop printed None)
+      abbrev st : Progress
+      st = history_extended (filled_of old) None s
 
-    answers_printed : (refusal : Option Refusal) → ArePrinted asks refusal output.written output'.written (load_text r old.exponent asks (fillings_in old.filled) (length old.history) s.reached s.packets)
-        → report ≡ printed_report refusal (length old.history) (length s.reached) (length s.packets) (length (rows_received r s.packets)) (length s.packets - arrived s.packets)
-        → HasDiskOutcome device disk new.disk false (AllFilled (filled_of old) s.reached) → WritesCounted refusal output.faults output'.faults → output.faults ≤ output'.faults → Ran device printing_next went_on
-    answers_printed None w report_is disk_is counted later = record {
-      way = Stopped printed None;
-      allows = behind_answers asks printing line_plan (Stopped printed None) (inr refl);
-      did = record { report = report_is; printed = w; output = record { counted = counted }; disk = disk_is };
-    }
-    answers_printed (Some WriteFault) w report_is disk_is counted later = record {
-      way = Interrupted printing OfOutput;
-      allows = behind_answers asks printing line_plan (Interrupted printing OfOutput) (inl refl);
-      did = record { report = report_is; printed = w; output = record { counted = risen_counted output.faults output'.faults later counted }; disk = disk_is };
-    }
-    answers_printed (Some OutOfMemory) w report_is disk_is counted later = record {
-      way = Interrupted printing OfMemory;
-      allows = wanting_memory asks printing line_plan w.0;
-      did = record { report = report_is; printed = w.1; output = record { counted = counted }; disk = disk_is };
-    }
-    answers_printed (Some other) w report_is disk_is counted later = absurd w
+      abbrev printing_next : CommandPlan Progress ⊥
+      printing_next = load_printing_plan (filled_of old) r asks s
 
-    all_printed : (p : IsPrintedLoad device between new r asks (length old.history) s output.written output'.written report) → r.head ≡ old.head
-        → ((i : Interval) → base_in i new.fills ≡ base_of_filling (fillings_in new.filled) i)
-        → WritesCounted report.refusal output.faults output'.faults → output.faults ≤ output'.faults → Ran device (session_plan (IsRecordCount device disk) (filled_of old) r asks dump) went_on
-    all_printed p of_head new_bases counted later =
-        let late = length (late_behind (filled_of old) s) in
-        let as_late : p.filled ≡ late = p.done.count ∙ ap length (late_were bases) in
-        let wrote = subst (λ (e : ℕ). ArePrinted asks report.refusal output.written output'.written (load_text r e asks (fillings_in new.filled) (length old.history) s.reached s.packets)) same_exponent p.text in
-        let text = subst (λ (t : List ℕ). ArePrinted asks report.refusal output.written output'.written (t ++ line_of_load r (length old.history) (length s.reached) s.packets))
-        (same_texts r.head old.exponent s.reached (fillings_in old.filled) (fillings_in new.filled) (added_behind of_head) 1 asks) wrote in
-        let disk_is = subst (λ (h : List Item). HasDiskOutcome device disk new.disk false (AllFilled (filled_of old) h)) same_rows
-        (all_are_filled device disk old new same_head same_exponent same_opening opened first keeps faults kept sets_added p.done.none_late new_bases p.done.unfailed.no_fault (p.done.unfailed.no_failed_write ∙ writes)) in
-        on_plan p.rest
-        (ran_all_filled Recorded (filled_of old) s.reached late st printing_next device went_on between.records recorded (ap (filling_refusal between.records) (sym as_late) ∙ p.done.fits)
-        (answers_printed report.refusal text p.report_is disk_is counted later))
+      -- a fill was refused
+      ran_not_filled : (refusal : Refusal) → IsFillingRefusal device between mid refusal → output' ≡ output → report ≡ loaded (Some refusal) None (length old.history) (length s.reached) 0 0 0
+          → Ran device (filling_plan Recorded (filled_of old) s.reached late st printing_next) went
+      ran_not_filled refusal cause silent is =
+          ran_unfilled Recorded (filled_of old) s.reached late st device went between mid recorded late_were calm refl refl
+          (rw silent (no_text output.written)) (record { counted = ap (λ (o : OutputState). o.faults) silent }) unfailed failed printing_next refusal cause is
 
--- ---- a load ran over a store that was opened
+      -- all was printed, or not to its end
+      abbrev done : Progress
+      done = all_filled (filled_of old) s.reached st
 
-module _ {D : Type 0} (device : Device D) (disk : D) (old new : StoreView D) (asks : List Ask) (dump : List ℕ) (r : Receiving) (output output' : OutputState) (report : Report)
-    (opened : IsTrue device.is_transparent → IsOpened device disk old) (began : IsRecordCount device disk old.records) (first : device.fault_count disk ≤ device.fault_count old.opened)
-    (unfailed : device.failed_writes old.disk ≡ device.failed_writes disk) (keeps : IsTrue device.is_transparent → CrashInvariant device new) (faults : FaultInvariant device new)
-    (bases : (i : Interval) → base_in i old.fills ≡ base_of_filling (fillings_in old.filled) i) (new_bases : (i : Interval) → base_in i new.fills ≡ base_of_filling (fillings_in new.filled) i)
-    (kept : IsTrue device.is_transparent → pending_fault_of new.fills ≡ None → IsKeptWithFills device new) (of_head : r.head ≡ old.head)
-    (counted : WritesCounted report.refusal output.faults output'.faults) (later : output.faults ≤ output'.faults) where
-  -- the counts of the output, by a refusal that isn't that of a write
-  counted_by : (refusal : Refusal) → report.refusal ≡ Some refusal → WritesCounted (Some refusal) output.faults output'.faults
-  counted_by refusal is = subst (λ (o : Option Refusal). WritesCounted o output.faults output'.faults) is counted
+      abbrev printing : Progress
+      printing = record done { text = load_text r old.exponent asks (fillings_in old.filled) (length old.history) s.reached s.packets; is_whole = false }
 
-  no_write_fault : (refusal : Refusal) → (refusal ≡ WriteFault → ⊥) → WritesCounted (Some refusal) output.faults output'.faults → UsedOutput output output' false
-  no_write_fault WriteFault never c = absurd (never refl)
-  no_write_fault other never c = record { counted = c }
+      abbrev printed : Progress
+      printed = record done {
+        text = load_text r old.exponent asks (fillings_in old.filled) (length old.history) s.reached s.packets;
+        report = whole_report r (length old.history) (length s.reached) s.packets;
+      }
 
-  pub ran_load : IsLoadRun device old new asks dump r output.written output'.written report → Ran device (session_plan (IsRecordCount device disk) (filled_of old) r asks dump) (effects_of disk new.disk output output' report)
-  ran_load run = elim run.ending [
-    | inl refused ↦ (
-        let cause = subst (IsSessionEnd old.exponent (λ n. n ≡ old.records) old.history r run.came_to) refused.refused run.session.cause in
-        let writes = subst (λ (x : StoreView D). OneOrTwo (Some refused.refusal) (device.failed_writes disk) (device.failed_writes x.disk)) (sym refused.left)
-        (subst (λ (n : ℕ). OneOrTwo (Some refused.refusal) n (device.failed_writes run.between.disk)) unfailed
-        (subst (λ (o : Option Refusal). OneOrTwo o (device.failed_writes old.disk) (device.failed_writes run.between.disk)) refused.refused run.writes)) in
-        batch_refused device disk old new r run.came_to (subst (λ (x : StoreView D). HasReached device old x r run.came_to) (sym refused.left) run.reached) opened first keeps faults kept asks dump began run.session output output' report
-        refused.silent (no_write_fault refused.refusal (session_writes refused.refusal cause) (counted_by refused.refusal (ap (λ (x : Report). x.refusal) refused.report_is))) refused.refusal refused.refused cause refused.report_is writes)
-    | inr on ↦ go on.0 on.1
-  ]
-    where
-      session_writes : (refusal : Refusal) → IsSessionEnd old.exponent (λ n. n ≡ old.records) old.history r run.came_to (Some refusal) → refusal ≡ WriteFault → ⊥
-      session_writes WriteFault cause is = cause
-      session_writes other cause is = absurd cc
+      abbrev line_plan : CommandPlan Progress ⊥
+      line_plan = May OfOutput printing (Stop printed None)
 
-      filling_writes : (refusal : Refusal) → IsFillingRefusal device run.between new (IsFillTakenBack device run.between new) refusal → refusal ≡ WriteFault → ⊥
-      filling_writes WriteFault cause is = cause
-      filling_writes other cause is = absurd cc
+      answers_printed : (refusal : Option Refusal) → ArePrinted asks refusal output output' (load_text r old.exponent asks (fillings_in old.filled) (length old.history) s.reached s.packets)
+          → report ≡ printed_report refusal (length old.history) (length s.reached) (length s.packets) (length (rows_received r s.packets)) (length s.packets - arrived s.packets)
+          → HasDiskOutcome device disk new.disk false (AllFilled (filled_of old) s.reached) → Ran device printing_next went
+      answers_printed None w report_is disk_is = record {
+        way = Stopped printed None;
+        allows = behind_answers asks printing line_plan (Stopped printed None) (inr refl);
+        did = record { report = report_is; printed = w.all; output = record { counted = w.no_fault }; disk = disk_is };
+      }
+      answers_printed (Some WriteFault) w report_is disk_is = record {
+        way = Interrupted printing OfOutput;
+        allows = behind_answers asks printing line_plan (Interrupted printing OfOutput) (inl refl);
+        did = record { report = report_is; printed = w.some; output = record { counted = risen_counted output.faults output'.faults w.later w.failed }; disk = disk_is };
+      }
+      answers_printed (Some OutOfMemory) w report_is disk_is = record {
+        way = Interrupted printing OfMemory;
+        allows = wanting_memory asks printing line_plan w.0;
+        did = record { report = report_is; printed = w.1.some; output = record { counted = w.1.no_fault }; disk = disk_is };
+      }
+      answers_printed (Some other) w report_is disk_is = absurd w
 
-      between_writes : run.came_to.refusal ≡ None → device.failed_writes run.between.disk ≡ device.failed_writes disk
-      between_writes all = subst (λ (o : Option Refusal). OneOrTwo o (device.failed_writes old.disk) (device.failed_writes run.between.disk)) all run.writes ∙ unfailed
+      ran_filled : (count : ℕ) → AllLateFilled device between mid count → Ran device printing_next went → Ran device (filling_plan Recorded (filled_of old) s.reached late st printing_next) went
+      ran_filled count is ran =
+          ran_all_filled Recorded (filled_of old) s.reached late st printing_next device went between.records recorded (ap (filling_refusal between.records) (sym (is.count ∙ late_were)) ∙ is.fits) ran
 
-      go : IsFilledOn run.between new → IsWholeLoadEnd device run.between new r asks (length old.history) dump run.came_to output.written output'.written report → Ran device (session_plan (IsRecordCount device disk) (filled_of old) r asks dump) (effects_of disk new.disk output output' report)
-      go on (inl b) =
-          bad_rest_left device disk old run.between new r run.came_to run.reached b.all opened first keeps faults kept on (between_writes b.all) asks dump began run.session output output' report bases b
-          (record { counted = counted_by (BadPacket b.at b.kind) (ap (λ (x : Report). x.refusal) b.report_is) })
-      go on (inr (inl u)) =
-          fill_refused device disk old run.between new r run.came_to run.reached u.all opened first keeps faults kept on (between_writes u.all) asks dump began run.session output output' report bases u
-          (no_write_fault u.refusal (filling_writes u.refusal u.cause) (counted_by u.refusal (ap (λ (x : Report). x.refusal) u.report_is)))
-      go on (inr (inr p)) =
-          all_printed device disk old run.between new r run.came_to run.reached p.all opened first keeps faults kept on (between_writes p.all) asks dump began run.session output output' report bases p of_head new_bases counted later
+      -- the answers were printed as the new fills say, so as the fills before do
+      ran_printed : (count : ℕ) → AllLateFilled device between mid count → s.refusal ≡ None → ending_of_rest dump s.rest ≡ None → r.head ≡ old.head
+          → ArePrinted asks report.refusal output output' (load_text r new.exponent asks (fillings_in new.filled) (length old.history) s.reached s.packets)
+          → report ≡ printed_report report.refusal (length old.history) (length s.reached) (length s.packets) (length (rows_received r s.packets)) (length s.packets - arrived s.packets)
+          → Ran device plan went
+      ran_printed count is whole rest of_head text report_is =
+          let same_exponent = new_exponent device disk old between mid new opened on.counts.faults reached.head reached.exponent reached.opened reached.filled filled_on healed keeps faults kept in
+          let wrote = subst (λ (e : ℕ). ArePrinted asks report.refusal output output' (load_text r e asks (fillings_in new.filled) (length old.history) s.reached s.packets)) same_exponent text in
+          let added = new_fills device disk old between mid new opened on.counts.faults reached.head reached.exponent reached.opened reached.filled filled_on healed keeps faults kept in
+          let adds = subst (λ (h : Head). AddsWholeFills h old.exponent s.reached (fillings_in old.filled) (fillings_in new.filled)) (sym of_head)
+          (subst (λ (h : List Item). AddsWholeFills old.head old.exponent h (fillings_in old.filled) (fillings_in new.filled)) same_rows added) in
+          let as_before = subst (λ (t : List ℕ). ArePrinted asks report.refusal output output' (t ++ line_of_load r (length old.history) (length s.reached) s.packets))
+          (same_texts r.head old.exponent s.reached (fillings_in old.filled) (fillings_in new.filled) adds 1 asks) wrote in
+          goes_on_whole None whole rest (ran_filled count is (answers_printed report.refusal as_before report_is (all count is)))
+
+  -- all packets of a whole dump were ingested, each late interval was filled, and the answers were printed as the new fills say
+  pub ran_whole : (IsTrue device.is_transparent → (i : Interval) → base_in i new.fills ≡ base_of_filling (fillings_in new.filled) i) → (count : ℕ) → AllLateFilled device between mid count
+      → s.refusal ≡ None → ending_of_rest dump s.rest ≡ None → r.head ≡ old.head
+      → ArePrinted asks report.refusal output output' (load_text r new.exponent asks (fillings_in new.filled) (length old.history) s.reached s.packets)
+      → report ≡ printed_report report.refusal (length old.history) (length s.reached) (length s.packets) (length (rows_received r s.packets)) (length s.packets - arrived s.packets)
+      → Ran device plan went
+  ran_whole new_bases count is whole rest of_head text report_is = ran_printed (holds None whole) (wrote None whole) new_bases count is whole rest of_head text report_is
+
+  -- ---- a batch was refused
+
+  module _ (since : IsTrue device.is_transparent → LeavesOnly device old.disk between.disk (IsDuring (archive_of old) between.history (rows_of_faults between.fills)))
+      (new_bases : IsTrue device.is_transparent → (i : Interval) → base_in i new.fills ≡ base_of_filling (fillings_in new.filled) i) (silent : output' ≡ output) where
+    begins : IsPrefix old.history between.history
+    begins = subst (IsPrefix old.history) (sym reached.history) (session_begins old.exponent (λ n. n ≡ old.records) old.history dump r s session)
+
+    -- by the disk: what is pending of the batch was taken back behind it
+    batch_failed : s.refusal ≡ Some DiskFault → HasDiskOutcome device disk new.disk true (ExtensionFailed (filled_of old) s.reached (next_fresh_rows r s))
+    batch_failed is =
+        let held = holds (Some DiskFault) is in
+        subst (λ (h : List Item). HasDiskOutcome device disk new.disk true (ExtensionFailed (filled_of old) h (next_fresh_rows r s))) reached.history
+        (batch_failed_disk device disk old between mid new opened on.counts.faults reached.head reached.exponent reached.opened reached.filled filled_on healed keeps faults kept (next_fresh_rows r s)
+        held.0 held.1 (wrote (Some DiskFault) is) filling filled unfilled on.opened.since begins since)
+
+    batch_refused : (refusal : Refusal) → s.refusal ≡ Some refusal → IsSessionEnd old.exponent (λ n. n ≡ old.records) old.history r s (Some refusal)
+        → report ≡ loaded (Some refusal) None (length old.history) (length s.reached) 0 0 0 → Ran device plan went
+    batch_refused OutOfMemory is cause report_is =
+        goes_on (Some OutOfMemory) is (ran_refused (holds (Some OutOfMemory) is) (wrote (Some OutOfMemory) is) new_bases None OutOfMemory silent report_is)
+    batch_refused (Limit which number) is cause report_is =
+        goes_on (Some (Limit which number)) is (ran_refused (holds (Some (Limit which number)) is) (wrote (Some (Limit which number)) is) new_bases None (Limit which number) silent report_is)
+    batch_refused DiskFault is cause report_is =
+        goes_on (Some DiskFault) is (record {
+          way = Stopped (extension_failed (filled_of old) r s) (Some DiskFault);
+          allows = refl;
+          did = record { report = report_is; printed = rw silent (no_text output.written); output = record { counted = ap (λ (o : OutputState). o.faults) silent }; disk = batch_failed is };
+        })
+    batch_refused other is cause report_is = absurd cause
+
+    -- ---- what is told
+
+    abbrev reports : Refusal → Option ℕ → Type 0
+    reports refusal link = report ≡ loaded (Some refusal) link (length old.history) (length s.reached) 0 0 0
+
+    pub ran_told : (ended : Result DumpSummary Refusal) → s.refusal ≡ result_err ended → IfOk ended (IsSummary dump r s) → (refusal : Refusal) (link : Option ℕ) → IsTold ended filling r.link refusal link
+        → reports refusal link → Ran device plan went
+    ran_told (Err e) is summary refusal link told report_is =
+        let named = subst (λ (l : Option ℕ). reports refusal l) told.1 report_is in
+        let as_refused = subst (λ (x : Refusal). reports x None) told.0 named in
+        batch_refused e is (subst (IsSessionEnd old.exponent (λ n. n ≡ old.records) old.history r s) is session.cause) as_refused
+    ran_told (Ok whole) is summary refusal link (inl rest) report_is =
+        let left = sym (rest_told dump r s whole summary) ∙ rest.0 in
+        goes_on_whole (Some refusal) is left
+        (ran_refused (holds None is) (wrote None is) new_bases (Some r.link) refusal silent (subst (λ (l : Option ℕ). reports refusal l) rest.1 report_is))
+    ran_told (Ok whole) is summary refusal link (inr not_filled) report_is =
+        let left = sym (rest_told dump r s whole summary) ∙ not_filled.0 in
+        let cause = subst (λ (x : Result ℕ Refusal). IfErr x (IsFillingRefusal device between mid)) not_filled.1 unfilled in
+        goes_on_whole None is left
+        (ran_not_filled (holds None is) (wrote None is) new_bases refusal cause silent (subst (λ (l : Option ℕ). reports refusal l) not_filled.2 report_is))

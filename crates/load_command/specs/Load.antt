@@ -7,17 +7,16 @@ use Rattle.refusals.specs.declared.refusal.Refusal.{Refusal}
 use Rattle.refusals.specs.declared.refusal.Refusal.TheVariants.{Missing, DiskFault, Limit}
 use Rattle.refusals.specs.declared.refusal.Which.TheVariants.{DumpOctets}
 use Rattle.outer_traits.specs.Outside.{Files}
-use Rattle.history_items.specs.Items.{Item}
-use Rattle.archive_store.specs.Entries.{FilledArchive, filled_archive}
+use Rattle.history_items.specs.declared.items.Item.{Item}
+use Rattle.archive_store.specs.Entries.{Archive, FilledArchive, filled_archive}
 use Rattle.command_plans.specs.Plan.{OfMemory, OfInputs, OfOutput, OfDisk, no_failed_calls, with_failed_call, CommandPlan, Stop, May, Question, Choose, and_then, map_done}
 use Rattle.command_words.specs.Job.{LoadWords}
 use Rattle.command_plans.specs.Inputs.{InputRead, OverLimit, WithinLimit, IsInputAs, IsThereAs}
-use Rattle.archive_store.specs.declared.head.Head.{Head}
 use Rattle.ask_answers.specs.Asks.{asked_plan, asks_check_plan, with_sources}
 use Rattle.command_runs.specs.Moment.{IsMomentOf}
-use Rattle.command_runs.specs.Command.{Progress, Extended, ExtendedUnfilled, ExtensionFailed, archive_opened, nothing_done, opening_plan}
+use Rattle.command_runs.specs.Command.{Progress, Extended, ExtensionFailed, archive_opened, nothing_done, opening_plan}
 use Rattle.command_runs.specs.DumpRest.{ending_of_rest, dump_limit}
-use Rattle.command_runs.specs.FillingPlan.{IsRecordCount, all_filled, fill_failed, filling_plan}
+use Rattle.command_runs.specs.FillingPlan.{IsRecordCount, all_filled, filling_behind_plan, filling_plan}
 use Rattle.load_command.specs.LoadLine.{load_text, whole_report}
 use Rattle.load_command.specs.Loading.{IsRouteAnswer, link_refusal}
 use Rattle.command_runs.specs.Report.{loaded, read_only}
@@ -46,26 +45,10 @@ history_extended filled link s = record {
   failed = no_failed_calls;
 }
 
--- it was, until a batch was refused by a limit or for want of memory, behind which nothing is filled
-abbrev pub extension_refused : FilledArchive → SessionResult → Progress
-extension_refused filled s = record (history_extended filled None s) { disk = ExtendedUnfilled filled s.reached }
-
 -- it was, until the disk failed at the next batch
 abbrev pub extension_failed : FilledArchive → Receiving → SessionResult → Progress
-extension_failed filled r s = record {
-  text = [];
-  is_whole = true;
-  report = loaded None None (length filled.plain.history) (length s.reached) 0 0 0;
+extension_failed filled r s = record (history_extended filled None s) {
   disk = ExtensionFailed filled s.reached (next_fresh_rows r s);
-  sources = 1;
-  failed = with_failed_call OfDisk no_failed_calls;
-}
-
--- all packets were ingested, a rest is left of the dump, and what is late was filled, as far as it came: a call of the
--- disk may have failed then
-abbrev pub bad_packet_left : FilledArchive → ℕ → SessionResult → Bool → Progress
-bad_packet_left filled link s false = history_extended filled (Some link) s
-bad_packet_left filled link s true = record (fill_failed filled s.reached (history_extended filled (Some link) s)) {
   failed = with_failed_call OfDisk no_failed_calls;
 }
 
@@ -98,27 +81,33 @@ load_printing_plan filled r asks s =
     (May OfOutput printing
     (Stop (record done { text = text; report = whole_report r before (length s.reached) s.packets }) None))
 
+-- what a session leads to that is refused, or whose dump has a rest: what is late is filled all the same, and the refusal
+-- is told, which may name the link
+abbrev pub refused_session_plan : (ℕ → Type 0) → FilledArchive → Option ℕ → SessionResult → Refusal
+    → CommandPlan Progress ⊥
+refused_session_plan Began filled link s refusal =
+    filling_behind_plan (IsRecordedBehind Began filled.plain.history s.reached) filled s.reached
+    (length (late_behind filled s)) (history_extended filled link s) refusal
+
 -- What a whole dump leads to, by the refusal of its rest: what is late is filled, and the asks are answered as the
--- fills before say, since a fill holds just what the rows of a late interval give. Where a rest is left it is filled
--- too, and the rest is what is told, whatever the filling comes to.
+-- fills before say, since a fill holds just what the rows of a late interval give.
 abbrev pub after_packets : (ℕ → Type 0) → FilledArchive → Receiving → List Ask → SessionResult → Option Refusal
     → CommandPlan Progress ⊥
 after_packets Began filled r asks s None =
     filling_plan (IsRecordedBehind Began filled.plain.history s.reached) filled s.reached
     (length (late_behind filled s)) (history_extended filled None s)
     (load_printing_plan filled r asks s)
-after_packets Began filled r asks s (Some refusal) =
-    Choose (λ (failed : Bool). Unit {0}) (λ failed. Stop (bad_packet_left filled r.link s failed) (Some refusal))
+after_packets Began filled r asks s (Some refusal) = refused_session_plan Began filled (Some r.link) s refusal
 
--- what a session leads to, by why it ended
+-- What a session leads to, by why it ended. Behind a write that failed no fill comes: it is taken back last.
 abbrev pub after_session : (ℕ → Type 0) → FilledArchive → Receiving → List Ask → List ℕ → SessionResult
     → Option Refusal → CommandPlan Progress ⊥
 after_session Began filled r asks dump s None = after_packets Began filled r asks s (ending_of_rest dump s.rest)
 after_session Began filled r asks dump s (Some DiskFault) = Stop (extension_failed filled r s) (Some DiskFault)
-after_session Began filled r asks dump s (Some refusal) = Stop (extension_refused filled s) (Some refusal)
+after_session Began filled r asks dump s (Some refusal) = refused_session_plan Began filled None s refusal
 
--- ingests the packets of a dump, and then answers: a limit of the history, or DiskFault; BadPacket; DiskFault of a
--- fill, or Limit Records; WriteFault
+-- ingests the packets of a dump, fills what is late behind them whatever that came to, and then answers: a limit of the
+-- history, want of memory, or DiskFault; BadPacket; DiskFault of a fill, or Limit Records; WriteFault
 abbrev pub session_plan : (ℕ → Type 0) → FilledArchive → Receiving → List Ask → List ℕ → CommandPlan Progress ⊥
 session_plan Began filled r asks dump =
     Choose (IsSession filled.plain.exponent Began filled.plain.history dump r)
@@ -144,23 +133,23 @@ reading_plan Began files next words filled route asks =
     (Question (IsInputAs files DumpOctets (λ octets. octets) words.dump)
     (after_dump Began next words.link filled route asks)))
 
--- gives the route of a load over a head: BadSql of its script's first wrong token, UnknownTable, or a limit; memory
+-- gives the route of a load into an archive: BadSql of its script's first wrong token, UnknownTable, or a limit; memory
 -- may be wanting
-abbrev pub route_plan : Progress → Head → Option (List ℕ) → CommandPlan Progress (List RouteStatement)
-route_plan s head text = May OfMemory s (Question (IsRouteAnswer head text) (after_answer s))
+abbrev pub route_plan : Progress → Archive → Option (List ℕ) → CommandPlan Progress (List RouteStatement)
+route_plan s archive text = May OfMemory s (Question (IsRouteAnswer archive text) (after_answer s))
 
 -- what a route leads to: the asks are checked, and the dump is read, whose packets go by it
 abbrev pub after_route : (ℕ → Type 0) → Option Files → Option ℤ → LoadWords → Result (List Ask) Refusal → FilledArchive
     → List RouteStatement → CommandPlan Progress ⊥
 after_route Began files next words asks filled route =
-    and_then (asks_check_plan (archive_opened 1 filled) filled.plain.head asks)
+    and_then (asks_check_plan (archive_opened 1 filled) filled.plain asks)
     (reading_plan Began files next words filled route)
 
 -- what the number of a link leads to: the text of the route is looked at
 abbrev pub after_link : (ℕ → Type 0) → Option Files → Option ℤ → LoadWords → Option (List ℕ)
     → Result (List Ask) Refusal → FilledArchive → Option Refusal → CommandPlan Progress ⊥
 after_link Began files next words text asks filled None =
-    and_then (route_plan (archive_opened 1 filled) filled.plain.head text)
+    and_then (route_plan (archive_opened 1 filled) filled.plain text)
     (after_route Began files next words asks filled)
 after_link Began files next words text asks filled (Some refusal) = Stop (archive_opened 1 filled) (Some refusal)
 

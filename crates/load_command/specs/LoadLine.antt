@@ -1,7 +1,7 @@
 -- What `load` prints and reports.
 use Rattle.std.specs.Prelude.{◌-◌, ℕ, List, ◌++◌, length, codes, decimal, None}
 use Rattle.asks.specs.declared.ask.Ask.{Ask}
-use Rattle.history_items.specs.Items.{Item}
+use Rattle.history_items.specs.declared.items.Item.{Item}
 use Rattle.archive_store.specs.Entries.{filled_archive}
 use Rattle.param_segments.specs.Rows.{SetRow}
 use Rattle.store_fills.specs.Sound.{Fillings}

@@ -1,8 +1,8 @@
 //! The command that takes dumps in: `load`.
 //!
-//! Stands for: its plan (specs/Load.antt), what a load came to (specs/Loading.antt), and the line that it prints (specs/LoadLine.antt). Called by the top call.
+//! Stands for: its plan (specs/Load.antt), what is told of a load (specs/Loading.antt), and the line that it prints (specs/LoadLine.antt). Called by the top call.
 //!
-//! The way of a dump: load_session hands its packets to the archive's store by the route of a script, late_filling fills what is late behind them, ask_answers
+//! The way of a dump: load_session hands its packets to the archive's store by the route of a script and fills what is late behind them, ask_answers
 //! answers the asks of a sheet over the history after them, and the line is printed last. What it leaves of the disk stands in `command_runs`
 //! (specs/Extension.antt there). A step more is a node of the plan, its place in `load_archive` or `load_dump`, and its case in proofs/LoadPlan.antt and
 //! proofs/Sessions.antt.

@@ -9,24 +9,19 @@ ghost use Rattle.text_forms.specs.ClockTime.{IsClockTime};
 ghost use Rattle.mdb_sheets.specs.Sheets.{ReadsCounted};
 ghost use Rattle.command_plans.specs.Plan.{IsDue};
 ghost use Rattle.command_words.specs.JobView.{load_words_of};
-ghost use Rattle.command_runs.specs.Finishing.{WritesCounted};
 ghost use Rattle.retrieval.specs.FoundAsks.{AreFound, asks_found};
 ghost use Rattle.ask_answers.specs.Asks.{ArePrinted, archive_asks_text};
-ghost use Rattle.command_runs.specs.Command.{RanOver, effects_of};
-ghost use Rattle.std.specs.List.{AllByRecursion};
-ghost use Rattle.intervals.specs.declared.interval.Interval.{Interval as AnInterval};
-ghost use Rattle.history_items.specs.Fills.{in_flight};
-ghost use Rattle.store_fills.specs.Faults.{IsDone, faults_in};
-ghost use Rattle.archive_store.specs.StoreView.{filled_of};
-ghost use Rattle.load_session.specs.Receiving.{receiving, IsRouteOver, Receiving};
-ghost use Rattle.load_session.specs.Session.{IsSummary, SessionResult};
-ghost use Rattle.late_filling.specs.Filling.{IsFilledOn};
+ghost use Rattle.command_runs.specs.Command.{Ran, RanOver, effects_of};
+ghost use Rattle.command_runs.specs.FillingPlan.{IsRecordCount};
+ghost use Rattle.command_runs.specs.Opened.{IsOpenedOn, WasOpened};
+ghost use Rattle.archive_store.specs.StoreView.{archive_of, filled_of};
+ghost use Rattle.load_session.specs.Receiving.{receiving, IsRouteOver};
 ghost use Rattle.script_answers.specs.Scripts.{OrNoMemory};
-ghost use Rattle.load_command.specs.Load.{archive_load_plan, load_plan, routed_load_plan};
+ghost use Rattle.load_command.specs.Load.{archive_load_plan, load_plan, routed_load_plan, session_plan};
 ghost use Rattle.load_command.specs.LoadLine.{load_line};
-ghost use Rattle.load_command.specs.Loading.{printed_report, link_refusal, IsLoadRun, IsWholeLoadEnd, IsDumpRefusal, IsDumpRefusalFor, IsNotReceived, IsReady, IsRouteAnswer};
+ghost use Rattle.load_command.specs.Loading.{IsDumpRefusal, IsDumpRefusalFor, IsNotReceived, IsReady, IsRouteAnswer, IsTold, IsWholeDump, link_refusal, load_asked, printed_report};
 ghost use Rattle.command_runs.specs.Report.{disk_of_work, loaded, read_only, report_of_work, status_at};
-ghost use Rattle.dump_lines.specs.LineRoom.{HasLineRoom};
+ghost use Rattle.line_buffer.specs.LineRoom.{HasLineRoom};
 ghost use Rattle.command_runs.specs.DumpRest.{dump_limit, ending_of};
 
 use arch_disk::Disk;
@@ -37,11 +32,11 @@ use asks::Asks;
 use command_plans::read::{read_limited, refusal_of_opening};
 use command_runs::dump_rest::bad_packet;
 use command_runs::finishing::finish;
+use command_runs::healing::heal;
 use command_runs::report::{Ended, LoadCounts, Report};
 use command_words::job::LoadWords;
-use dump_lines::line_buffer::LineBuffer;
-use late_filling::fill_late::fill_late;
-use load_session::{DumpSummary, run_session};
+use line_buffer::LineBuffer;
+use load_session::{DumpSummary, fill_late, run_session};
 use mdb_sheets::read_asks;
 use outer_traits::clock::Clock;
 use outer_traits::inputs::Inputs;
@@ -66,8 +61,9 @@ use stream_graph::graph::Graph;
 /// in turn by `UnknownParameter` or `UnknownTable`, then by `BadRange`; by `ReadFault` or `Limit` DumpOctets; batch by batch by a `Limit` of the history or
 /// by `DiskFault`; by `BadPacket`; fill by fill by `Limit` Records or by `DiskFault`; by `WriteFault`. `OutOfMemory` may come anywhere before the line.
 ///
-/// Where a call of the disk failed in a batch or at a fill, the write is taken back before it ends, as far as the disk lets it. Behind packets that were
-/// all ingested what is late is filled, also where a rest of the dump is left that is no packet.
+/// Behind the packets that were ingested what is late is filled, whatever refused the next: a limit, want of memory, a write that failed, or a rest of the
+/// dump that is no packet; what is told is that. Where a call of the disk failed in a batch or at a fill, the write is taken back before it ends, as far as
+/// the disk lets it, and behind one in a batch no fill comes.
 pub fn load<D: Disk, I: Inputs, K: Sink, C: Clock>(
     alloc: Global,
     words: LoadWords<'_>,
@@ -194,8 +190,6 @@ fn load_archive<D: Disk, I: Inputs, K: Sink, C: Clock>(
             return Err(refused);
         }
     };
-    // It tells the proof that the fill list has the bases of the fills that are there.
-    let _opened = store.front();
     let received = receive(alloc, &store, text, sheet, &mut source, words.link);
     inputs.close(source);
     let report = match received {
@@ -205,8 +199,6 @@ fn load_archive<D: Disk, I: Inputs, K: Sink, C: Clock>(
         }
         Err(unread) => nothing_loaded(&store, unread),
     };
-    // It tells the proof which fills a crash leaves now.
-    let _loaded = store.front();
     Ok((store.into_disk(), report))
 }
 
@@ -219,11 +211,11 @@ struct LoadInput {
     dump: Octets,
 }
 
-/// Why a dump wasn't read to its end.
+/// Why a load ends without its line.
 #[derive(Drop)]
-struct DumpRefusal {
+struct LoadRefusal {
     refusal: Refusal,
-    /// The link of a dump that is too long.
+    /// The link of a dump that is too long, or whose rest is no packet.
     link: Option<u16>,
 }
 
@@ -236,17 +228,17 @@ fn receive<D: Disk, S: Source>(
     sheet: Result<Asks, Refusal>,
     source: &mut S,
     link: u64,
-) -> Result<LoadInput, DumpRefusal>
-    ensures ready { IfOk result (λ received. IsReady store.now.head (option_map (λ text. text.now) text.entry) sheet link
-        received.graph (asks_found received.asks)) }
-    ensures found { IfOk result (λ received. AreFound store.now.head received.asks) }
+) -> Result<LoadInput, LoadRefusal>
+    ensures ready { IfOk result (λ received. IsReady (archive_of store.now)
+        (load_asked (option_map (λ text. text.now) text.entry) sheet link) received.graph (asks_found received.asks)) }
+    ensures found { IfOk result (λ received. AreFound store.now.head store.now.history received.asks) }
     ensures link { IfOk result (λ received. (received.link ≡ link) × (received.link ≤ limit_of limits.Links)) }
     ensures route { IfOk result (λ received. IsRouteOver store.now.head received.graph) }
     ensures whole { IfOk result (λ received. IfSome (S.state source.old).left (λ left. left ≡ received.dump)) }
     ensures short { IfOk result (λ received. length received.dump ≤ dump_limit) }
-    ensures unread { IfErr result (λ unread. IsNotReceived store.now.head (option_map (λ text. text.now) text.entry) sheet
-        link (S.state source.old).left (S.state source.old).faults (S.state source.new).faults unread.refusal
-        unread.link) }
+    ensures unread { IfErr result (λ unread. IsNotReceived (archive_of store.now)
+        (load_asked (option_map (λ text. text.now) text.entry) sheet link) (S.state source.old) (S.state source.new)
+        unread.refusal unread.link) }
     ensures no_fault { OnOk result (Stays (S.state source.old).faults (S.state source.new).faults) }
     ensures later { (S.state source.old).faults ≤ (S.state source.new).faults }
     ensures reliable { (S.state source.old).never_fails →
@@ -270,7 +262,7 @@ fn route_of_load<D: Disk>(
     store: &Store<D>,
     text: Option<&[u8]>,
 ) -> Result<Graph, Refusal>
-    ensures answer { OrNoMemory (IsRouteAnswer store.now.head (option_map (λ text. text.now) text.entry)) result }
+    ensures answer { OrNoMemory (IsRouteAnswer (archive_of store.now) (option_map (λ text. text.now) text.entry)) result }
     ensures over { IfOk result (IsRouteOver store.now.head) }
 {
     match text {
@@ -281,7 +273,7 @@ fn route_of_load<D: Disk>(
 
 /// The route of a load that is given none.
 fn every_packet<D: Disk>(alloc: Global, store: &Store<D>) -> Result<Graph, Refusal>
-    ensures answer { OrNoMemory (IsRouteAnswer store.now.head None) result }
+    ensures answer { OrNoMemory (IsRouteAnswer (archive_of store.now) None) result }
     ensures over { IfOk result (IsRouteOver store.now.head) }
 {
     // This tells the proof that the archive has a first table.
@@ -294,14 +286,14 @@ fn every_packet<D: Disk>(alloc: Global, store: &Store<D>) -> Result<Graph, Refus
 
 /// The route of a script's text over the tables and packet names of an archive.
 fn scripted_route<D: Disk>(alloc: Global, store: &Store<D>, text: &[u8]) -> Result<Graph, Refusal>
-    ensures answer { OrNoMemory (IsRouteAnswer store.now.head (Some text.now)) result }
+    ensures answer { OrNoMemory (IsRouteAnswer (archive_of store.now) (Some text.now)) result }
     ensures over { IfOk result (IsRouteOver store.now.head) }
 {
     let names = store.names(alloc)?;
-    let head = store.head();
     // It tells the proof how many packet names there may be.
-    head.mdb.containers();
-    let script = typed_text(alloc, text, ScriptPlace::Route, &head.tables, &names)?;
+    let _count = store.name_count();
+    let tables = &store.head().tables;
+    let script = typed_text(alloc, text, ScriptPlace::Route, tables, &names)?;
     match Graph::of(alloc, &script) {
         Ok(graph) => Ok(graph),
         Err(_) => Err(Refusal::OutOfMemory),
@@ -323,7 +315,7 @@ fn link_numbered(link: u64) -> Result<u16, Refusal>
 }
 
 /// Reads the dump of a link to its end.
-fn read_dump<S: Source>(alloc: Global, source: &mut S, link: u16) -> Result<Octets, DumpRefusal>
+fn read_dump<S: Source>(alloc: Global, source: &mut S, link: u16) -> Result<Octets, LoadRefusal>
     ensures whole { IfOk result (λ dump. IfSome (S.state source.old).left (λ left. left ≡ dump)) }
     ensures short { IfOk result (λ dump. length dump ≤ dump_limit) }
     ensures unread { IfErr result (λ unread. IsDumpRefusal (S.state source.old).left link unread.refusal unread.link) }
@@ -336,19 +328,19 @@ fn read_dump<S: Source>(alloc: Global, source: &mut S, link: u16) -> Result<Octe
     match read_whole(alloc, source, Which::DumpOctets.limit() as usize) {
         Ok(octets) => match Octets::from_vec(alloc, octets) {
             Ok(dump) => Ok(dump),
-            Err(_) => Err(DumpRefusal::from(Refusal::OutOfMemory)),
+            Err(_) => Err(LoadRefusal::from(Refusal::OutOfMemory)),
         },
         Err(fault) => Err(unread_for(fault, link)),
     }
 }
 
-impl From<Refusal> for DumpRefusal {
+impl From<Refusal> for LoadRefusal {
     ghost use Rattle.std.specs.Prelude.{◌≡◌, None};
 
     ghost from_gives = { λ refusal unread. (unread.refusal ≡ refusal) × (unread.link ≡ None) };
 
-    fn from(refusal: Refusal) -> DumpRefusal {
-        DumpRefusal {
+    fn from(refusal: Refusal) -> LoadRefusal {
+        LoadRefusal {
             refusal,
             link: None,
         }
@@ -356,24 +348,24 @@ impl From<Refusal> for DumpRefusal {
 }
 
 /// A dump of a link that wasn't read because of a fault.
-fn unread_for(fault: ReadFault, link: u16) -> DumpRefusal
+fn unread_for(fault: ReadFault, link: u16) -> LoadRefusal
     ensures { IsDumpRefusalFor fault link result.refusal result.link }
 {
     match fault {
-        ReadFault::Failed => DumpRefusal::from(Refusal::ReadFault),
-        ReadFault::TooLong => DumpRefusal {
+        ReadFault::Failed => LoadRefusal::from(Refusal::ReadFault),
+        ReadFault::TooLong => LoadRefusal {
             refusal: Refusal::Limit {
                 which: Which::DumpOctets,
                 number: Which::DumpOctets.limit(),
             },
             link: Some(link),
         },
-        ReadFault::OutOfMemory | ReadFault::Missing => DumpRefusal::from(Refusal::OutOfMemory),
+        ReadFault::OutOfMemory | ReadFault::Missing => LoadRefusal::from(Refusal::OutOfMemory),
     }
 }
 
 /// The report of a load that ingested nothing, since its dump wasn't read.
-fn nothing_loaded<D: Disk>(store: &Store<D>, unread: DumpRefusal) -> Report
+fn nothing_loaded<D: Disk>(store: &Store<D>, unread: LoadRefusal) -> Report
     ensures { result ≡ record (read_only (Some unread.refusal) (length store.now.history)) { link = unread.link } }
 {
     let mut report = Report::read_only(Some(unread.refusal), store.front());
@@ -381,8 +373,9 @@ fn nothing_loaded<D: Disk>(store: &Store<D>, unread: DumpRefusal) -> Report
     report
 }
 
-/// Ingests the packets of a dump that was received at a moment, in milliseconds since 1970, and prints the answers to its asks and what became of the
-/// packets.
+/// Ingests the packets of a dump that was received at a moment, in milliseconds since 1970, fills what is late behind them
+/// whatever that came to, and takes a failed write of either back. Then it prints the answers to the asks and what became of
+/// the packets, or tells why not.
 fn load_dump<D: Disk, K: Sink>(
     alloc: Global,
     store: &mut Store<D>,
@@ -393,73 +386,65 @@ fn load_dump<D: Disk, K: Sink>(
 ) -> Report
     requires short { length received.now.dump ≤ dump_limit }
     requires link { (1 ≤ received.now.link) × (received.now.link ≤ limit_of limits.Links) }
-    requires found { AreFound store.old.head received.now.asks }
+    requires found { AreFound store.old.head store.old.history received.now.asks }
     requires route { IsRouteOver store.old.head received.now.graph }
     requires moment { IsClockTime moment }
     requires empty { line_buffer ≡ [] }
-    requires opened { AllByRecursion IsDone store.old.fills }
-    ensures session { IsLoadRun D.device store.old store.new (asks_found received.now.asks) received.now.dump
-        (receiving store.old.head received.now.graph received.now.link moment) (K.state sink.old).written
-        (K.state sink.new).written result }
-    ensures writes_counted { WritesCounted result.refusal (K.state sink.old).faults (K.state sink.new).faults }
-    ensures writes_later { (K.state sink.old).faults ≤ (K.state sink.new).faults }
+    requires opened { WasOpened D.device store.old }
+
+    // Whichever disk it was opened on: it took a way through the plan of a session, and did what is said where that ends.
+    ensures { (disk : D) → IsOpenedOn D.device disk store.old → Ran D.device
+        (session_plan (IsRecordCount D.device disk) (filled_of store.old)
+        (receiving store.old.head received.now.graph received.now.link moment) (asks_found received.now.asks)
+        received.now.dump) (effects_of disk store.new.disk (K.state sink.old) (K.state sink.new) result) }
 {
     let before = store.front();
-    match run_session(
+    let ended = run_session(
         alloc,
         store,
         &received.graph,
         &received.dump,
         received.link,
         moment,
-    ) {
-        Ok(whole) => end_load(alloc, store, before, whole, received, line_buffer, sink),
-        Err(refusal) => stopped(store, before, None, refusal),
+    );
+    let filled = fill_late(alloc, store);
+    heal(store);
+    // It tells the proof which fills a crash leaves now.
+    let after = store.front();
+    match whole_dump(ended, filled, received.link) {
+        Ok(whole) => print(
+            alloc,
+            store,
+            before,
+            whole,
+            received.asks.as_slice(),
+            line_buffer,
+            sink,
+        ),
+        Err(refused) => stopped(before, after, refused.link, refused.refusal),
     }
 }
 
-/// Fills what is late behind a session that ingested all packets of a dump, and prints the answers to its asks and what
-/// became of the packets. Where a rest is left of the dump that is what is reported, whatever the filling came to.
-fn end_load<D: Disk, K: Sink>(
-    alloc: Global,
-    store: &mut Store<D>,
-    before: u64,
-    whole: DumpSummary,
-    received: &LoadInput,
-    line_buffer: LineBuffer,
-    sink: &mut K,
-) -> Report
-    requires idle { (i : AnInterval) → in_flight i store.old.fills ≡ None }
-    requires no_fault { faults_in store.old.fills ≡ [] }
-    requires found { AreFound store.old.head received.now.asks }
-    requires empty { line_buffer ≡ [] }
-    requires grown { before ≤ length store.old.history }
-    requires counts { length store.old.history ≤ whole.routed + before }
-    ensures left { IsFilledOn store.old store.new }
-
-    // For each session that came to this store and this summary.
-    ensures ending { (r : Receiving) (s : SessionResult) → IsSummary received.now.dump r s whole → s.refusal ≡ None →
-        store.old.history ≡ s.reached → store.old.head ≡ r.head → received.now.link ≡ r.link →
-        IsWholeLoadEnd D.device store.old store.new r (asks_found received.now.asks) before received.now.dump s
-        (K.state sink.old).written (K.state sink.new).written result }
-    ensures writes_counted { WritesCounted result.refusal (K.state sink.old).faults (K.state sink.new).faults }
-    ensures writes_later { (K.state sink.old).faults ≤ (K.state sink.new).faults }
+/// What a whole dump had, behind which each late interval was filled; or what is told of a load: the refusal of its session,
+/// that of the dump's rest, or that of the filling.
+fn whole_dump(
+    ended: Result<DumpSummary, Refusal>,
+    filled: Result<u64, Refusal>,
+    link: u16,
+) -> Result<DumpSummary, LoadRefusal>
+    ensures whole { IfOk result (IsWholeDump ended filled) }
+    ensures told { IfErr result (λ refused. IsTold ended filled link refused.refusal refused.link) }
 {
-    let filled = fill_late(alloc, store);
+    let whole = ended?;
     match refusal_of_rest(&whole) {
-        Some(refusal) => stopped(store, before, Some(received.link), refusal),
-        None => match filled {
-            Ok(_) => print(
-                alloc,
-                store,
-                before,
-                whole,
-                received.asks.as_slice(),
-                line_buffer,
-                sink,
-            ),
-            Err(refusal) => stopped(store, before, None, refusal),
-        },
+        Some(refusal) => Err(LoadRefusal {
+            refusal,
+            link: Some(link),
+        }),
+        None => {
+            filled?;
+            Ok(whole)
+        }
     }
 }
 
@@ -474,13 +459,13 @@ fn refusal_of_rest(whole: &DumpSummary) -> Option<Refusal>
     }
 }
 
-/// The report of a load that was refused after some packets were ingested.
-fn stopped<D: Disk>(store: &Store<D>, before: u64, link: Option<u16>, refusal: Refusal) -> Report
-    requires { before ≤ length store.now.history }
-    ensures { result ≡ loaded (Some refusal) link before (length store.now.history) 0 0 0 }
+/// The report of a load that was refused behind its session, by the lengths of the history before and after.
+fn stopped(before: u64, after: u64, link: Option<u16>, refusal: Refusal) -> Report
+    requires { before ≤ after }
+    ensures { result ≡ loaded (Some refusal) link before after 0 0 0 }
 {
     let counts = LoadCounts::default();
-    Report::loaded(Some(refusal), link, before, store.front(), counts)
+    Report::loaded(Some(refusal), link, before, after, counts)
 }
 
 /// Prints the answers to asks that were found, and what became of the packets of a whole dump.
@@ -493,18 +478,16 @@ fn print<D: Disk, K: Sink>(
     line_buffer: LineBuffer,
     sink: &mut K,
 ) -> Report
-    requires found { AreFound store.old.head asks.now }
+    requires found { AreFound store.old.head store.old.history asks.now }
     requires empty { line_buffer ≡ [] }
     requires grown { before ≤ length store.old.history }
     requires counts { length store.old.history ≤ whole.routed + before }
-    ensures printed { ArePrinted (asks_found asks.now) result.refusal (K.state sink.old).written (K.state sink.new).written
+    ensures printed { ArePrinted (asks_found asks.now) result.refusal (K.state sink.old) (K.state sink.new)
         (archive_asks_text (filled_of store.old) 1 (asks_found asks.now) ++ load_line whole.packets
         (length store.old.history - before) (whole.routed - (length store.old.history - before)) whole.idle
         (length store.old.history)) }
     ensures report { result ≡ printed_report result.refusal before (length store.old.history) whole.packets whole.routed
         whole.idle }
-    ensures writes_counted { WritesCounted result.refusal (K.state sink.old).faults (K.state sink.new).faults }
-    ensures writes_later { (K.state sink.old).faults ≤ (K.state sink.new).faults }
     ensures same { store.new ≡ store.old }
 {
     let mut line_buffer = line_buffer;
@@ -519,10 +502,10 @@ fn print<D: Disk, K: Sink>(
             put_line(&mut line_buffer, counts, after - before, after);
             match finish(line_buffer, sink) {
                 None => Report::loaded(None, None, before, after, counts),
-                Some(refusal) => stopped(store, before, None, refusal),
+                Some(refusal) => stopped(before, after, None, refusal),
             }
         }
-        Err(fault) => stopped(store, before, None, Refusal::from(fault)),
+        Err(fault) => stopped(before, after, None, Refusal::from(fault)),
     }
 }
 

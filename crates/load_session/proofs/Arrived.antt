@@ -13,7 +13,9 @@ use Rattle.container_extract.specs.Chain.{packet_name_of}
 use Rattle.text_forms.specs.ClockTime.{IsClockTime}
 use Rattle.archive_store.specs.declared.batch.Arrival.{Arrival}
 use Rattle.archive_store.specs.declared.batch.Batch.{Batch}
+use Rattle.history_items.specs.declared.items.Item.{Item}
 use Rattle.archive_store.specs.Batches.{arrival_rows, IsArrival}
+use Rattle.archive_store.proofs.RowsAlone.{named_in}
 use Rattle.archive_history.proofs.Steps.{few_filter}
 use Rattle.container_extract.proofs.Known.{packet_name_is_known}
 use Rattle.stream_graph.specs.Laws.{AreTablesBelow}
@@ -81,8 +83,8 @@ pub record CanReceive (r : Receiving) : Type 0 where
 within_limit : (count most : ℕ) → count ≤ most → most ≤ 16 → count ≤ limit_of Tables
 within_limit count most few at_most = let bound : count ≤ 16 = omega (arith, few, at_most) in bound
 
-arrival_fits : (r : Receiving) (packet : List ℕ) → CanReceive r → IsPacket packet → is_idle packet ≡ false → IsArrival r.head r.moment (arrival_from r packet)
-arrival_fits r packet can whole carries =
+arrival_fits : (r : Receiving) (history : List Item) (packet : List ℕ) → CanReceive r → IsPacket packet → is_idle packet ≡ false → IsArrival r.head history r.moment (arrival_from r packet)
+arrival_fits r history packet can whole carries =
     let there = tables_there r packet can.over in
     let few = there.few in
     let most = can.few in record {
@@ -92,7 +94,7 @@ arrival_fits r packet can whole carries =
       carries = carries;
       received = refl;
       key = refl;
-      pname = packet_name_is_known r.head.mdb packet can.database;
+      pname = named_in r.head.mdb history (packet_name_of r.head.mdb packet) (packet_name_is_known r.head.mdb packet can.database);
       few_tables = within_limit _ _ few most;
       tables = there.each;
     }
@@ -101,7 +103,7 @@ arrival_fits r packet can whole carries =
 pub batch_none : (r : Receiving) (batch : Batch) → batch.rectime ≡ r.moment → batch.arrivals ≡ [] → IsClockTime r.moment → IsBatchOf r [] batch
 batch_none r batch at none time = record {
   received = at;
-  takes = record { few = rw none (omega arith); rectime = rw at time; each = rw none tt };
+  takes = λ history. record { few = rw none (omega arith); rectime = rw at time; each = rw none tt };
   rows = rw none refl;
   count = rw none refl;
 }
@@ -119,10 +121,10 @@ batch_kept r packets packet old new can few whole carries b at grown =
     let count = b.count in
     record {
       received = at ∙ b.received;
-      takes = record {
+      takes = λ history. record {
         few = omega (arith, len, count, less, few);
-        rectime = subst IsClockTime (sym at) b.takes.rectime;
-        each = subst (λ (t : ℤ). AllByRecursion (IsArrival r.head t) new.arrivals) (sym at) (subst (AllByRecursion (IsArrival r.head old.rectime)) (sym grown) (all_push (IsArrival r.head old.rectime) old.arrivals (arrival_from r packet) b.takes.each (subst (λ (t : ℤ). IsArrival r.head t (arrival_from r packet)) (sym b.received) (arrival_fits r packet can whole carries))));
+        rectime = subst IsClockTime (sym at) (b.takes history).rectime;
+        each = subst (λ (t : ℤ). AllByRecursion (IsArrival r.head history t) new.arrivals) (sym at) (subst (AllByRecursion (IsArrival r.head history old.rectime)) (sym grown) (all_push (IsArrival r.head history old.rectime) old.arrivals (arrival_from r packet) (b.takes history).each (subst (λ (t : ℤ). IsArrival r.head history t (arrival_from r packet)) (sym b.received) (arrival_fits r history packet can whole carries))));
       };
       rows =
           ap (λ (l : List Arrival). flat_map arrival_rows l) grown
@@ -140,7 +142,7 @@ batch_idle r packets packet old new idle b at same =
     let alike : kept (packets ++ packet ∷ []) ≡ kept packets = kept-append packets (packet ∷ []) ∙ ap (λ (l : List (List ℕ)). kept packets ++ l) none ∙ append-nil (kept packets) in
     record {
       received = at ∙ b.received;
-      takes = record { few = rw same b.takes.few; rectime = rw at b.takes.rectime; each = rw (same, at) b.takes.each };
+      takes = λ history. record { few = rw same (b.takes history).few; rectime = rw at (b.takes history).rectime; each = rw (same, at) (b.takes history).each };
       rows = ap (λ (l : List Arrival). flat_map arrival_rows l) same ∙ b.rows
           ∙ ap (flat_map (rows_of_packet r)) (sym alike);
       count = ap length same ∙ b.count ∙ ap length (sym alike);

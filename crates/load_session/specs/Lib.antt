@@ -1,5 +1,6 @@
 pub mod Receiving
 pub mod Batches
-pub mod Healing
+pub mod During
 pub mod Session
+pub mod Filling
 pub mod Laws

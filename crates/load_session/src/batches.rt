@@ -1,24 +1,20 @@
-//! The packets of a dump, ingested in batches.
+//! Batches of the packets of a dump.
 
-ghost use Rattle.std.specs.Prelude.{◌≡◌, ◌+◌, ◌<◌, ◌≤◌, [], drop, length, IfOk, IfErr, OnOk};
+ghost use Rattle.std.specs.Prelude.{◌≡◌, ◌+◌, ◌<◌, ◌≤◌, drop, IfOk, OnOk};
 ghost use Rattle.refusals.specs.Limits.{limit_of};
 ghost use Rattle.refusals.specs.declared.refusal.Which.TheVariants as limits;
 ghost use Rattle.arch_types.specs.Dump.{BeginsWithNoPacket};
 ghost use Rattle.arch_types.specs.Packet.{IsPacket};
 ghost use Rattle.text_forms.specs.ClockTime.{IsClockTime};
-ghost use Rattle.store_fills.specs.Faults.{faults_in};
-ghost use Rattle.std.specs.Result.{result_err};
 ghost use Rattle.field_codec.specs.declared.entry.Entry.TheVariants as entries;
 ghost use Rattle.field_codec.specs.Entries.{IsArchiveEntry};
-ghost use Rattle.load_session.specs.Batches.{arrival_from, arrivals_with, ExactlyOne, IsIngested, IsStoppedAt, IsNextBatch};
+ghost use Rattle.load_session.specs.Batches.{arrival_from, arrivals_with, IsNextBatch};
 ghost use Rattle.load_session.specs.Receiving.{receiving, IsRouteOver};
 
-use arch_disk::Disk;
 use arch_types::octets::Octets;
-use archive_store::{Arrival, Arrivals, Batch, Head, Store, received_row};
+use archive_store::{Arrival, Arrivals, Batch, Head, received_row};
 use container_extract::Extractor;
-use refusals::Refusal;
-use space_packet::dump::{DumpPackets, Why};
+use space_packet::dump::DumpPackets;
 use space_packet::header::is_idle_packet;
 use std::alloc::{AllocError, Global};
 use stream_graph::graph::Graph;
@@ -28,81 +24,14 @@ const BATCH: u64 = 64;
 
 /// Packets that were taken from a dump for a batch, from which idle ones are left out.
 #[derive(Drop)]
-struct NextBatch {
-    batch: Batch,
-    packets: u64,
-}
-
-/// What a dump had whose packets were all ingested.
-#[derive(Clone, Copy, Debug)]
-pub struct DumpSummary {
+pub(crate) struct NextBatch {
+    pub(crate) batch: Batch,
     /// All packets, idle ones counted too.
-    pub packets: u64,
-    pub idle: u64,
-    /// The rows that the others are: one for each packet and table.
-    pub routed: u64,
-    /// The octet where the dump's rest begins.
-    pub at: usize,
-    /// What the rest is.
-    pub why: Why,
-}
-
-/// Ingests the packets of a dump that came by a link and was received at a moment, in milliseconds since 1970, into the tables of a route. At the first
-/// batch that is refused it stops.
-pub(crate) fn ingest_dump<D: Disk>(
-    alloc: Global,
-    store: &mut Store<D>,
-    graph: &Graph,
-    dump: &Octets,
-    link: u16,
-    moment: i64,
-) -> Result<DumpSummary, Refusal>
-    requires short { length dump.now ≤ limit_of limits.DumpOctets }
-    requires link { (1 ≤ link) × (link ≤ limit_of limits.Links) }
-    requires moment { IsClockTime moment }
-    requires route { IsRouteOver store.old.head graph.now }
-    requires no_fault { faults_in store.old.fills ≡ [] }
-    ensures whole { IfOk result (IsIngested store.old store.new dump.now
-        (receiving store.old.head graph.now link moment)) }
-    ensures stopped { IfErr result (IsStoppedAt store.old store.new dump.now
-        (receiving store.old.head graph.now link moment)) }
-    ensures disk_writes { ExactlyOne (result_err result) (D.device.failed_writes store.old.disk)
-        (D.device.failed_writes store.new.disk) }
-{
-    let mut places = DumpPackets::new(dump.as_slice());
-    let mut extractor = Extractor::new(alloc)?;
-    let mut packets = 0;
-    let mut idle = 0;
-    let mut routed = 0;
-    'batches: loop {
-        let taken = next_batch(
-            alloc,
-            store.head(),
-            graph,
-            dump,
-            &mut places,
-            &mut extractor,
-            link,
-            moment,
-        )?;
-        if taken.packets == 0 {
-            return Ok(DumpSummary {
-                packets,
-                idle,
-                routed,
-                at: places.at(),
-                why: places.why(),
-            });
-        }
-        packets += taken.packets;
-        idle += taken.packets - taken.batch.arrivals.as_slice().len() as u64;
-        let ingested = store.ingest(alloc, &taken.batch)?;
-        routed += ingested.outcomes.as_slice().len() as u64;
-    }
+    pub(crate) packets: u64,
 }
 
 /// Takes the next packets of a dump for a batch: fewer than it takes only where no more follow.
-fn next_batch(
+pub(crate) fn next_batch(
     alloc: Global,
     head: &Head,
     graph: &Graph,

@@ -6,6 +6,7 @@ use crate::folder::Folder;
 use arch_disk::{Disk, Failed, FaultCounts};
 use std::alloc::Global;
 use std::fs::File;
+use std::io::{self, ErrorKind};
 use std::rt::Files;
 
 /// Files of a folder, named by eight decimal digits. The folder is made by the first write, and a file by the first write to it; where they aren't
@@ -14,6 +15,8 @@ use std::rt::Files;
 pub struct RealDisk<'a, R> {
     folder: Folder<'a, R>,
     counts: FaultCounts,
+    /// The call that failed last found a file locked.
+    is_busy: bool,
 }
 
 impl<'a, R> RealDisk<'a, R> {
@@ -24,8 +27,19 @@ impl<'a, R> RealDisk<'a, R> {
         RealDisk {
             folder: Folder::new(alloc, rt, path),
             counts: FaultCounts::NONE,
+            is_busy: false,
         }
     }
+
+    /// Whether the call that failed last did so since another program works on the archive.
+    pub fn is_busy(&self) -> bool {
+        self.is_busy
+    }
+}
+
+/// Whether a call failed at a lock that another program has.
+fn is_of_a_lock(error: &io::Error) -> bool {
+    error.kind() == ErrorKind::WouldBlock
 }
 
 impl<'a, R: Files<File = File>> Disk for RealDisk<'a, R> {
@@ -49,35 +63,50 @@ impl<'a, R: Files<File = File>> Disk for RealDisk<'a, R> {
     fn len(&mut self, file: u32) -> Result<u64, Failed> {
         match self.folder.len(file) {
             Ok(len) => Ok(len),
-            Err(_) => Err(self.counts.look_failed()),
+            Err(error) => {
+                self.is_busy = is_of_a_lock(&error);
+                Err(self.counts.look_failed())
+            }
         }
     }
 
     fn read_at(&mut self, file: u32, at: u64, into: &mut [u8]) -> Result<(), Failed> {
         match self.folder.read_at(file, at, into) {
             Ok(()) => Ok(()),
-            Err(_) => Err(self.counts.look_failed()),
+            Err(error) => {
+                self.is_busy = is_of_a_lock(&error);
+                Err(self.counts.look_failed())
+            }
         }
     }
 
     fn write_at(&mut self, file: u32, at: u64, from: &[u8]) -> Result<(), Failed> {
         match self.folder.write_at(file, at, from) {
             Ok(()) => Ok(()),
-            Err(_) => Err(self.counts.write_failed()),
+            Err(error) => {
+                self.is_busy = is_of_a_lock(&error);
+                Err(self.counts.write_failed())
+            }
         }
     }
 
     fn cut(&mut self, file: u32, len: u64) -> Result<(), Failed> {
         match self.folder.cut(file, len) {
             Ok(()) => Ok(()),
-            Err(_) => Err(self.counts.write_failed()),
+            Err(error) => {
+                self.is_busy = is_of_a_lock(&error);
+                Err(self.counts.write_failed())
+            }
         }
     }
 
     fn sync(&mut self, file: u32) -> Result<(), Failed> {
         match self.folder.sync(file) {
             Ok(()) => Ok(()),
-            Err(_) => Err(self.counts.write_failed()),
+            Err(error) => {
+                self.is_busy = is_of_a_lock(&error);
+                Err(self.counts.write_failed())
+            }
         }
     }
 

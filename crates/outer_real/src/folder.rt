@@ -2,7 +2,7 @@
 
 ghost use Rattle.std.specs.Prelude.{◌<◌, ◌≤◌, IfSome, IfOk, length, vec_len};
 
-use crate::handles::Handles;
+use crate::handles::{Access, Handles, has_no_sync};
 use std::alloc::Global;
 use std::collections::BTreeMap;
 use std::fs::{self, File, OpenOptions};
@@ -105,8 +105,8 @@ impl<'a, R: Files<File = File>> Folder<'a, R> {
         match self.entries.get(&number) {
             Some(DirectoryEntry::Absent) => return Ok(None),
             Some(_) => {
-                let file = self.open(number)?;
-                return Ok(Some(self.keep(number, file)?));
+                let (file, access) = self.open(number)?;
+                return Ok(Some(self.keep(number, file, access)?));
             }
             None => {}
         }
@@ -118,9 +118,9 @@ impl<'a, R: Files<File = File>> Folder<'a, R> {
         ensures { IfOk result (λ found. IfSome found (λ place. place < vec_len self.new.handles.files)) }
     {
         match self.open(number) {
-            Ok(file) => {
+            Ok((file, access)) => {
                 self.entries.insert(number, DirectoryEntry::There)?;
-                Ok(Some(self.keep(number, file)?))
+                Ok(Some(self.keep(number, file, access)?))
             }
             Err(error) if error.kind() == ErrorKind::NotFound => {
                 self.entries.insert(number, DirectoryEntry::Absent)?;
@@ -137,35 +137,46 @@ impl<'a, R: Files<File = File>> Folder<'a, R> {
         if let Some(place) = self.find(number)? {
             return Ok(place);
         }
-        make_folders(self.rt, self.path.as_str())?;
+        self.make_folders()?;
         let mut to_make = to_update();
         to_make.create_new(true);
         let file = self.open_by(&to_make, number)?;
         file.try_lock()?;
         self.entries.insert(number, DirectoryEntry::There)?;
-        self.keep(number, file)
+        self.keep(number, file, Access::Update)
     }
 
-    fn keep(&mut self, number: u32, file: File) -> io::Result<usize>
+    /// Makes the folder and those above it. A symbolic link has its target's entry in another folder than its own, so the entries are taken to the
+    /// device along the folder's own path, too.
+    fn make_folders(&self) -> io::Result<()> {
+        make_folders(self.rt, self.path.as_str())?;
+        match self.rt.canonicalize(self.alloc, self.path.as_str()) {
+            Ok(own) => make_folders(self.rt, own.as_str()),
+            // one that is no text, or too long
+            Err(_) => Ok(()),
+        }
+    }
+
+    fn keep(&mut self, number: u32, file: File, access: Access) -> io::Result<usize>
         ensures { IfOk result (λ place. place < vec_len self.new.handles.files) }
     {
         self.handles.make_room()?;
-        self.handles.add(number, file)
+        self.handles.add(number, file, access)
     }
 
     /// Opens a file and locks it. Where it may be read and not written, a lock that readers share is enough, and a write of it fails later (D-53).
-    fn open(&self, number: u32) -> io::Result<File> {
+    fn open(&self, number: u32) -> io::Result<(File, Access)> {
         match self.open_by(&to_update(), number) {
             Ok(file) => {
                 file.try_lock()?;
-                Ok(file)
+                Ok((file, Access::Update))
             }
             Err(error) if is_for_reading(error.kind()) => {
                 let mut to_read = File::options();
                 to_read.read(true);
                 let file = self.open_by(&to_read, number)?;
                 file.try_lock_shared()?;
-                Ok(file)
+                Ok((file, Access::Read))
             }
             Err(error) => Err(error),
         }
@@ -193,9 +204,13 @@ fn to_update() -> OpenOptions {
     options
 }
 
+/// Takes the entries of a folder to the device, where its file system has a call for that.
 fn sync_folder<R: Files<File = File>>(rt: &R, path: &str) -> io::Result<()> {
     let here = if path.is_empty() { "." } else { path };
-    fs::open(rt, here)?.sync_all()
+    match fs::open(rt, here)?.sync_all() {
+        Err(error) if has_no_sync(error.kind()) => Ok(()),
+        answer => answer,
+    }
 }
 
 /// Makes a folder and those above it, as far as they aren't there.

@@ -9,15 +9,34 @@ use std::io::{self, ErrorKind};
 /// Files that are open at a time, at most: fewer than a process may have (D-52).
 const MOST: usize = 32;
 
+/// What a file was opened for.
+#[derive(Clone, Copy)]
+pub(crate) enum Access {
+    Update,
+    /// To be read alone.
+    Read,
+}
+
 /// An open file of the folder.
 #[derive(Drop)]
 pub(crate) struct Handle {
     number: u32,
     pub(crate) file: File,
+    access: Access,
     /// It was written or cut since it was opened or synced.
     is_changed: bool,
     /// The number of the use that was its last.
     used: u64,
+}
+
+impl Handle {
+    /// Takes the file to the device. One that is read alone has nothing to be taken there by a call that its file system hasn't.
+    fn sync(&self) -> io::Result<()> {
+        match (self.file.sync_all(), self.access) {
+            (Err(error), Access::Read) if has_no_sync(error.kind()) => Ok(()),
+            (answer, _) => answer,
+        }
+    }
 }
 
 /// The files of a folder that are open, each once. To open one more than `MOST` the least recently used one is closed, and opened again when it
@@ -70,7 +89,7 @@ impl Handles {
     }
 
     /// Adds a file that was opened, and gives its place.
-    pub(crate) fn add(&mut self, number: u32, file: File) -> io::Result<usize>
+    pub(crate) fn add(&mut self, number: u32, file: File, access: Access) -> io::Result<usize>
         requires { vec_len self.old.files < 32 }
         ensures { IfOk result (λ place. place < vec_len self.new.files) }
     {
@@ -78,6 +97,7 @@ impl Handles {
         self.files.push(Handle {
             number,
             file,
+            access,
             is_changed: false,
             used: self.uses,
         })?;
@@ -101,9 +121,13 @@ impl Handles {
         if self.has_lost {
             return Err(ErrorKind::Other.into());
         }
-        self.files[place].file.sync_all()?;
-        self.files[place].is_changed = false;
-        Ok(())
+        match self.files[place].sync() {
+            Ok(()) => {
+                self.files[place].is_changed = false;
+                Ok(())
+            }
+            Err(error) => Err(error),
+        }
     }
 
     /// Takes a file to the device, which was not asked for.
@@ -117,6 +141,11 @@ impl Handles {
         }
         answer
     }
+}
+
+/// Whether a sync failed since the file system has no such call: then it brings nothing to the device by one (D-53).
+pub(crate) fn has_no_sync(kind: ErrorKind) -> bool {
+    matches!(kind, ErrorKind::InvalidInput | ErrorKind::Unsupported)
 }
 
 fn position(handles: &[Handle], number: u32) -> Option<usize>

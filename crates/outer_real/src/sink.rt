@@ -5,6 +5,12 @@ ghost use Rattle.std.specs.Prelude.{◌≡◌, ◌≤◌, length, IfOk};
 use outer_traits::fault::{Failed, raised};
 use outer_traits::sink::Sink;
 use std::io::{self, ErrorKind, Write};
+use std::rt::Clock as SystemClock;
+use std::thread;
+use std::time::Duration;
+
+/// How long an output that has no room is left alone, in milliseconds.
+const PAUSE: u64 = 10;
 
 /// The standard output.
 #[derive(Drop)]
@@ -21,30 +27,34 @@ impl<'a, R> RealSink<'a, R> {
     }
 }
 
-/// One write, made again as long as signals interrupt it.
-fn write_some<W: Write>(writer: &mut W, piece: &[u8]) -> io::Result<usize>
+/// One write, made again as long as signals interrupt it, or the output has no room and doesn't wait for some by itself.
+fn write_some<C: SystemClock, W: Write>(
+    clock: &C,
+    writer: &mut W,
+    piece: &[u8],
+) -> io::Result<usize>
     ensures { IfOk result (λ n. n ≤ length piece.now) }
 {
     for _ in 0..u64::MAX {
         match writer.write(piece) {
             Ok(n) => return Ok(n),
-            Err(error) => {
-                if error.kind() != ErrorKind::Interrupted {
-                    return Err(error);
-                }
-            }
+            Err(error) => match error.kind() {
+                ErrorKind::Interrupted => {}
+                ErrorKind::WouldBlock => thread::sleep(clock, Duration::from_millis(PAUSE)),
+                _ => return Err(error),
+            },
         }
     }
     Err(ErrorKind::Interrupted.into())
 }
 
-impl<'a, R: Print> Sink for RealSink<'a, R> {
+impl<'a, R: Print + SystemClock> Sink for RealSink<'a, R> {
     ghost use Rattle.std.specs.Prelude.{None};
 
     ghost state = { λ sink. record { written = None; faults = sink.faults } };
 
     fn write(&mut self, piece: &[u8]) -> Result<usize, Failed> {
-        match write_some(&mut io::writer(self.rt), piece) {
+        match write_some(self.rt, &mut io::writer(self.rt), piece) {
             Ok(0) if !piece.is_empty() => {
                 self.faults = raised(self.faults);
                 Ok(0)

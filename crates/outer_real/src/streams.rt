@@ -20,6 +20,10 @@ impl<F> StandardStreams<F> {
     }
 }
 
+/// The root, or where that may not be opened the current folder.
 fn open_folder<R: Files>(rt: &R) -> io::Result<R::File> {
-    fs::open(rt, "/")
+    match fs::open(rt, "/") {
+        Ok(folder) => Ok(folder),
+        Err(_) => fs::open(rt, "."),
+    }
 }

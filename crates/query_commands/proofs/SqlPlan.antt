@@ -1,5 +1,5 @@
 -- How the plan of `query --sql` goes.
-use Rattle.std.proofs.Common.{◌≡◌, ◌≤◌, inl, inr, ℕ, false, List, [], length, Option, Some, None, refl, sym, ap, ◌∙◌, subst, arith}
+use Rattle.std.proofs.Common.{◌≡◌, inl, inr, ℕ, false, List, [], length, Option, Some, None, refl, sym, ap, ◌∙◌, subst}
 use Rattle.std.specs.Prelude.{IsSome, IsTrue, Result, Ok, Err}
 use Rattle.std.specs.List.{AllByRecursion}
 use Rattle.arch_disk.specs.Disk.{Device}
@@ -8,7 +8,6 @@ use Rattle.refusals.specs.declared.refusal.Refusal.TheVariants.{OutOfMemory, Wri
 use Rattle.refusals.specs.declared.refusal.Which.TheVariants.{ScriptOctets}
 use Rattle.outer_traits.specs.Outside.{Files}
 use Rattle.command_plans.proofs.Inputs.{reads_determined}
-use Rattle.archive_store.specs.declared.head.Head.{Head}
 use Rattle.archive_store.specs.Entries.{Archive, FilledArchive}
 use Rattle.command_plans.specs.Plan.{OfMemory, Stopped, Interrupted, EachEnd, IsDetermined, map_done}
 use Rattle.command_plans.proofs.Plans.{determined, determined_map_done, each_end}
@@ -27,9 +26,9 @@ use Rattle.command_runs.proofs.OverInputs.{HasRead}
 use Rattle.script_answers.proofs.ScriptAnswers.{script_determined}
 
 -- the tables of a script that is answered are there
-pub named_tables : (head : Head) (text : List ℕ) (statements : List TypedStatement) → TypedNamesTables → IsSqlAnswer head text (Ok statements) → AllByRecursion (NamesTables (length head.tables)) statements
-named_tables head text statements law is =
-    subst (AllByRecursion (NamesTables (length head.tables))) (sym is.3) (law Sql head.tables (packet_names head) [] is.0.statements is.0.places is.2)
+pub named_tables : (archive : Archive) (text : List ℕ) (statements : List TypedStatement) → TypedNamesTables → IsSqlAnswer archive text (Ok statements) → AllByRecursion (NamesTables (length archive.head.tables)) statements
+named_tables archive text statements law is =
+    subst (AllByRecursion (NamesTables (length archive.head.tables))) (sym is.3) (law Sql archive.head.tables (packet_names archive.head archive.history) [] is.0.statements is.0.places is.2)
 
 -- ---- an archive was opened
 
@@ -38,7 +37,7 @@ module _ {D : Type 0} (device : Device D) (e : Effects D) (filled : FilledArchiv
   archive = filled.plain
 
   -- the text was refused, or there was no memory
-  ran_refused_text : (refusal : Refusal) → OrNoMemory (IsSqlAnswer archive.head text) (Err refusal) → EndedAt device e (archive_opened 1 filled) (Some refusal) (archive_opened 1 filled).failed →
+  ran_refused_text : (refusal : Refusal) → OrNoMemory (IsSqlAnswer archive text) (Err refusal) → EndedAt device e (archive_opened 1 filled) (Some refusal) (archive_opened 1 filled).failed →
       Ran device (text_plan text filled) e
   ran_refused_text refusal (inl memory) did = record {
     way = Interrupted (archive_opened 1 filled) OfMemory;
@@ -57,13 +56,10 @@ module _ {D : Type 0} (device : Device D) (e : Effects D) (filled : FilledArchiv
       Ran device (stepwise_printing_plan (archive_opened 1 filled) answers) e
   ran_text answers None printed report =
       ran_later device e OfMemory (record (archive_opened 1 filled) { text = answers; is_whole = false }) (printing_plan (archive_opened 1 filled) answers)
-      (ran_printed device e (archive_opened 1 filled) answers None refl refl printed.0 (stays e.output.faults e.output'.faults printed.1) printed.1 report disk)
-    where
-      stays : (before now : ℕ) → now ≡ before → before ≤ now
-      stays before now same = omega (arith, same)
+      (ran_printed device e (archive_opened 1 filled) answers None refl refl printed report disk)
   ran_text answers (Some WriteFault) printed report =
       ran_later device e OfMemory (record (archive_opened 1 filled) { text = answers; is_whole = false }) (printing_plan (archive_opened 1 filled) answers)
-      (ran_printed device e (archive_opened 1 filled) answers (Some WriteFault) refl refl printed.some printed.later printed.failed report disk)
+      (ran_printed device e (archive_opened 1 filled) answers (Some WriteFault) refl refl printed report disk)
   ran_text answers (Some OutOfMemory) printed report = record {
     way = Interrupted (record (archive_opened 1 filled) { text = answers; is_whole = false }) OfMemory;
     allows = inl refl;
@@ -85,7 +81,7 @@ module _ {D : Type 0} (device : Device D) (e : Effects D) (filled : FilledArchiv
 -- nothing is asked of them behind the script
 text_reads : (text : List ℕ) (filled : FilledArchive) → EachEnd (HasRead 1) (text_plan text filled)
 text_reads text filled =
-    each_end (HasRead 1) (script_plan (archive_opened 1 filled) Sql filled.plain.head.tables (packet_names filled.plain.head) text) (statements_plan filled)
+    each_end (HasRead 1) (script_plan (archive_opened 1 filled) Sql filled.plain.head.tables (packet_names filled.plain.head filled.plain.history) text) (statements_plan filled)
     ((refl, refl), λ answer is. each answer) (λ statements. ((refl, refl), ((refl, refl), (refl, refl))))
   where
     each : (answer : Result (List TypedStatement) Refusal) → EachEnd (HasRead 1) (after_answer (archive_opened 1 filled) answer)
@@ -99,8 +95,8 @@ archive_reads device disk text = ((refl, refl), each_end (HasRead 1) (opening_pl
 
 text_determined : (text : List ℕ) (filled : FilledArchive) → IsDetermined (text_plan text filled)
 text_determined text filled =
-    determined (script_plan (archive_opened 1 filled) Sql filled.plain.head.tables (packet_names filled.plain.head) text) (statements_plan filled)
-    (script_determined (archive_opened 1 filled) Sql filled.plain.head.tables (packet_names filled.plain.head) text) (λ statements. tt)
+    determined (script_plan (archive_opened 1 filled) Sql filled.plain.head.tables (packet_names filled.plain.head filled.plain.history) text) (statements_plan filled)
+    (script_determined (archive_opened 1 filled) Sql filled.plain.head.tables (packet_names filled.plain.head filled.plain.history) text) (λ statements. tt)
 
 pub sql_determined : {D : Type 0} (device : Device D) (disk : D) (files : Option Files) (name : List ℕ) → IsTrue device.is_transparent → IsSome files → IsDetermined (sql_plan device disk files name)
 sql_determined device disk None name known some = absurd (cc (some))

@@ -16,7 +16,7 @@ answers_plan filled asks = stepwise_printing_plan (archive_opened 0 filled) (arc
 -- checks the asks of a sheet over an archive, and answers them
 abbrev pub answering_plan : Result (List Ask) Refusal → FilledArchive → CommandPlan Progress ⊥
 answering_plan asks filled =
-    and_then (asks_check_plan (archive_opened 0 filled) filled.plain.head asks) (answers_plan filled)
+    and_then (asks_check_plan (archive_opened 0 filled) filled.plain asks) (answers_plan filled)
 
 -- opens the archive, and answers the asks of a sheet that was read
 abbrev pub archive_asks_plan : {D : Type 0} → Device D → D → Result (List Ask) Refusal → CommandPlan Progress ⊥

@@ -18,8 +18,8 @@ statements_plan filled statements =
 -- answers a text over an archive, unless it is refused as a script over its tables and packet names
 abbrev pub text_plan : List ℕ → FilledArchive → CommandPlan Progress ⊥
 text_plan text filled =
-    and_then (script_plan (archive_opened 1 filled) Sql filled.plain.head.tables (packet_names filled.plain.head) text)
-    (statements_plan filled)
+    let names = packet_names filled.plain.head filled.plain.history in
+    and_then (script_plan (archive_opened 1 filled) Sql filled.plain.head.tables names text) (statements_plan filled)
 
 -- opens the archive, and answers a text that was read
 abbrev pub archive_text_plan : {D : Type 0} → Device D → D → List ℕ → CommandPlan Progress ⊥

@@ -1,10 +1,9 @@
 //! The command `query --ask`: the answers of an archive to a sheet of asks.
 
-ghost use Rattle.std.specs.Prelude.{◌≡◌, ◌≤◌, [], IsSome, IsTrue, None};
+ghost use Rattle.std.specs.Prelude.{◌≡◌, [], IsSome, IsTrue, None};
 ghost use Rattle.archive_store.specs.StoreView.{filled_of};
 ghost use Rattle.retrieval.specs.FoundAsks.{AreFound, asks_found};
 ghost use Rattle.command_plans.specs.Plan.{IsDue};
-ghost use Rattle.command_runs.specs.Finishing.{WritesCounted};
 ghost use Rattle.ask_answers.specs.Asks.{ArePrinted, archive_asks_text};
 ghost use Rattle.command_runs.specs.Command.{Ran, RanOver, effects_of};
 ghost use Rattle.query_commands.specs.Query.{archive_asks_plan, query_plan};
@@ -17,7 +16,7 @@ use ask_answers::answers::{check_asks, print_asks};
 use asks::Asks;
 use command_runs::finishing::finish;
 use command_runs::report::{Ended, Report};
-use dump_lines::line_buffer::LineBuffer;
+use line_buffer::LineBuffer;
 use mdb_sheets::read_asks;
 use outer_traits::inputs::Inputs;
 use outer_traits::sink::Sink;
@@ -100,9 +99,7 @@ fn answer_sheet<D: Disk, K: Sink>(
     sink: &mut K,
 ) -> Option<Refusal>
     requires { line_buffer ≡ [] }
-    ensures reply { IsSheetReply (filled_of store.old) sheet result (K.state sink.old).written (K.state sink.new).written
-        (K.state sink.old).faults (K.state sink.new).faults }
-    ensures writes_later { (K.state sink.old).faults ≤ (K.state sink.new).faults }
+    ensures reply { IsSheetReply (filled_of store.old) sheet result (K.state sink.old) (K.state sink.new) }
     ensures same { store.new ≡ store.old }
 {
     match check_asks(alloc, store, sheet) {
@@ -119,12 +116,10 @@ fn answer_asks<D: Disk, K: Sink>(
     line_buffer: LineBuffer,
     sink: &mut K,
 ) -> Option<Refusal>
-    requires found { AreFound store.old.head asks.now }
+    requires found { AreFound store.old.head store.old.history asks.now }
     requires empty { line_buffer ≡ [] }
-    ensures printed { ArePrinted (asks_found asks.now) result (K.state sink.old).written (K.state sink.new).written
+    ensures printed { ArePrinted (asks_found asks.now) result (K.state sink.old) (K.state sink.new)
         (archive_asks_text (filled_of store.old) 1 (asks_found asks.now)) }
-    ensures writes_counted { WritesCounted result (K.state sink.old).faults (K.state sink.new).faults }
-    ensures writes_later { (K.state sink.old).faults ≤ (K.state sink.new).faults }
     ensures same { store.new ≡ store.old }
 {
     let mut line_buffer = line_buffer;

@@ -17,7 +17,7 @@ use archive_store::Store;
 use command_plans::read::read_limited;
 use command_runs::finishing::finish;
 use command_runs::report::{Ended, Report};
-use dump_lines::line_buffer::LineBuffer;
+use line_buffer::LineBuffer;
 use outer_traits::inputs::Inputs;
 use outer_traits::sink::Sink;
 use refusals::{Refusal, Which};
@@ -121,14 +121,14 @@ fn answer_over<D: Disk, K: Sink>(
     line_buffer: LineBuffer,
     sink: &mut K,
 ) -> Option<Refusal>
-    requires names { names.now ≡ packet_names store.now.head }
+    requires names { names.now ≡ packet_names store.now.head store.now.history }
     requires empty { line_buffer ≡ [] }
     ensures { IsTextReply (archive_of store.now) text.now result (K.state sink.old) (K.state sink.new) }
 {
     typed_names_tables();
-    let head = store.head();
     // It tells the proof how many packet names there may be.
-    let _containers = head.mdb.containers();
+    let _names = store.name_count();
+    let head = store.head();
     match typed_text(alloc, text, ScriptPlace::Sql, &head.tables, names) {
         Ok(script) => print_answers(alloc, script.as_slice(), names, store, line_buffer, sink),
         Err(refusal) => Some(refusal),
@@ -144,7 +144,7 @@ fn print_answers<D: Disk, K: Sink>(
     line_buffer: LineBuffer,
     sink: &mut K,
 ) -> Option<Refusal>
-    requires names { names.now ≡ packet_names store.now.head }
+    requires names { names.now ≡ packet_names store.now.head store.now.history }
     requires tables { AllByRecursion (NamesTables (length store.now.head.tables)) statements.now }
     requires empty { line_buffer ≡ [] }
     ensures { IsTextPrinted result (K.state sink.old) (K.state sink.new)

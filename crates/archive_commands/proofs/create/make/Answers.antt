@@ -42,18 +42,15 @@ returns g c = λ sources.
     let m = e.created in
     let refusal = c.finish-refusal.result in
     let report = c.read_only.result in
-    let written = (g.K.Sink.state c.args.sink.now).written in
-    let written' = (g.K.Sink.state c.finish-refusal.new.sink).written in
     let output = (g.K.Sink.state c.args.sink.now) in
     let output' = (g.K.Sink.state c.finish-refusal.new.sink) in
     let went = effects_of c.args.disk s.disk output output' report in
     let line : c.put_line.new.line_buffer ≡ create_line c.args.head = c.put_line.ensures in
-    let text = subst (IsFinished refusal written written') line c.finish-refusal.ensures.finished in
+    let text = subst (IsFinished refusal output output') line c.finish-refusal.ensures in
     let disk : HasDiskOutcome device c.args.disk s.disk false (Made c.args.head) = (
       record { faults = e.counts.faults; writes = (0, omega arith, omega arith, m.no_failed_write) },
       λ known. made_store device c.args.disk s c.args.head (m.none known) m.history m.fills m.head_is m.exponent m.opened (m.sound known) (e.crash known (m.none known)) (c.into_disk.ensures.images known),
     ) in
     subst (λ (d : g.row.D.Denot). Ran device (new_archive_plan sources device c.args.disk c.args.head) (effects_of c.args.disk d output output' report)) (sym c.into_disk.ensures.disk)
     (ran_made sources device went c.args.head m.none
-    (ran_printed device went (made sources c.args.head) (create_line c.args.head) refusal refl refl text c.finish-refusal.ensures.later c.finish-refusal.ensures.counted
-    c.read_only.ensures disk))
+    (ran_printed device went (made sources c.args.head) (create_line c.args.head) refusal refl refl text c.read_only.ensures disk))

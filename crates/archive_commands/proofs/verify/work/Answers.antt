@@ -1,6 +1,7 @@
 use Rattle.std.proofs.lemmas.Result.{err_from_is_err_and}
 use Rattle.std.proofs.Common.{◌≡◌, ◌∙◌, length, sym, ap, subst}
-use Rattle.archive_store.specs.StoreView.{filled_of}
+use Rattle.std.specs.Prelude.{IsTrue}
+use Rattle.archive_store.specs.StoreView.{StoreView, CrashInvariant, FaultInvariant, filled_of}
 use Rattle.command_plans.specs.Plan.{OfMemory, and_then}
 use Rattle.command_runs.specs.Command.{Ran, effects_of, nothing_done, opening_plan}
 use Rattle.command_runs.specs.Report.{read_only}
@@ -29,9 +30,12 @@ returns g c =
     let output = g.K.Sink.state c.args.sink.now in
     let output' = g.K.Sink.state c.compare-refusal.new.sink in
     let went = effects_of c.args.disk s.disk output output' report in
+    let same : c.compare-refusal.new.store ≡ s = c.compare-refusal.ensures.same in
+    let images = λ (known : IsTrue device.is_transparent). subst (λ (x : StoreView g.row.D.Denot). CrashInvariant device x) same (c.into_disk.ensures.images known) in
     let is : report ≡ read_only refusal (length s.history) = c.read_only.ensures ∙ ap (read_only refusal) c.front-rows.ensures.front in
-    let disk = opened_outcome device c.args.disk s e.opened e.reads e.crash e.counts c.into_disk.ensures.images c.into_disk.ensures.faults in
-    subst (λ (d : g.row.D.Denot). Ran device (verify_plan device c.args.disk) (effects_of c.args.disk d output output' report)) (sym c.into_disk.ensures.disk)
+    let disk = opened_outcome device c.args.disk s e.opened e.reads e.crash e.counts images (subst (λ (x : StoreView g.row.D.Denot). FaultInvariant device x) same c.into_disk.ensures.faults) in
+    let back = c.into_disk.ensures.disk ∙ ap (λ (x : StoreView g.row.D.Denot). x.disk) same in
+    subst (λ (d : g.row.D.Denot). Ran device (verify_plan device c.args.disk) (effects_of c.args.disk d output output' report)) (sym back)
     (ran_later device went OfMemory (nothing_done 0) (and_then (opening_plan 0 device c.args.disk) compare_plan)
     (ran_opened device went compare_plan 0 (filled_of s) (λ known. e.opened.filled known)
-    (ran_compared device went (filled_of s) disk refusal c.compare-refusal.ensures is)))
+    (ran_compared device went (filled_of s) disk refusal c.compare-refusal.ensures.reply is)))

@@ -3,9 +3,9 @@ use Rattle.std.specs.Prelude.{flat_map}
 use Rattle.outer_traits.specs.Outside.{Stays}
 use Rattle.dump_lines.specs.Text.{row_line}
 use Rattle.dump_lines.specs.Printing.{lines_of}
-use Rattle.dump_lines.specs.Output.{IsBuffered}
+use Rattle.line_buffer.specs.Output.{IsBuffered}
 use Rattle.dump_commands.proofs.scan.print_rows.Given as goal
-use Rattle.dump_lines.specs.LineRoom.{HasLineRoom}
+use Rattle.line_buffer.specs.LineRoom.{HasLineRoom}
 
 abbrev pub invariant-loop-row : goal.invariant-loop-row
 invariant-loop-row g l = record {

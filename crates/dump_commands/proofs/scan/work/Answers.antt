@@ -47,4 +47,4 @@ returns-clause-ran g c = λ disk.
     let output' = g.K.Sink.state c.print.new.sink in
     let r = c.in_ok-scan_input.ensures.read in
     ran_scan_failed g.D.Disk.device (effects_of disk disk output output' (unopened (Some WriteFault))) files next c.args.name.now a b r.dump r.moment c.in_ok-scan_input.scan_input.loaded
-    r.read r.known r.rows refl refl c.in-Err.ensures.some c.print.ensures.later (c.in-Err.ensures.failed refl)
+    r.read r.known r.rows refl refl c.in-Err.ensures.some c.in-Err.ensures.later c.in-Err.ensures.failed

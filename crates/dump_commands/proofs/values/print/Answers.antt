@@ -1,39 +1,45 @@
-use Rattle.std.proofs.Common.{◌++◌, length}
+use Rattle.std.proofs.Common.{◌++◌, ℕ, [], length}
 use Rattle.std.proofs.lemmas.Result.{err_from_is_err_and}
-use Rattle.outer_traits.specs.Outside.{WritesSome}
-use Rattle.dump_lines.specs.Output.{Appends}
+use Rattle.line_buffer.specs.Printed.{IsCutOff, IsWritten}
+use Rattle.line_buffer.proofs.PrintedTexts.{all_then, failed_front, none_left, printed_cut}
 use Rattle.dump_commands.specs.ValuesPrinting.{cells_of_stored, end_of_cells, lines_of_cells}
-use Rattle.dump_lines.proofs.LineBuffers.{buffered_end, buffered_end_some, wrote_front}
 use Rattle.dump_commands.proofs.values.print.Goals as goal
 
-pub returns-in_err-count-clause-some : goal.returns-in_err-count-clause-some
-returns-in_err-count-clause-some g c =
+pub returns-in_err-count : goal.returns-in_err-count
+returns-in_err-count g c =
     let db = c.args.known.now.mdb in
     let number = c.args.known.now.number in
     let stored = c.args.loaded.now.table.stored in
+    let first = g.K.Sink.state c.args.sink.now in
+    let now = g.K.Sink.state c.print_cells.new.sink in
     let p = err_from_is_err_and c.from_residual.result c.from_residual.ensures.1 in
-    rw p.1 (wrote_front (g.K.Sink.state c.args.sink.now).written (g.K.Sink.state c.print_cells.new.sink).written (lines_of_cells db number stored)
-    (end_of_cells c.args.loaded.now.why (length (cells_of_stored db number stored))) c.in_err-count.ensures.some)
+    failed_front ℕ c.from_residual.result p.0 first now (lines_of_cells db number stored) (end_of_cells c.args.loaded.now.why (length (cells_of_stored db number stored))) c.print_cells.new.line_buffer []
+    p.1 (rw p.2 c.in_err-count.ensures.printed)
 
-pub returns-clause-all : goal.returns-clause-all
-returns-clause-all g c =
+pub returns-in_err-flush : goal.returns-in_err-flush
+returns-in_err-flush g c =
     let db = c.args.known.now.mdb in
     let number = c.args.known.now.number in
     let stored = c.args.loaded.now.table.stored in
     let end = end_of_cells c.args.loaded.now.why (length (cells_of_stored db number stored)) in
-    let wrote : Appends (g.K.Sink.state c.print_cells.new.sink).written (g.K.Sink.state c.flush.new.sink).written (c.print_cells.new.line_buffer ++ end) =
-    rw (c.put_end.ensures, c.in_ok-count.ensures.count) at c.in_ok-flush.ensures.all in
-    buffered_end (g.K.Sink.state c.args.sink.now).written (g.K.Sink.state c.print_cells.new.sink).written (g.K.Sink.state c.flush.new.sink).written (lines_of_cells db number stored) c.print_cells.new.line_buffer end
-    c.in_ok-count.ensures.buffered wrote
-
-pub returns-in_err-flush-clause-some : goal.returns-in_err-flush-clause-some
-returns-in_err-flush-clause-some g c =
-    let db = c.args.known.now.mdb in
-    let number = c.args.known.now.number in
-    let stored = c.args.loaded.now.table.stored in
-    let end = end_of_cells c.args.loaded.now.why (length (cells_of_stored db number stored)) in
-    let some : WritesSome (g.K.Sink.state c.print_cells.new.sink).written (g.K.Sink.state c.flush.new.sink).written (c.print_cells.new.line_buffer ++ end) =
-    rw (c.put_end.ensures, c.in_ok-count.ensures.count) at c.in_err-flush.ensures.some in
+    let first = g.K.Sink.state c.args.sink.now in
+    let now = g.K.Sink.state c.print_cells.new.sink in
+    let new = g.K.Sink.state c.flush.new.sink in
+    let left = c.print_cells.new.line_buffer in
+    let cut : IsCutOff now new (left ++ end) = rw (c.put_end.ensures, c.in_ok-count.ensures.count) at c.in_err-flush.ensures.written in
     let p = err_from_is_err_and c.from_residual-in_err-flush.result c.from_residual-in_err-flush.ensures.1 in
-    rw p.1 (buffered_end_some (g.K.Sink.state c.args.sink.now).written (g.K.Sink.state c.print_cells.new.sink).written (g.K.Sink.state c.flush.new.sink).written (lines_of_cells db number stored)
-    c.print_cells.new.line_buffer end c.in_ok-count.ensures.buffered some)
+    rw (p.1, p.2) (printed_cut first now new (lines_of_cells db number stored) end left c.in_ok-count.ensures.printed cut)
+
+pub returns : goal.returns
+returns g c =
+    let db = c.args.known.now.mdb in
+    let number = c.args.known.now.number in
+    let stored = c.args.loaded.now.table.stored in
+    let end = end_of_cells c.args.loaded.now.why (length (cells_of_stored db number stored)) in
+    let first = g.K.Sink.state c.args.sink.now in
+    let now = g.K.Sink.state c.print_cells.new.sink in
+    let new = g.K.Sink.state c.flush.new.sink in
+    let left = c.print_cells.new.line_buffer in
+    let wrote : IsWritten now new (left ++ end) = rw (c.put_end.ensures, c.in_ok-count.ensures.count) at c.in_ok-flush.ensures.written in
+    let lines = lines_of_cells db number stored in
+    none_left first new (lines ++ end) (all_then first now new lines end left c.in_ok-count.ensures.printed wrote)

@@ -3,10 +3,10 @@ use Rattle.std.specs.Prelude.{flat_map}
 use Rattle.std.specs.List.{filter_map}
 use Rattle.container_extract.specs.Extraction.{cell_of}
 use Rattle.outer_traits.specs.Outside.{Stays}
-use Rattle.dump_lines.specs.Output.{IsBuffered}
+use Rattle.line_buffer.specs.Output.{IsBuffered}
 use Rattle.dump_commands.specs.ValuesPrinting.{cells_of_stored, line_of, lines_of_cells}
 use Rattle.dump_commands.proofs.values.print_cells.Given as goal
-use Rattle.dump_lines.specs.LineRoom.{HasLineRoom}
+use Rattle.line_buffer.specs.LineRoom.{HasLineRoom}
 
 abbrev pub invariant-loop-row : goal.invariant-loop-row
 invariant-loop-row g l = record {

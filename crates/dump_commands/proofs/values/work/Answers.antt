@@ -91,7 +91,7 @@ returns-in-Ok-clause-ran g c = λ disk.
     let loaded = c.in_ok-scan_input.scan_input.loaded in
     let known = c.in_ok-known.known in
     ran_valued g.D.Disk.device (effects_of disk disk output output' (unopened (result_err c.ended.result))) files next words a d raw r.dump r.moment given r.known refl loaded r.rows known.mdb known.number
-    c.in_ok-known.ensures.known (ap unopened c.ended.ensures) c.in-Ok.ensures.all c.in-Ok.ensures.counted
+    c.in_ok-known.ensures.known (ap unopened c.ended.ensures) c.in-Ok.ensures
 
 pub returns-clause-ran : goal.returns-clause-ran
 returns-clause-ran g c = λ disk.
@@ -111,7 +111,7 @@ returns-clause-ran g c = λ disk.
     let known = c.in_ok-known.known in
     let from : c.from.result ≡ refusal_of_print c.in-Err.fault = c.from.ensures in
     ran_some_valued g.D.Disk.device (effects_of disk disk output output' (unopened (Some c.from.result))) files next words a d raw r.dump r.moment given r.known refl loaded r.rows known.mdb known.number
-    c.in_ok-known.ensures.known c.in-Err.fault (ap (λ (x : Refusal). unopened (Some x)) from) c.in-Err.ensures.some c.print.ensures.later c.in-Err.ensures.counted
+    c.in_ok-known.ensures.known c.in-Err.fault (ap (λ (x : Refusal). unopened (Some x)) from) c.in-Err.ensures
 
 pub returns-in_err-sheets-clause-clock : goal.returns-in_err-sheets-clause-clock
 returns-in_err-sheets-clause-clock g c = clock_unused (g.C.Clock.state c.args.clock.now)

@@ -5,15 +5,15 @@ use Rattle.archive_store.specs.StoreView.{filled_of}
 use Rattle.command_words.specs.JobView.{load_words_of}
 use Rattle.refusals.specs.declared.refusal.Refusal.TheVariants.{OutOfMemory}
 use Rattle.retrieval.specs.FoundAsks.{asks_found}
-use Rattle.command_runs.specs.Command.{effects_of}
-use Rattle.load_command.specs.Loading.{IsLoadRun}
+use Rattle.command_runs.specs.Command.{Ran, effects_of}
+use Rattle.command_runs.specs.FillingPlan.{IsRecordCount}
+use Rattle.load_command.specs.Load.{session_plan}
 use Rattle.command_runs.specs.Report.{unopened}
 use Rattle.load_command.proofs.SourceCounts.{reads_closed}
-use Rattle.command_runs.proofs.During.{opened_store}
+use Rattle.command_runs.proofs.Openings.{opened_on}
 use Rattle.load_command.proofs.LoadPlan.{closed_again, load_not_received, load_received, load_unarchived, no_room, ran_unfound}
 use Rattle.load_command.proofs.NotLoaded.{gives_input, gives_there}
 use Rattle.command_runs.proofs.ReadOnly.{opened_outcome}
-use Rattle.load_command.proofs.Sessions.{ran_load}
 use Rattle.command_plans.proofs.Ledgers.{clock_unused, inputs_unused}
 use Rattle.load_session.specs.Receiving.{Receiving, receiving}
 use Rattle.load_command.proofs.load.load_archive.Goals as goal
@@ -23,10 +23,10 @@ use Rattle.command_runs.proofs.Moments.{moment_of}
 abbrev named : Option (Bor (List ℕ)) → Option (List ℕ)
 named = option_map (λ (text : Bor (List ℕ)). text.now)
 
--- an opened archive has fills alone in its fill list
+-- the archive was opened
 
 pub load_dump-report-requires-clause-opened : goal.load_dump-report-requires-clause-opened
-load_dump-report-requires-clause-opened g c = c.in-Ok-open-2.ensures.opened.fills
+load_dump-report-requires-clause-opened g c = let e = c.in-Ok-open-2.ensures in (c.args.disk, opened_on e.opened e.reads e.crash e.counts)
 
 -- and each ask was found
 
@@ -97,13 +97,9 @@ returns-clause-ran g c =
           let used = closed_again (state c.args.inputs.now) (state c.open.new.self) (state c.close-2.new.self) source.same back.same source.gave back.closed
           (λ sure. let one = source.reliable sure in let two = back.reliable one.0 still in (two.0, two.1 ∙ one.1)) false (back.kept still ∙ source.counted) in
           let r : Receiving = receiving s.head received.graph words.link moment in
-          let session : IsLoadRun device s last (asks_found received.asks) received.dump r (g.K.Sink.state c.args.sink.now).written (g.K.Sink.state w.load_dump-report.new.sink).written report =
-          rw (to_z-of_z w64 moment fits, link.0) at w.load_dump-report.ensures.session in
           let went = effects_of c.args.disk last.disk output output' report in
-          let ran = ran_load device c.args.disk s last (asks_found received.asks) received.dump r output output' report
-          (λ known. opened_store device c.args.disk s (e.opened.filled known) e.reads e.opened.opening e.crash) e.opened.records e.counts.faults e.opened.no_failed_write
-          (rw w.store-is at c.into_disk.ensures.images) (rw w.store-is at c.into_disk.ensures.faults) c.front-opened.ensures.bases (rw w.store-is at c.front-loaded.ensures.bases)
-          (rw w.store-is at c.front-loaded.ensures.kept) refl w.load_dump-report.ensures.writes_counted w.load_dump-report.ensures.writes_later session in
+          let ran : Ran device (session_plan (IsRecordCount device c.args.disk) (filled_of s) r (asks_found received.asks) received.dump) went =
+          rw (to_z-of_z w64 moment fits, link.0) at (w.load_dump-report.ensures c.args.disk (opened_on e.opened e.reads e.crash e.counts)) in
           let over = load_received device went files next words (named c.args.text) c.args.sheet (state c.args.inputs.now) (state c.close-2.new.self) (gives_there files c.args.words.dump.now _ source.found) (filled_of s)
           (λ known. e.opened.filled known) received.dump moment received.graph (asks_found received.asks) ready (gives_input files c.args.words.dump.now _ received.dump source.found w.in-Ok-received.ensures.whole)
           w.in-Ok-received.ensures.short (moment_of next moment w.now-moment.ensures.known w.now-moment.ensures.range) used ran in

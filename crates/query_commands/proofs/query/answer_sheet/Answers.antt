@@ -7,7 +7,7 @@ answer_asks-requires-clause-found g c = rw c.as_slice.ensures c.in-Ok.ensures.fo
 
 pub returns-in-Ok-clause-reply : goal.returns-in-Ok-clause-reply
 returns-in-Ok-clause-reply g c =
-    inr (asks_found c.in-Ok.asks, c.in-Ok.ensures.answerable, rw c.as_slice.ensures at c.answer_asks.ensures.printed, c.answer_asks.ensures.writes_counted)
+    inr (asks_found c.in-Ok.asks, c.in-Ok.ensures.answerable, rw c.as_slice.ensures at c.answer_asks.ensures.printed)
 
 pub returns-in-Err-clause-reply : goal.returns-in-Err-clause-reply
-returns-in-Err-clause-reply g c = inl (c.in-Err.ensures.refused, refl, refl)
+returns-in-Err-clause-reply g c = inl (c.in-Err.ensures.refused, refl)

@@ -40,4 +40,4 @@ returns g c =
     subst (λ (d : g.row.D.Denot). Ran device (archive_asks_plan device c.args.disk c.args.sheet) (effects_of c.args.disk d output output' report)) (sym back)
     (ran_later device went OfMemory (nothing_done 0) (and_then (opening_plan 0 device c.args.disk) (answering_plan c.args.sheet))
     (ran_opened device went (answering_plan c.args.sheet) 0 (filled_of s) (λ known. e.opened.filled known)
-    (ran_replied device went (filled_of s) c.answer_sheet-refusal.ensures.writes_later disk c.args.sheet refusal c.answer_sheet-refusal.ensures.reply is)))
+    (ran_replied device went (filled_of s) disk c.args.sheet refusal c.answer_sheet-refusal.ensures.reply is)))

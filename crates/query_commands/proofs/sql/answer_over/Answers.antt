@@ -1,18 +1,18 @@
 use Rattle.std.proofs.Common.{inl, inr, refl, arith}
-use Rattle.script_answers.proofs.HeldParts.{names_few}
+use Rattle.archive_store.specs.StoreView.{archive_of}
 use Rattle.query_commands.proofs.SqlPlan.{named_tables}
 use Rattle.query_commands.proofs.sql.answer_over.Goals as goal
 
 pub typed_text-requires : goal.typed_text-requires
 typed_text-requires g c = record {
   tables = rw c.head-head.ensures.head c.head-head.ensures.sound.0.few;
-  names = rw c.requires.names (names_few c.args.store.now.head c.containers-containers.result (rw c.head-head.ensures.head at c.containers-containers.ensures) (omega (arith, c.containers-containers.type_inv)));
+  names = rw c.requires.names (omega (arith, c.name_count-names.ensures.count, c.name_count-names.ensures.few));
 }
 
 pub print_answers-requires : goal.print_answers-requires
 print_answers-requires g c = record {
   names = c.requires.names;
-  tables = rw c.as_slice.ensures (named_tables c.args.store.now.head c.args.text.now c.in-Ok.script c.typed_names_tables.ensures (rw (c.requires.names, c.head-head.ensures.head) at c.in-Ok.ensures));
+  tables = rw c.as_slice.ensures (named_tables (archive_of c.args.store.now) c.args.text.now c.in-Ok.script c.typed_names_tables.ensures (rw (c.requires.names, c.head-head.ensures.head) at c.in-Ok.ensures));
   empty = c.requires.empty;
 }
 

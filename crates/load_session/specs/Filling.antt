@@ -1,26 +1,27 @@
 -- What becomes of the late intervals of a store.
-use Rattle.std.specs.Prelude.{◌≡◌, ◌⊎◌, ℕ, zero, suc, ◌+◌, ◌≤◌, Bool, true, false, List, [], ◌∷◌, length, nat_lt, Option, Some, None, if◌then◌else◌}
+use Rattle.std.specs.Prelude.{◌≡◌, ◌≢◌, ℕ, zero, suc, ◌+◌, ◌≤◌, true, List, [], ◌∷◌, ◌++◌, length, nat_lt, Option, Some, None, if◌then◌else◌}
 use Rattle.std.specs.Arc.{arc_value}
 use Rattle.arch_disk.specs.Disk.{Device, NoWriteFailed, raised}
 use Rattle.intervals.specs.declared.interval.Interval.{Interval}
 use Rattle.refusals.specs.declared.refusal.Refusal.{Refusal}
-use Rattle.refusals.specs.declared.refusal.Refusal.TheVariants.{DiskFault, Limit, OutOfMemory}
+use Rattle.refusals.specs.declared.refusal.Refusal.TheVariants.{DiskFault, Limit, NeedsReopen, OutOfMemory}
 use Rattle.refusals.specs.declared.refusal.Which.TheVariants.{Records}
 use Rattle.refusals.specs.Limits.{limit_of}
 use Rattle.history_items.specs.declared.fills.Addition.TheVariants as additions
 use Rattle.history_items.specs.declared.fills.Fill.TheVariants.{Fault}
+use Rattle.history_items.specs.Databases.{database_in}
+use Rattle.history_items.specs.Fills.{pending_fault_of}
 use Rattle.history_items.specs.Late.{IsLate}
 use Rattle.interval_fills.specs.Intervals.{rows_of_interval}
 use Rattle.interval_walks.specs.Counts.{late_intervals}
 use Rattle.param_segments.specs.Rows.{SetRow}
-use Rattle.store_fills.specs.Built.{IsTaskRows, built_fill}
+use Rattle.store_fills.specs.Built.{BuiltFill, IsTaskRows, built_fill}
 use Rattle.store_fills.specs.Faults.{faults_in}
 use Rattle.store_fills.specs.Filled.{HoldsRows}
 use Rattle.store_fills.specs.LastFills.{fillings_in}
 use Rattle.store_fills.specs.declared.task.FillTask.{FillTask}
 use Rattle.archive_store.specs.Installs.{FillIsAppended, IsAbandoned, IsInstallable}
 use Rattle.archive_store.specs.StoreView.{AddsFault, StoreView}
-use Rattle.load_session.specs.Session.{OneOrTwo}
 use Rattle.archive_store.specs.AddedFills.{AddsWholeFills}
 
 -- ---- one task
@@ -32,24 +33,32 @@ pub record IsBegunTask {D : Type 0} (store : StoreView D) (task : FillTask) : Ty
   pub late : IsLate store.exponent task.interval store.history store.fills
   pub rows : task.rows ≡ rows_of_interval store.exponent task.interval store.history
   pub in_order : IsTaskRows task.exponent task.interval task.rows
-  pub mdb : arc_value task.mdb ≡ store.head.mdb
+  pub mdb : arc_value task.mdb ≡ database_in store.head.mdb store.history
+
+-- the fill that a task builds, by its set
+abbrev pub task_fill : FillTask → List SetRow → BuiltFill
+task_fill task set = built_fill task.interval task.exponent task.base (arc_value task.mdb) set
 
 -- a set of its interval is there, which holds the cells that the interval's rows give
 pub record IsTaskFilled {D : Type 0} (device : Device D) (old new : StoreView D) (task : FillTask) : Type 0 where
   pub set : List SetRow
   pub installable : IsInstallable old
-  pub appended : FillIsAppended device old new (built_fill task.interval task.base set)
-  pub holds : HoldsRows old.head.mdb set (rows_of_interval old.exponent task.interval old.history)
+  pub appended : FillIsAppended device old new (task_fill task set)
+  pub holds : HoldsRows (database_in old.head.mdb old.history) set
+      (rows_of_interval old.exponent task.interval old.history)
 
 -- why a task was given up
 abbrev pub IsTaskRefusal : {D : Type 0} → Device D → StoreView D → StoreView D → FillTask → Refusal → Type 0
 IsTaskRefusal device old new task OutOfMemory = IsAbandoned old new task.interval
+IsTaskRefusal device old new task (NeedsReopen faults) =
+    (pending_fault_of old.fills ≡ Some faults) × IsAbandoned old new task.interval
 IsTaskRefusal device old new task (Limit which number) =
     (which ≡ Records) × (number ≡ limit_of Records) × (limit_of Records ≤ old.records)
     × IsAbandoned old new task.interval
 IsTaskRefusal {D = D} device old new task DiskFault =
-    (failed : StoreView D) × AddsFault device old failed true (additions.Fill task.interval task.base)
-    × IsAbandoned failed new task.interval
+    (pending_fault_of old.fills ≡ None)
+    × ((failed : StoreView D) × AddsFault device old failed true (additions.Fill task.interval task.base)
+    × IsAbandoned failed new task.interval)
 IsTaskRefusal device old new task _ = ⊥
 
 -- ---- all late intervals
@@ -60,29 +69,19 @@ filling_refusal records zero = None
 filling_refusal records (suc late) =
     if nat_lt (limit_of Records) (records + suc late) then Some (Limit Records (limit_of Records)) else None
 
--- there's no fault, and no write failed
+-- no fault came, and no write failed
 pub record IsUnfailed {D : Type 0} (device : Device D) (old new : StoreView D) : Type 0 where
-  pub no_fault : faults_in new.fills ≡ []
+  pub same_faults : faults_in new.fills ≡ faults_in old.fills
   pub no_failed_write : NoWriteFailed device old.disk new.disk
 
--- there's one fault, which holds a fill, by a write that failed
+-- where no failed write was pending a fault came, which holds a fill, by a write that failed and is pending
 pub record IsFillFailed {D : Type 0} (device : Device D) (old new : StoreView D) : Type 0 where
+  pub healed : pending_fault_of old.fills ≡ None
   pub count : ℕ
   pub interval : Interval
   pub base : ℕ
-  pub fault : faults_in new.fills ≡ Fault count true (additions.Fill interval base) ∷ []
+  pub fault : faults_in new.fills ≡ faults_in old.fills ++ Fault count true (additions.Fill interval base) ∷ []
   pub wrote : device.failed_writes new.disk ≡ raised (device.failed_writes old.disk)
-
--- it was tried once to take that write back, which succeeded unless the disk has failed twice since the opening; a
--- second write may have failed then
-pub record IsFillTakenBack {D : Type 0} (device : Device D) (old new : StoreView D) : Type 0 where
-  pub count : ℕ
-  pub wrote : Bool
-  pub interval : Interval
-  pub base : ℕ
-  pub fault : faults_in new.fills ≡ Fault count wrote (additions.Fill interval base) ∷ []
-  pub tried : (wrote ≡ false) ⊎ (raised (raised (device.fault_count new.opened)) ≤ device.fault_count new.disk)
-  pub writes : OneOrTwo (Some DiskFault) (device.failed_writes old.disk) (device.failed_writes new.disk)
 
 -- each late interval was filled, so many were there, and each took a record
 pub record AllLateFilled {D : Type 0} (device : Device D) (old new : StoreView D) (filled : ℕ) : Type 0 where
@@ -92,19 +91,22 @@ pub record AllLateFilled {D : Type 0} (device : Device D) (old new : StoreView D
   pub records : new.records ≡ old.records + filled
   pub unfailed : IsUnfailed device old new
 
--- why not each late interval was filled: there's no place for a record for each, no memory, or the disk failed, as
--- `Failed` says
-abbrev pub IsFillingRefusal : {D : Type 0} → Device D → StoreView D → StoreView D → Type 0 → Refusal → Type 0
-IsFillingRefusal device old new Failed OutOfMemory = IsUnfailed device old new
-IsFillingRefusal device old new Failed (Limit which number) =
+-- why not each late interval was filled: a failed write is pending, there's no place for a record for each, no memory, or
+-- the disk failed
+abbrev pub IsFillingRefusal : {D : Type 0} → Device D → StoreView D → StoreView D → Refusal → Type 0
+IsFillingRefusal device old new OutOfMemory = IsUnfailed device old new
+IsFillingRefusal device old new (NeedsReopen faults) =
+    (pending_fault_of old.fills ≡ Some faults) × IsUnfailed device old new
+IsFillingRefusal device old new (Limit which number) =
     (filling_refusal old.records (length (late_intervals old.exponent old.history old.fills))
     ≡ Some (Limit which number))
     × IsUnfailed device old new
-IsFillingRefusal device old new Failed DiskFault = Failed
-IsFillingRefusal device old new Failed _ = ⊥
+IsFillingRefusal device old new DiskFault = IsFillFailed device old new
+IsFillingRefusal device old new _ = ⊥
 
 -- What filling leaves whatever it came to: the rows of the same archive since the same opening, and the fills that
--- were there, but where a late interval got one; and where none was late, all as it was.
+-- were there, but where a late interval got one. Where none was late all is as it was, and while a failed write was
+-- pending the disk is.
 pub record IsFilledOn {D : Type 0} (old new : StoreView D) : Type 0 where
   pub rows : new.history ≡ old.history
   pub head : new.head ≡ old.head
@@ -112,3 +114,4 @@ pub record IsFilledOn {D : Type 0} (old new : StoreView D) : Type 0 where
   pub opened : new.opened ≡ old.opened
   pub sets : AddsWholeFills old.head old.exponent old.history (fillings_in old.filled) (fillings_in new.filled)
   pub unchanged : late_intervals old.exponent old.history old.fills ≡ [] → new ≡ old
+  pub no_call : pending_fault_of old.fills ≢ None → new.disk ≡ old.disk

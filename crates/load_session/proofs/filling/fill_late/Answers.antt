@@ -4,29 +4,21 @@ use Rattle.store_fills.specs.Built.{IsTaskRows}
 use Rattle.store_fills.specs.declared.task.FillTask.{FillTask}
 use Rattle.archive_store.specs.Tasks.{BeginsTask, IsFillBegun}
 use Rattle.archive_store.proofs.Calls.{passed_on}
-use Rattle.late_filling.specs.Filling.{IsFillFailed, IsFilledOn, IsFillingRefusal, IsUnfailed}
-use Rattle.late_filling.proofs.Filling.{begun_healed, begun_task, filling_done, filling_first, filling_next, filling_refused, filled_so_far, given_up, less_left}
-use Rattle.late_filling.proofs.fill_late.fill_each.Goals as goal
+use Rattle.load_session.specs.Filling.{IsFilledOn, IsFillingRefusal, IsUnfailed}
+use Rattle.load_session.proofs.FilledTasks.{begun_task, filling_done, filling_first, filling_next, filling_refused, filled_so_far, given_up, less_left}
+use Rattle.load_session.proofs.filling.fill_late.Goals as goal
 
 pub fills-init : goal.fills-init
-fills-init g c = filling_first g.D.Disk.device c.args.store.now c.requires.idle c.requires.no_fault
+fills-init g c = filling_first g.D.Disk.device c.args.store.now c.requires
 
-pub fill_task-requires-clause-begun : goal.fill_task-requires-clause-begun
-fill_task-requires-clause-begun g c =
+pub fill_task-requires : goal.fill_task-requires
+fill_task-requires g c =
     let s = c.fills.store in
     let n = c.begin.new.self in
     let t : FillTask = c.in-Some.task in
     let began : BeginsTask s n t = subst (IsFillBegun s n) c.in-Some.is c.in_ok-task.ensures.begun in
     begun_task g.D.Disk.device c.args.store.now s n c.fills.filled c.fills.invariant t began
     (subst (λ (o : Option FillTask). IfSome o (λ task. IsTaskRows task.exponent task.interval task.rows)) c.in-Some.is c.in_ok-task.ensures.in_order)
-
-pub fill_task-requires-clause-healed : goal.fill_task-requires-clause-healed
-fill_task-requires-clause-healed g c =
-    let s = c.fills.store in
-    let n = c.begin.new.self in
-    let t : FillTask = c.in-Some.task in
-    let began : BeginsTask s n t = subst (IsFillBegun s n) c.in-Some.is c.in_ok-task.ensures.begun in
-    begun_healed g.D.Disk.device c.args.store.now s n c.fills.filled c.fills.invariant t began
 
 pub fills-smaller : goal.fills-smaller
 fills-smaller g c =
@@ -60,7 +52,7 @@ returns-in_err-fill_task-clause-refused g c =
     let n = c.begin.new.self in
     let t : FillTask = c.in-Some.task in
     let began : BeginsTask s n t = subst (IsFillBegun s n) c.in-Some.is c.in_ok-task.ensures.begun in
-    passed_on c.from_residual-in_err-fill_task.result c.in_err-fill_task.field-0.0 (IsFillingRefusal device c.args.store.now c.fill_task.new.store (IsFillFailed device c.args.store.now c.fill_task.new.store)) c.from_residual-in_err-fill_task.ensures.1
+    passed_on c.from_residual-in_err-fill_task.result c.in_err-fill_task.field-0.0 (IsFillingRefusal device c.args.store.now c.fill_task.new.store) c.from_residual-in_err-fill_task.ensures.1
     (filling_refused device c.args.store.now s n c.fills.filled c.fills.invariant t began c.fill_task.new.store c.in_err-fill_task.field-0.0 c.in_err-fill_task.ensures.refused)
 
 pub returns-in_err-fill_task-clause-left : goal.returns-in_err-fill_task-clause-left
@@ -91,5 +83,5 @@ returns-in_err-task-clause-refused g c =
     let device = g.D.Disk.device in
     let s = c.fills.store in
     let n = c.begin.new.self in
-    passed_on c.from_residual.result c.in_err-task.field-0.0 (IsFillingRefusal device c.args.store.now n (IsFillFailed device c.args.store.now n)) c.from_residual.ensures.1
-    (subst (λ e. IsFillingRefusal device c.args.store.now n (IsFillFailed device c.args.store.now n) e) (sym c.in_err-task.ensures.refused.0) (subst (IsUnfailed device c.args.store.now) (sym c.in_err-task.ensures.refused.1) c.fills.invariant.unfailed))
+    passed_on c.from_residual.result c.in_err-task.field-0.0 (IsFillingRefusal device c.args.store.now n) c.from_residual.ensures.1
+    (subst (λ e. IsFillingRefusal device c.args.store.now n e) (sym c.in_err-task.ensures.refused.0) (subst (IsUnfailed device c.args.store.now) (sym c.in_err-task.ensures.refused.1) c.fills.invariant.unfailed))

@@ -4,6 +4,7 @@ use Rattle.std.specs.Prelude.{zero, suc, filter, nat_lt, if◌then◌else◌}
 use Rattle.std.specs.Option.{is_some, option_map, option_map_or}
 use Rattle.std.proofs.Math.Path.{fun_ext}
 use Rattle.std.proofs.lemmas.Bool.Decides.{nat_tests}
+use Rattle.std.proofs.lemmas.List.{take_all}
 use Rattle.std.proofs.lemmas.Option.{slice_get_within}
 use Rattle.arch_disk.specs.Disk.{Device, raised}
 use Rattle.arch_types.specs.declared.inserted.Installed.{Installed}
@@ -16,35 +17,37 @@ use Rattle.refusals.specs.Limits.{limit_of}
 use Rattle.history_items.specs.declared.fills.Addition.TheVariants as additions
 use Rattle.history_items.specs.declared.fills.Fill.{Fill}
 use Rattle.history_items.specs.declared.fills.Fill.TheVariants.{Begun, Done, Fault, Freed}
-use Rattle.history_items.specs.Items.{Item}
-use Rattle.history_items.specs.Fills.{base_in, is_same, flight_after, in_flight, pending_fault_of, reopened}
+use Rattle.history_items.specs.declared.items.Item.{Item}
+use Rattle.history_items.specs.Fills.{base_in, is_same, flight_after, in_flight, pending_fault_of}
+use Rattle.history_items.specs.Databases.{database_in}
+use Rattle.history_items.specs.Items.{database_item, prefix, row_item}
 use Rattle.history_items.specs.Late.{IsLate, IsLastIn, is_late_in, last_in}
 use Rattle.history_items.proofs.FillLists.{base_after_item, flight_after_item}
 use Rattle.history_items.proofs.Late.{last_is_greatest, late_by_last}
 use Rattle.late_marks.specs.Mark.{is_late_by}
-use Rattle.interval_fills.specs.Intervals.{NoRowSince, rows_of_interval}
+use Rattle.interval_fills.specs.Intervals.{NoneSince, rows_of_interval}
 use Rattle.interval_fills.specs.Steps.{AllLateInFlight, MachineState, freed}
 use Rattle.interval_fills.proofs.Steps.{same_interval}
 use Rattle.interval_walks.specs.Counts.{intervals_in, late_intervals}
 use Rattle.interval_walks.proofs.Counts.{none_late, one_late_less}
 use Rattle.param_segments.specs.Rows.{SetRow}
+use Rattle.mdb_items.specs.Database.{Database}
+use Rattle.std.specs.Arc.{arc_value}
 use Rattle.store_fills.specs.Built.{BuiltFill, IsTaskRows, built_fill}
 use Rattle.store_fills.specs.declared.task.FillTask.{FillTask}
 use Rattle.store_fills.specs.Faults.{faults_in}
-use Rattle.store_fills.proofs.Faults.{faults_in-append, faults_in-reopened, pending_fault_of-in}
+use Rattle.store_fills.proofs.Faults.{faults_in-append, pending_fault_of-in}
 use Rattle.store_fills.specs.Filled.{HoldsRows}
-use Rattle.store_fills.specs.LastFills.{PlacedFills, fill_over, fillings_in}
-use Rattle.store_fills.specs.Sound.{Filling, Fillings, base_of_filling, with_filling}
+use Rattle.store_fills.specs.LastFills.{PlacedFills, fill_over, fillings_in, base_of_slot, slots_in}
+use Rattle.store_fills.specs.Sound.{Filling, Fillings, with_filling}
+use Rattle.archive_store.proofs.CurrentSets.{late_some, read_late}
 use Rattle.archive_store.specs.declared.head.Head.{Head}
 use Rattle.archive_store.specs.Entries.{filled_archive}
-use Rattle.archive_store.specs.Installs.{FillIsAppended, IsAbandoned, IsInstallRefusal, IsStoreInstalled}
+use Rattle.archive_store.specs.Installs.{FillIsAppended, IsAbandoned, IsInstallRefusal, IsStoreInstalled, IsOwnFill}
 use Rattle.archive_store.specs.StoreView.{AddsFault, StoreView}
 use Rattle.archive_store.specs.Tasks.{BeginsTask, IsFillBegun, machine_state}
-use Rattle.load_session.specs.Healing.{IsReopened}
-use Rattle.load_session.specs.Session.{OneAtMost, OneOrTwo}
-use Rattle.load_session.proofs.Sessions.{more_faults, twice}
 use Rattle.archive_store.specs.AddedFills.{AddsWholeFills, IsWholeFill}
-use Rattle.late_filling.specs.Filling.{AllLateFilled, IsBegunTask, IsFillFailed, IsFillTakenBack, IsFilledOn, IsFillingRefusal, IsTaskFilled, IsTaskRefusal, IsUnfailed, filling_refusal}
+use Rattle.load_session.specs.Filling.{AllLateFilled, IsBegunTask, IsFillFailed, IsFilledOn, IsFillingRefusal, IsTaskFilled, IsTaskRefusal, IsUnfailed, filling_refusal, task_fill}
 use Rattle.archive_store.specs.LateFills.{is_late_in_archive}
 
 abbrev pub begun : List Fill → Interval → ℕ → List Fill
@@ -66,18 +69,19 @@ is_late_begun exponent history fills i j base late = (late_by_last exponent j hi
 
 -- ---- a fill over the whole history
 
-none_since_end : (exponent : ℕ) (history : List Item) (i : Interval) → NoRowSince exponent i (length history) history
-none_since_end exponent history i p stands = slice_get_within history p stands.row stands.there
+none_since_end : (exponent : ℕ) (history : List Item) (i : Interval) → NoneSince exponent i (length history) history
+none_since_end exponent history i p (inl stands) = slice_get_within history p (row_item stands.row) stands.there
+none_since_end exponent history i p (inr stands) = slice_get_within history p (database_item stands.0) stands.1
 
 never_stale : (exponent : ℕ) (history : List Item) (i : Interval) (base position : ℕ) → base ≡ length history → base ≤ position → last_in exponent i history ≡ Some position → ⊥
 never_stale exponent history i base position is le last =
     let p = subst (IsLastIn exponent i history) last (last_is_greatest exponent i history) in
-    omega (arith, is, le, none_since_end exponent history i position p.0)
+    omega (arith, is, le, none_since_end exponent history i position p.1)
 
 one_less : (exponent : ℕ) (history : List Item) (fills : List Fill) (i : Interval) (base : ℕ) → base ≡ length history → IsLate exponent i history fills
     → length (late_intervals exponent history (begun_and_done fills i base)) + 1 ≡ length (late_intervals exponent history fills)
 one_less exponent history fills i base is late =
-    one_late_less exponent history (begun fills i base) i base (is_late_begun exponent history fills i i base late) (subst (λ (n : ℕ). NoRowSince exponent i n history) (sym is) (none_since_end exponent history i))
+    one_late_less exponent history (begun fills i base) i base (is_late_begun exponent history fills i i base late) (subst (λ (n : ℕ). NoneSince exponent i n history) (sym is) (none_since_end exponent history i))
     ∙ ap length (late_begun exponent history fills i base)
 
 -- the flight has ended
@@ -113,40 +117,55 @@ none_counted exponent s all idle = ap length (none_late exponent s.history s.fil
 
 -- ---- what an install answers to a task over the whole history
 
-module _ {D : Type 0} (device : Device D) (old new : StoreView D) (done : BuiltFill) (task : FillTask) (at : done.interval ≡ task.interval) (over : done.base ≡ task.base) where
-  same_built : done ≡ built_fill task.interval task.base done.set
-  same_built = ap (λ (j : Interval). built_fill j done.base done.set) at ∙ ap (λ (n : ℕ). built_fill task.interval n done.set) over
+module _ {D : Type 0} (device : Device D) (old new : StoreView D) (done : BuiltFill) (task : FillTask) (at : done.interval ≡ task.interval) (over : done.base ≡ task.base)
+    (by : (done.exponent ≡ task.exponent) × (done.mdb ≡ arc_value task.mdb)) where
+  same_built : done ≡ task_fill task done.set
+  same_built =
+      ap (λ (j : Interval). built_fill j done.exponent done.base done.mdb done.set) at ∙ ap (λ (n : ℕ). built_fill task.interval done.exponent n done.mdb done.set) over
+      ∙ ap (λ (e : ℕ). built_fill task.interval e task.base done.mdb done.set) by.0 ∙ ap (λ (db : Database). built_fill task.interval task.exponent task.base db done.set) by.1
 
-  pub task_filled : (became : Installed) → task.base ≡ length old.history → HoldsRows old.head.mdb done.set (rows_of_interval old.exponent task.interval old.history) → IsStoreInstalled device old new done became
+  pub task_filled : (became : Installed) → task.base ≡ length old.history → HoldsRows (database_in old.head.mdb old.history) done.set (rows_of_interval old.exponent task.interval old.history) → IsStoreInstalled device old new done became
       → IsTaskFilled device old new task
   task_filled BecameDone whole holds both = record { set = done.set; installable = both.0; appended = subst (FillIsAppended device old new) same_built both.1; holds = holds }
   task_filled (Stale position) whole holds stale = absurd (never_stale old.exponent old.history done.interval done.base position (over ∙ whole) stale.1.0 stale.1.1)
 
-  pub task_refused : (e : Refusal) → pending_fault_of old.fills ≡ None → IsInstallRefusal device old new done e → IsTaskRefusal device old new task e
-  task_refused (NeedsReopen faults) healed r = absurd (cc (healed, r.0))
-  task_refused (Limit which number) healed r = (r.2, r.3, r.4, subst (λ (j : Interval). IsAbandoned old new j) at r.5)
-  task_refused OutOfMemory healed r = subst (λ (j : Interval). IsAbandoned old new j) at r.2
-  task_refused DiskFault healed r = (
-    r.2.0,
-    subst (λ (j : Interval). AddsFault device old r.2.0 true (additions.Fill j task.base)) at
-        (subst (λ (n : ℕ). AddsFault device old r.2.0 true (additions.Fill done.interval n)) over r.2.1),
-    subst (λ (j : Interval). IsAbandoned r.2.0 new j) at r.2.2,
+  pub task_refused : (e : Refusal) → IsInstallRefusal device old new done e → IsTaskRefusal device old new task e
+  task_refused (NeedsReopen faults) r = (r.0, subst (λ (j : Interval). IsAbandoned old new j) at r.1)
+  task_refused (Limit which number) r = (r.2, r.3, r.4, subst (λ (j : Interval). IsAbandoned old new j) at r.5)
+  task_refused OutOfMemory r = subst (λ (j : Interval). IsAbandoned old new j) at r.2
+  task_refused DiskFault r = (
+    r.0.healed,
+    (
+      r.2.0,
+      subst (λ (j : Interval). AddsFault device old r.2.0 true (additions.Fill j task.base)) at
+          (subst (λ (n : ℕ). AddsFault device old r.2.0 true (additions.Fill done.interval n)) over r.2.1),
+      subst (λ (j : Interval). IsAbandoned r.2.0 new j) at r.2.2,
+    ),
   )
-  task_refused _ healed r = absurd r
+  task_refused _ r = absurd r
 
--- a refused task leaves the rows and the fills
+-- a refused task leaves the rows and the fills, and while a failed write is pending the disk
 module _ {D : Type 0} (device : Device D) (old new : StoreView D) (task : FillTask) where
   refused_history : (e : Refusal) → IsTaskRefusal device old new task e → new.history ≡ old.history
   refused_history OutOfMemory r = ap (λ (s : StoreView D). s.history) r
+  refused_history (NeedsReopen faults) r = ap (λ (s : StoreView D). s.history) r.1
   refused_history (Limit which number) r = ap (λ (s : StoreView D). s.history) r.3
-  refused_history DiskFault r = ap (λ (s : StoreView D). s.history) r.2 ∙ r.1.history
+  refused_history DiskFault r = ap (λ (s : StoreView D). s.history) r.1.2 ∙ r.1.1.history
   refused_history _ r = absurd r
 
   refused_filled : (e : Refusal) → IsTaskRefusal device old new task e → new.filled ≡ old.filled
   refused_filled OutOfMemory r = ap (λ (s : StoreView D). s.filled) r
+  refused_filled (NeedsReopen faults) r = ap (λ (s : StoreView D). s.filled) r.1
   refused_filled (Limit which number) r = ap (λ (s : StoreView D). s.filled) r.3
-  refused_filled DiskFault r = ap (λ (s : StoreView D). s.filled) r.2 ∙ r.1.filled
+  refused_filled DiskFault r = ap (λ (s : StoreView D). s.filled) r.1.2 ∙ r.1.1.filled
   refused_filled _ r = absurd r
+
+  refused_disk : (e : Refusal) → pending_fault_of old.fills ≢ None → IsTaskRefusal device old new task e → new.disk ≡ old.disk
+  refused_disk OutOfMemory unhealed r = ap (λ (s : StoreView D). s.disk) r
+  refused_disk (NeedsReopen faults) unhealed r = ap (λ (s : StoreView D). s.disk) r.1
+  refused_disk (Limit which number) unhealed r = ap (λ (s : StoreView D). s.disk) r.3
+  refused_disk DiskFault unhealed r = absurd (unhealed r.0)
+  refused_disk _ unhealed r = absurd r
 
 -- ---- the fills that came
 
@@ -162,7 +181,7 @@ module _ (head : Head) (exponent : ℕ) (history : List Item) (old now : Filling
       go (inl same) = ap late_by (sym same) ∙ late
       go (inr whole) = whole.0
 
-  one_whole : (base : ℕ) (set : List SetRow) → base ≡ length history → is_late_in_archive (filled_archive head exponent history now) i ≡ true → HoldsRows head.mdb set (rows_of_interval exponent i history)
+  one_whole : (base : ℕ) (set : List SetRow) → base ≡ length history → is_late_in_archive (filled_archive head exponent history now) i ≡ true → HoldsRows (database_in head.mdb history) set (rows_of_interval exponent i history)
       → AddsWholeFills head exponent history old (with_filling now i (fill_over base set))
   one_whole base set over late holds j = go (is_same j i) refl
     where
@@ -203,6 +222,7 @@ pub record IsFilling {D : Type 0} (device : Device D) (old now : StoreView D) (f
   pub count : filled + length (late_intervals now.exponent now.history now.fills) ≡ length (late_intervals old.exponent old.history old.fills)
   pub records : now.records ≡ old.records + filled
   pub room : 0 < filled → now.records ≤ limit_of Records
+  pub healed : 0 < filled → pending_fault_of old.fills ≡ None
   pub unfailed : IsUnfailed device old now
   pub sets : AddsWholeFills old.head old.exponent old.history (fillings_in old.filled) (fillings_in now.filled)
   pub head : now.head ≡ old.head
@@ -210,14 +230,20 @@ pub record IsFilling {D : Type 0} (device : Device D) (old now : StoreView D) (f
   pub opened : now.opened ≡ old.opened
   pub unchanged : filled ≡ 0 → now ≡ old
 
-pub filling_first : {D : Type 0} (device : Device D) (store : StoreView D) → ((i : Interval) → in_flight i store.fills ≡ None) → faults_in store.fills ≡ [] → IsFilling device store store 0
-filling_first device store idle no_fault = record {
+-- where a fill has what there isn't, none was filled
+nothing_filled : (filled : ℕ) (P : Type 0) → (0 < filled → P) → (P → ⊥) → filled ≡ 0
+nothing_filled zero P some never = refl
+nothing_filled (suc filled) P some never = absurd (never (some (omega arith)))
+
+pub filling_first : {D : Type 0} (device : Device D) (store : StoreView D) → ((i : Interval) → in_flight i store.fills ≡ None) → IsFilling device store store 0
+filling_first device store idle = record {
   idle = idle;
   history = refl;
   count = omega arith;
   records = omega arith;
   room = λ some. absurd (omega (arith, some));
-  unfailed = record { no_fault = no_fault; no_failed_write = refl };
+  healed = λ some. absurd (omega (arith, some));
+  unfailed = record { same_faults = refl; no_failed_write = refl };
   sets = λ i. inl refl;
   head = refl;
   exponent = refl;
@@ -263,6 +289,14 @@ module _ {D : Type 0} (device : Device D) (old now begun_store : StoreView D) (f
   begun_history : begun_store.history ≡ old.history
   begun_history = began.step.history ∙ f.history
 
+  -- by the database in force
+  by_database : arc_value task.mdb ≡ database_in begun_store.head.mdb begun_store.history
+  by_database = began.mdb ∙ ap (λ (h : Head). database_in h.mdb now.history) (sym same_head) ∙ ap (database_in begun_store.head.mdb) (sym began.step.history)
+
+  -- which is that below its base
+  whole_front : prefix task.base begun_store.history ≡ begun_store.history
+  whole_front = take_all task.base begun_store.history (omega (arith, began.step.base_is, ap length began.step.history))
+
   -- of the task that begins
   pub begun_task : IsTaskRows task.exponent i task.rows → IsBegunTask begun_store task
   begun_task in_order = record {
@@ -276,17 +310,18 @@ module _ {D : Type 0} (device : Device D) (old now begun_store : StoreView D) (f
         began.step.rows_are ∙ ap (rows_of_interval now.exponent i) (sym began.step.history)
         ∙ ap (λ (e : ℕ). rows_of_interval e i begun_store.history) (sym same_exponent);
     in_order = in_order;
-    mdb = began.mdb ∙ ap (λ (h : Head). h.mdb) (sym same_head);
+    mdb = by_database;
   }
 
   begun_unfailed : IsUnfailed device old begun_store
   begun_unfailed = record {
-    no_fault = ap faults_in began.step.fills ∙ faults_begun now.fills i task.base ∙ f.unfailed.no_fault;
+    same_faults = ap faults_in began.step.fills ∙ faults_begun now.fills i task.base ∙ f.unfailed.same_faults;
     no_failed_write = ap device.failed_writes same_disk ∙ f.unfailed.no_failed_write;
   }
 
-  pub begun_healed : pending_fault_of begun_store.fills ≡ None
-  begun_healed = pending_fault_of-in begun_store.fills ∙ ap pending_fault_of begun_unfailed.no_fault
+  -- the same failed write is pending
+  same_pending : pending_fault_of begun_store.fills ≡ pending_fault_of old.fills
+  same_pending = pending_fault_of-in begun_store.fills ∙ ap pending_fault_of begun_unfailed.same_faults ∙ sym (pending_fault_of-in old.fills)
 
   -- one late interval at least is left
   some_left : length (late_intervals now.exponent now.history (begun_and_done now.fills i task.base)) + 1 ≡ length (late_intervals now.exponent now.history now.fills)
@@ -307,19 +342,20 @@ module _ {D : Type 0} (device : Device D) (old now begun_store : StoreView D) (f
           ∙ ap (λ (h : List Item). length (late_intervals now.exponent h (begun_and_done now.fills i task.base)) + 1) new_history ∙ some_left
 
       -- one more was filled
-      pub filling_next : ((j : Interval) → base_in j now.fills ≡ base_of_filling (fillings_in now.filled) j) → (new.head ≡ begun_store.head) × (new.exponent ≡ begun_store.exponent) × (new.opened ≡ begun_store.opened) → IsFilling device old new (filled + 1)
+      pub filling_next : ((j : Interval) → base_in j now.fills ≡ base_of_slot (slots_in now.filled) j) → (new.head ≡ begun_store.head) × (new.exponent ≡ begun_store.exponent) × (new.opened ≡ begun_store.opened) → IsFilling device old new (filled + 1)
       filling_next bases same = record {
         idle = subst (λ (l : List Fill). (j : Interval) → in_flight j l ≡ None) (sym new_fills) (idle_again now.fills i task.base f.idle);
         history = new_history ∙ f.history;
         count = omega (arith, less_left same.1, f.count);
         records = omega (arith, done.appended.records, same_records, f.records);
         room = λ some. omega (arith, done.appended.records, done.installable.below);
+        healed = λ some. sym same_pending ∙ done.installable.healed;
         unfailed = record {
-          no_fault = ap faults_in new_fills ∙ faults_begun_and_done now.fills i task.base ∙ f.unfailed.no_fault;
+          same_faults = ap faults_in new_fills ∙ faults_begun_and_done now.fills i task.base ∙ f.unfailed.same_faults;
           no_failed_write = done.appended.no_failed_write ∙ begun_unfailed.no_failed_write;
         };
         sets =
-            subst (AddsWholeFills old.head old.exponent old.history (fillings_in old.filled)) (sym (done.appended.filled ∙ ap (λ (x : PlacedFills). with_filling (fillings_in x) i (fill_over task.base done.set)) same_filled))
+            subst (AddsWholeFills old.head old.exponent old.history (fillings_in old.filled)) (sym (done.appended.filled own ∙ ap (λ (x : PlacedFills). with_filling (fillings_in x) i (fill_over task.base done.set)) same_filled))
             (one_whole old.head old.exponent old.history (fillings_in old.filled) (fillings_in now.filled) f.sets i task.base done.set (began.step.base_is ∙ ap length f.history) late_now held);
         head = same.0 ∙ same_head ∙ f.head;
         exponent = same.1 ∙ same_exponent ∙ f.exponent;
@@ -327,17 +363,20 @@ module _ {D : Type 0} (device : Device D) (old now begun_store : StoreView D) (f
         unchanged = λ none. absurd (omega (arith, none));
       }
         where
+          own : IsOwnFill begun_store (task_fill task done.set)
+          own = (by_database ∙ ap (database_in begun_store.head.mdb) (sym whole_front), began.exponent ∙ sym same_exponent)
+
           late_now : is_late_in_archive (filled_archive old.head old.exponent old.history (fillings_in now.filled)) i ≡ true
           late_now =
               ap (λ (h : List Item). is_late_in_archive (filled_archive old.head old.exponent h (fillings_in now.filled)) i) (sym f.history)
               ∙ ap (λ (e : ℕ). is_late_in_archive (filled_archive old.head e now.history (fillings_in now.filled)) i) (sym f.exponent)
-              ∙ ap (λ (b : Option ℕ). option_map_or (λ last. is_late_by last b) (last_in now.exponent i now.history) false) (sym (bases i)) ∙ (late_by_last now.exponent i now.history now.fills).1 late
+              ∙ read_late now.exponent now.history now.fills now.filled i bases (late_some now.exponent now.history now.fills i late) (inl late)
 
-          held : HoldsRows old.head.mdb done.set (rows_of_interval old.exponent i old.history)
+          held : HoldsRows (database_in old.head.mdb old.history) done.set (rows_of_interval old.exponent i old.history)
           held =
-              subst (λ (h : List Item). HoldsRows old.head.mdb done.set (rows_of_interval old.exponent i h)) begun_history
-              (subst (λ (e : ℕ). HoldsRows old.head.mdb done.set (rows_of_interval e i begun_store.history)) (same_exponent ∙ f.exponent)
-              (subst (λ (h : Head). HoldsRows h.mdb done.set (rows_of_interval begun_store.exponent i begun_store.history)) (same_head ∙ f.head) done.holds))
+              subst (λ (h : List Item). HoldsRows (database_in old.head.mdb h) done.set (rows_of_interval old.exponent i h)) begun_history
+              (subst (λ (e : ℕ). HoldsRows (database_in old.head.mdb begun_store.history) done.set (rows_of_interval e i begun_store.history)) (same_exponent ∙ f.exponent)
+              (subst (λ (h : Head). HoldsRows (database_in h.mdb begun_store.history) done.set (rows_of_interval begun_store.exponent i begun_store.history)) (same_head ∙ f.head) done.holds))
 
     -- it was refused
     pub given_up : (e : Refusal) → IsTaskRefusal device begun_store new task e → (new.head ≡ begun_store.head) × (new.exponent ≡ begun_store.exponent) × (new.opened ≡ begun_store.opened) → IsFilledOn old new
@@ -348,94 +387,49 @@ module _ {D : Type 0} (device : Device D) (old now begun_store : StoreView D) (f
       opened = same.2 ∙ same_opened ∙ f.opened;
       sets = subst (λ (x : PlacedFills). AddsWholeFills old.head old.exponent old.history (fillings_in old.filled) (fillings_in x)) (sym (refused_filled device begun_store new task e refused ∙ same_filled)) f.sets;
       unchanged = λ none. absurd (omega (arith, f.count, ap length none, some_left));
+      no_call = λ unhealed.
+          refused_disk device begun_store new task e (λ healed. unhealed (sym same_pending ∙ healed)) refused ∙ same_disk
+          ∙ ap (λ (x : StoreView D). x.disk) (f.unchanged (nothing_filled filled (pending_fault_of old.fills ≡ None) f.healed unhealed));
     }
 
     unfailed_still : IsAbandoned begun_store new i → IsUnfailed device old new
     unfailed_still is = record {
-      no_fault = ap (λ (x : StoreView D). faults_in x.fills) is ∙ faults_freed i begun_store.fills ∙ begun_unfailed.no_fault;
+      same_faults = ap (λ (x : StoreView D). faults_in x.fills) is ∙ faults_freed i begun_store.fills ∙ begun_unfailed.same_faults;
       no_failed_write = ap (λ (x : StoreView D). device.failed_writes x.disk) is ∙ begun_unfailed.no_failed_write;
     }
 
-    failed_then : (failed : StoreView D) → AddsFault device begun_store failed true (additions.Fill i task.base) → IsAbandoned failed new i → IsFillFailed device old new
-    failed_then failed fault is = record {
+    failed_then : (failed : StoreView D) → pending_fault_of begun_store.fills ≡ None → AddsFault device begun_store failed true (additions.Fill i task.base) → IsAbandoned failed new i → IsFillFailed device old new
+    failed_then failed healed fault is = record {
+      healed = sym same_pending ∙ healed;
       count = fault.count;
       interval = i;
       base = task.base;
       fault =
           ap (λ (x : StoreView D). faults_in x.fills) is ∙ faults_freed i failed.fills ∙ ap faults_in fault.fills
-          ∙ faults_in-append begun_store.fills (Fault fault.count true (additions.Fill i task.base) ∷ []) ∙ ap (λ (l : List Fill). l ++ Fault fault.count true (additions.Fill i task.base) ∷ []) begun_unfailed.no_fault;
+          ∙ faults_in-append begun_store.fills (Fault fault.count true (additions.Fill i task.base) ∷ []) ∙ ap (λ (l : List Fill). l ++ Fault fault.count true (additions.Fill i task.base) ∷ []) begun_unfailed.same_faults;
       wrote = ap (λ (x : StoreView D). device.failed_writes x.disk) is ∙ fault.writes ∙ ap raised begun_unfailed.no_failed_write;
     }
 
-    pub filling_refused : (e : Refusal) → IsTaskRefusal device begun_store new task e → IsFillingRefusal device old new (IsFillFailed device old new) e
+    pub filling_refused : (e : Refusal) → IsTaskRefusal device begun_store new task e → IsFillingRefusal device old new e
     filling_refused OutOfMemory r = unfailed_still r
+    filling_refused (NeedsReopen faults) r = (sym same_pending ∙ r.0, unfailed_still r.1)
     filling_refused (Limit which number) r =
         let late_at_first = length (late_intervals old.exponent old.history old.fills) in (
           filling_full old.records late_at_first (omega (arith, f.count, some_left)) (omega (arith, r.2, same_records, f.records, f.count, some_left))
               ∙ ap (λ (n : ℕ). Some (Limit Records n)) (sym r.1) ∙ ap (λ w. Some (Limit w number)) (sym r.0),
           unfailed_still r.3,
         )
-    filling_refused DiskFault r = failed_then r.0 r.1 r.2
+    filling_refused DiskFault r = failed_then r.1.0 r.0 r.1.1 r.1.2
     filling_refused _ r = absurd r
 
 -- what is left where filling goes no further
 pub filled_so_far : {D : Type 0} (device : Device D) (old now : StoreView D) (filled : ℕ) → IsFilling device old now filled → IsFilledOn old now
-filled_so_far device old now filled f = record {
+filled_so_far {D = D} device old now filled f = record {
   rows = f.history;
   head = f.head;
   exponent = f.exponent;
   opened = f.opened;
   sets = f.sets;
   unchanged = λ none. f.unchanged (omega (arith, f.count, ap length none));
+  no_call = λ unhealed. ap (λ (x : StoreView D). x.disk) (f.unchanged (nothing_filled filled (pending_fault_of old.fills ≡ None) f.healed unhealed));
 }
-
--- ---- a failed write is taken back
-
-module _ {D : Type 0} (device : Device D) (old mid new : StoreView D) where
-  taken_back : IsFillFailed device old mid → IsReopened device mid new → OneAtMost (Some DiskFault) (device.failed_writes mid.disk) (device.failed_writes new.disk) → IsFillTakenBack device old new
-  taken_back failed again writes = elim again.healed [
-    | inl healed ↦ record {
-      count = failed.count;
-      wrote = false;
-      interval = failed.interval;
-      base = failed.base;
-      fault = ap faults_in healed ∙ faults_in-reopened mid.fills ∙ ap reopened failed.fault;
-      tried = inl refl;
-      writes = once_more writes;
-    }
-    | inr still ↦ record { count = failed.count; wrote = true; interval = failed.interval; base = failed.base; fault = ap faults_in still.0 ∙ failed.fault; tried = inr (rose still.1); writes = once_more writes }
-  ]
-    where
-      rose : raised (device.fault_count mid.disk) ≤ device.fault_count new.disk → raised (raised (device.fault_count new.opened)) ≤ device.fault_count new.disk
-      rose more =
-          let once = more_faults device mid failed.count true (additions.Fill failed.interval failed.base) again.counted failed.fault in
-          subst (λ (d : D). raised (raised (device.fault_count d)) ≤ device.fault_count new.disk) (sym again.opened)
-          (twice (device.fault_count mid.opened) (device.fault_count mid.disk) (device.fault_count new.disk) once more)
-
-      once_more : OneAtMost (Some DiskFault) (device.failed_writes mid.disk) (device.failed_writes new.disk) → OneOrTwo (Some DiskFault) (device.failed_writes old.disk) (device.failed_writes new.disk)
-      once_more (inl same) = inl (same ∙ failed.wrote)
-      once_more (inr more) = inr (more ∙ ap raised failed.wrote)
-
-  pub healed_refusal : (e : Refusal) → IsFillingRefusal device old mid (IsFillFailed device old mid) e → (e ≢ DiskFault → new ≡ mid) → (e ≡ DiskFault → IsReopened device mid new)
-      → OneAtMost (Some e) (device.failed_writes mid.disk) (device.failed_writes new.disk) → IsFillingRefusal device old new (IsFillTakenBack device old new) e
-  healed_refusal OutOfMemory r same again writes = subst (IsUnfailed device old) (sym (same (λ is. cc))) r
-  healed_refusal (Limit which number) r same again writes = (r.0, subst (IsUnfailed device old) (sym (same (λ is. cc))) r.1)
-  healed_refusal DiskFault r same again writes = taken_back r (again refl) writes
-  healed_refusal _ r same again writes = absurd r
-
-  -- where the disk failed an interval was late
-  some_late : faults_in old.fills ≡ [] → IsFillFailed device old mid → mid ≡ old → ⊥
-  some_late no_fault failed same = let none = sym failed.fault ∙ ap (λ (s : StoreView D). faults_in s.fills) same ∙ no_fault in cc
-
-  pub healed_on : (e : Refusal) → faults_in old.fills ≡ [] → IsFillingRefusal device old mid (IsFillFailed device old mid) e → IsFilledOn old mid → (e ≢ DiskFault → new ≡ mid)
-      → (e ≡ DiskFault → IsReopened device mid new) → IsFilledOn old new
-  healed_on DiskFault no_fault failed on same again =
-      let re = again refl in record {
-        rows = re.history ∙ on.rows;
-        head = re.head ∙ on.head;
-        exponent = re.exponent ∙ on.exponent;
-        opened = re.opened ∙ on.opened;
-        sets = subst (λ (x : PlacedFills). AddsWholeFills old.head old.exponent old.history (fillings_in old.filled) (fillings_in x)) (sym re.filled) on.sets;
-        unchanged = λ none. absurd (some_late no_fault failed (on.unchanged none));
-      }
-  healed_on other no_fault refused on same again = subst (IsFilledOn old) (sym (same (λ is. cc))) on

@@ -1,7 +1,7 @@
 use Rattle.std.proofs.Common.{length}
 use Rattle.interval_walks.specs.Counts.{late_intervals}
-use Rattle.late_filling.proofs.Filling.{IsFilling}
-use Rattle.late_filling.proofs.fill_late.fill_each.Given as goal
+use Rattle.load_session.proofs.FilledTasks.{IsFilling}
+use Rattle.load_session.proofs.filling.fill_late.Given as goal
 
 abbrev pub invariant-fills : goal.invariant-fills
 invariant-fills g l = IsFilling g.D.Disk.device l.fn.store l.store l.filled

@@ -1,0 +1,16 @@
+//! What a command does behind all that it writes.
+
+ghost use Rattle.command_runs.specs.Healing.{IsHealed};
+
+use arch_disk::Disk;
+use archive_store::Store;
+
+/// Takes a failed write back, where one is pending, so that a program that opens the archive after it reads no gate that the
+/// medium may lack (D-57). It is tried once: whether it succeeds or not, what was refused stays refused.
+pub fn heal<D: Disk>(store: &mut Store<D>)
+    ensures { IsHealed D.device store.old store.new }
+{
+    // It tells the proof that the fault is counted.
+    let _rows = store.front();
+    let _ = store.reopen();
+}
