@@ -1,0 +1,99 @@
+//! What a pass does with its seat, by the part of the cell that all share.
+
+ghost use Rattle.std.specs.Prelude.{◌≡◌, ◌<◌, ◌^◌, ◌+◌, [], length};
+ghost use mathlib.Core.List.{IsPrefix};
+ghost use Rattle.turn_cell.specs.declared.view.Stage.TheVariants.{Idle, Waits};
+ghost use Rattle.turn_cell.specs.Turn.{IsCell, IsSeatOf, IsAtRest, Served, both_views, seen_more};
+
+use crate::growing::Growing;
+use crate::steps::{Draw, Look, ReadFront, Settle, Turns, Unite};
+use crate::view::View;
+use atomic_table::{Seat, Shared};
+use std::snapshot::Snapshot;
+use std::sync::Wait;
+use std::thread;
+
+/// Draws a ticket. After the last one it goes on for ever.
+pub(crate) fn draw<T: Growing, R: Wait>(
+    rt: &R,
+    shared: &Shared<Option<T>, View<T::Item, T::Fill, T>, Snapshot<T>, Turns>,
+    seat: &mut Seat<Option<T>, View<T::Item, T::Fill, T>>,
+) -> u64
+    requires sized { IsCell shared.now.table_id }
+    requires own { (seat.old.table_id ≡ shared.now.table_id) × (0 < seat.old.me.0.share) }
+    requires idle { IsAtRest seat.old.me }
+    ensures same { (seat.new.table_id ≡ seat.old.table_id) × (seat.new.id ≡ seat.old.id) }
+    ensures drawn { seat.new.me ≡ (record seat.old.me.0 { stage = Waits result }, []) }
+    ensures next { result + 1 < 2 ^ 64 }
+{
+    for _ in rt.forever() {
+        let ticket = shared.peek(0);
+        if ticket < u64::MAX {
+            let found = shared.compare_exchange::<Draw>(seat, 0, ticket, ticket + 1);
+            if found == ticket {
+                return ticket;
+            }
+        }
+        thread::yield_now();
+    }
+    unreachable!()
+}
+
+/// Waits until the ticket is served.
+pub(crate) fn wait<T: Growing, R: Wait>(
+    rt: &R,
+    shared: &Shared<Option<T>, View<T::Item, T::Fill, T>, Snapshot<T>, Turns>,
+    seat: &mut Seat<Option<T>, View<T::Item, T::Fill, T>>,
+    ticket: u64,
+)
+    requires sized { IsCell shared.now.table_id }
+    requires own { IsSeatOf shared.now.table_id shared.now.key.value seat.old.table_id seat.old.me }
+    requires drawn { (seat.old.me.0.stage ≡ Waits ticket) × (seat.old.me.1 ≡ []) }
+    ensures same { (seat.new.table_id ≡ seat.old.table_id) × (seat.new.id ≡ seat.old.id) }
+    ensures served { Served T.history T.fills T.goes_on seat.old.me seat.new.me ticket }
+{
+    for _ in rt.forever() {
+        if shared.load::<Look>(seat, 1) == ticket {
+            return;
+        }
+        thread::yield_now();
+    }
+    unreachable!()
+}
+
+/// Reads how long the history is. The seat has then seen as much of it.
+pub(crate) fn read_front<T: Growing>(
+    shared: &Shared<Option<T>, View<T::Item, T::Fill, T>, Snapshot<T>, Turns>,
+    seat: &mut Seat<Option<T>, View<T::Item, T::Fill, T>>,
+) -> u64
+    requires sized { IsCell shared.now.table_id }
+    requires own { IsSeatOf shared.now.table_id shared.now.key.value seat.old.table_id seat.old.me }
+    requires idle { IsAtRest seat.old.me }
+    ensures same { (seat.new.table_id ≡ seat.old.table_id) × (seat.new.id ≡ seat.old.id) }
+    ensures front { result ≡ length seat.new.me.0.history.list.seen }
+    ensures begins { IsPrefix seat.old.me.0.history.list.seen seat.new.me.0.history.list.seen }
+    ensures more { seat.new.me ≡ (seen_more seat.old.me.0 seat.new.me.0.history.list.seen, []) }
+{
+    shared.load::<ReadFront>(seat, 2)
+}
+
+/// Gives a seat up, and takes in what it knew.
+pub(crate) fn unite<T: Growing>(
+    shared: &Shared<Option<T>, View<T::Item, T::Fill, T>, Snapshot<T>, Turns>,
+    seat: &mut Seat<Option<T>, View<T::Item, T::Fill, T>>,
+    other: Seat<Option<T>, View<T::Item, T::Fill, T>>,
+)
+    requires sized { IsCell shared.now.table_id }
+    requires own { IsSeatOf shared.now.table_id shared.now.key.value seat.old.table_id seat.old.me }
+    requires idle { IsAtRest seat.old.me × IsAtRest other.me }
+    requires theirs { other.table_id ≡ shared.now.table_id }
+    ensures same { (seat.new.table_id ≡ seat.old.table_id) × (seat.new.id ≡ seat.old.id) }
+    ensures both { seat.new.me ≡ (both_views seat.old.me.0 other.me.0, []) }
+    ensures mine { IsPrefix seat.old.me.0.history.list.seen seat.new.me.0.history.list.seen
+        × IsPrefix seat.old.me.0.fills.list.seen seat.new.me.0.fills.list.seen }
+    ensures others { IsPrefix other.me.0.history.list.seen seat.new.me.0.history.list.seen
+        × IsPrefix other.me.0.fills.list.seen seat.new.me.0.fills.list.seen }
+{
+    shared.join_seat::<Unite>(seat, other);
+    shared.load::<Settle>(seat, 0);
+}
