@@ -1,0 +1,4 @@
+pub mod Going
+pub mod Turning
+pub mod Later
+pub mod Asked

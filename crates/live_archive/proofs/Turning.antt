@@ -1,0 +1,86 @@
+-- A turn, from its beginning and its end.
+use Rattle.std.proofs.Common.{◌≡◌, ℕ, ◌+◌, ◌-◌, ◌≤◌, List, [], ◌∷◌, ◌++◌, length, take, Result, Ok, Err, IfOk, IfErr, MatchResult, refl, sym, ap, ◌∙◌, subst}
+use Rattle.std.specs.List.{range_with_len}
+use mathlib.Core.List.{IsPrefix}
+use Rattle.arch_disk.specs.Disk.{Device}
+use Rattle.history_items.specs.declared.fills.Fill.{Fill}
+use Rattle.history_items.specs.declared.items.Item.{Item}
+use Rattle.turn_cell.specs.Lists.{left_seen}
+use Rattle.turn_cell.specs.Pass.{PassView, Found, Left}
+use Rattle.archive_store.specs.StoreView.{StoreView}
+use Rattle.live_archive.specs.GoesOn.{GoesOn}
+use Rattle.live_archive.specs.Laws.{IsTold}
+use Rattle.live_archive.specs.Turns.{TookTurn, Turned}
+use Rattle.live_archive.proofs.Going.{goes_trans, prefix_length, prefix_trans}
+
+-- what is said of either answer
+pub matched : {X E : Type 0} (r : Result X E) (P : X → Type 0) (Q : E → Type 0) → IfOk r P → IfErr r Q → MatchResult r P Q
+matched (Ok x) P Q p q = p
+matched (Err e) P Q p q = q
+
+-- what a list begins with is the list cut to its length
+cut_at : {A : Type 0} (xs ys : List A) → IsPrefix xs ys → take (length xs) ys ≡ xs
+cut_at {A = A} xs ys p = ap (take (length xs)) (sym p.1) ∙ take_all xs p.0
+  where
+    take_all : (xs more : List A) → take (length xs) (xs ++ more) ≡ xs
+    take_all [] more = refl
+    take_all (x ∷ xs) more = ap (λ (l : List A). x ∷ l) (take_all xs more)
+
+-- the lists that a turn leaves begin with those that its pass has seen by then
+pub turn_begins : {T : Type 0} (old mid : PassView Item Fill T) (h h' : List Item) (f f' : List Fill) → Found old mid h f → IsPrefix h h' → IsPrefix f f'
+    → IsPrefix mid.history.seen h' × IsPrefix mid.fills.seen f'
+turn_begins {T} old mid h h' f f' found p q = subst (λ (m : PassView Item Fill T). IsPrefix m.history.seen h' × IsPrefix m.fills.seen f') (sym found) (p, q)
+
+module _ {D T : Type 0} (device : Device D) where
+  pub took : (first before after : StoreView D) (old mid new : PassView Item Fill T) (Said : StoreView D → StoreView D → Type 0)
+      → GoesOn device first before → GoesOn device before after
+      → IsPrefix old.history.seen before.history → IsPrefix old.fills.seen before.fills
+      → Found old mid before.history before.fills → Left mid new after.history after.fills
+      → Said before after → TookTurn device first old new Said
+  took first before after old mid new Said found goes begins fills_begin entered left said = record {
+    before = before;
+    after = after;
+    turned = record {
+      found = found;
+      goes = goes;
+      begins = begins;
+      fills_begin = fills_begin;
+      pass = left ∙ ap (λ (m : PassView Item Fill T). record m { history = left_seen m.history after.history; fills = left_seen m.fills after.fills; standing = new.standing }) entered;
+    };
+    said = said;
+  }
+
+  -- what a turn tells of its pass
+  pub told : (first before after : StoreView D) (old new : PassView Item Fill T) → Turned device first before after old new → IsTold first before after old new
+  told first before after old new t =
+      let is = t.pass in
+      let seen : new.history.seen ≡ after.history = ap (λ (p : PassView Item Fill T). p.history.seen) is in
+      let fills : new.fills.seen ≡ after.fills = ap (λ (p : PassView Item Fill T). p.fills.seen) is in
+      let found : new.history.found ≡ length before.history = ap (λ (p : PassView Item Fill T). p.history.found) is in
+      let fills_found : new.fills.found ≡ length before.fills = ap (λ (p : PassView Item Fill T). p.fills.found) is in
+      let grown = t.goes.appends in
+      record {
+        turns = ap (λ (p : PassView Item Fill T). p.turns) is;
+        share = ap (λ (p : PassView Item Fill T). p.share) is;
+        seen = (seen, fills);
+        begins = (
+          subst (IsPrefix old.history.seen) (sym seen) (prefix_trans old.history.seen before.history after.history t.begins grown.history),
+          subst (IsPrefix old.fills.seen) (sym fills) (prefix_trans old.fills.seen before.fills after.fills t.fills_begin grown.fills),
+        );
+        found = (found, fills_found);
+        later = (
+          subst (λ (n : ℕ). length old.history.seen ≤ n) (sym found) (prefix_length old.history.seen before.history t.begins),
+          subst (λ (n : ℕ). length old.fills.seen ≤ n) (sym fills_found) (prefix_length old.fills.seen before.fills t.fills_begin),
+        );
+        cut = (
+          ap (λ (n : ℕ). take n new.history.seen) found ∙ (ap (take (length before.history)) seen ∙ cut_at before.history after.history grown.history),
+          ap (λ (n : ℕ). take n new.fills.seen) fills_found ∙ (ap (take (length before.fills)) fills ∙ cut_at before.fills after.fills grown.fills),
+        );
+        places = ap (λ (p : PassView Item Fill T). p.history.places) is
+            ∙ ap (λ (n : ℕ). old.history.places ++ range_with_len n (length after.history - n)) (sym found)
+            ∙ ap (λ (l : List Item). old.history.places ++ range_with_len new.history.found (length l - new.history.found)) (sym seen);
+        fills_places = ap (λ (p : PassView Item Fill T). p.fills.places) is
+            ∙ ap (λ (n : ℕ). old.fills.places ++ range_with_len n (length after.fills - n)) (sym fills_found)
+            ∙ ap (λ (l : List Fill). old.fills.places ++ range_with_len new.fills.found (length l - new.fills.found)) (sym fills);
+        same = (goes_trans device first before after t.found t.goes).appends;
+      }

@@ -1,0 +1,4 @@
+pub mod GoesOn
+pub mod Turns
+pub mod Answers
+pub mod Laws

@@ -1,0 +1,76 @@
+//! Replays.
+
+ghost use Rattle.std.specs.Prelude.{◌≡◌, ◌≤◌, ◌<◌, ◌++◌, [], length, IfOk, IfErr};
+ghost use Rattle.std.specs.List.{AllByRecursion};
+ghost use Rattle.refusals.specs.declared.refusal.Refusal.TheVariants.{OutOfMemory};
+ghost use Rattle.history_items.specs.Items.{rows_in};
+ghost use Rattle.replay_merge.specs.Cursor.{AsksTheSame, steps_at_most, EndsExactly, IsRowAsked, rest_of};
+ghost use Rattle.archive_store.specs.Finding.{IsReplayFound};
+ghost use Rattle.archive_store.specs.Replays.{IsReplayOpened};
+ghost use Rattle.turn_cell.specs.Pass.{IsFree};
+ghost use Rattle.live_archive.specs.Turns.{TookTurn};
+
+use crate::held::HeldStore;
+use crate::live::{LiveOver, LivePass};
+use arch_disk::Disk;
+use arch_types::row::Rows;
+use archive_store::FoundReplay;
+use archive_store::laws::replays_keep_their_front;
+use refusals::Refusal;
+use replay_merge::cursor::Cursor;
+use std::alloc::{AllocError, Global};
+use std::sync::Wait;
+
+impl<D: Disk> LiveOver<HeldStore<D>> {
+    /// Opens the replay of a request whose table was found: of the rows that there are in its turn, whatever comes later.
+    /// The one error is want of memory.
+    pub fn replay_open<R: Wait>(
+        &self,
+        rt: &R,
+        alloc: Global,
+        pass: &mut LivePass<D>,
+        found: &FoundReplay,
+    ) -> Result<Cursor, AllocError>
+        requires free { IsFree self.now.cell pass.old }
+        requires found { IsReplayFound self.now.cell.first.store.head.tables found.now }
+        ensures free { IsFree self.now.cell pass.new }
+        ensures turn { TookTurn D.device self.now.cell.first.store pass.old pass.new (λ before after.
+            (after ≡ before) × IfOk result (IsReplayOpened before.head before.history found.now.request)) }
+    {
+        let mut held = self.cell.enter(rt, pass);
+        let result = held.store.replay_open(alloc, found);
+        self.cell.leave(pass, held);
+        result
+    }
+
+    /// The next rows of a replay, at most `limit`, whose front the caller has seen. No row, for a limit above 0, is the end.
+    pub fn replay_next<R: Wait>(
+        &self,
+        rt: &R,
+        alloc: Global,
+        pass: &mut LivePass<D>,
+        cursor: &mut Cursor,
+        limit: u64,
+    ) -> Result<Rows, Refusal>
+        requires free { IsFree self.now.cell pass.old }
+        requires front { cursor.old.front ≤ length (rows_in pass.old.history.seen) }
+        ensures free { IsFree self.now.cell pass.new }
+        ensures turn { TookTurn D.device self.now.cell.first.store pass.old pass.new (λ before after. after ≡ before) }
+
+        // The rows are those of the history that the caller has seen, whatever came to it since.
+        ensures rows { IfOk result (λ rows. rows ++ rest_of cursor.new (rows_in pass.old.history.seen)
+            ≡ rest_of cursor.old (rows_in pass.old.history.seen)) }
+        ensures end { IfOk result (EndsExactly limit cursor.old cursor.new) }
+        ensures nearer { IfOk result (λ rows. (rows ≡ [] → ⊥) → steps_at_most cursor.new < steps_at_most cursor.old) }
+        ensures few { IfOk result (λ rows. length rows ≤ limit) }
+        ensures each { IfOk result (λ rows. AllByRecursion (IsRowAsked cursor.old) rows) }
+        ensures asked { AsksTheSame cursor.old cursor.new }
+        ensures refused { IfErr result (λ e. (e ≡ OutOfMemory) × (cursor.new ≡ cursor.old)) }
+    {
+        replays_keep_their_front();
+        let mut held = self.cell.enter(rt, pass);
+        let result = held.store.replay_step(alloc, cursor, limit);
+        self.cell.leave(pass, held);
+        result
+    }
+}
