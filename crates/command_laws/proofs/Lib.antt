@@ -1,0 +1,14 @@
+pub mod Created
+pub mod Dumps
+pub mod Files
+pub mod Left
+pub mod OverRows
+pub mod Queried
+pub mod Readings
+pub mod Recovered
+pub mod Runs
+pub mod Scanned
+pub mod Selected
+pub mod Valued
+pub mod Verified
+pub mod Ways

@@ -1,0 +1,197 @@
+-- The ends of the plan of `query --sql`.
+use Rattle.std.proofs.Common.{◌≡◌, ◌⊎◌, ◌∙◌, inl, inr, ℤ, ℕ, List, [], length, Option, Some, None, refl, sym, ap, subst}
+use Rattle.std.specs.Prelude.{IsTrue, Result, Ok, Err}
+use Rattle.arch_disk.specs.Disk.{Device}
+use Rattle.refusals.specs.declared.refusal.Refusal.{Refusal}
+use Rattle.refusals.specs.declared.refusal.Refusal.TheVariants.{Damaged, DiskFault, NoArchive, OutOfMemory, WriteFault}
+use Rattle.refusals.specs.declared.refusal.Which.TheVariants.{ScriptOctets}
+use Rattle.outer_traits.specs.Outside.{Files}
+use Rattle.archive_store.specs.Entries.{FilledArchive}
+use Rattle.archive_store.specs.Stands.{StandsFilled}
+use Rattle.archive_store.proofs.Exact.{filled_once}
+use Rattle.ssql_types.specs.declared.place.ScriptPlace.TheVariants as ScriptPlace
+use Rattle.ssql_types.specs.declared.statement.TypedStatement.{TypedStatement}
+use Rattle.script_answers.specs.Scripts.{IsScriptAnswer, after_answer}
+use Rattle.script_answers.specs.Statements.{packet_names, statements_text}
+use Rattle.script_answers.proofs.ScriptAnswers.{one_script_answer}
+use Rattle.command_plans.specs.Plan.{OfDisk, OfMemory, OfOutput, EachEnd, Requires, Way, and_then, refusal_at}
+use Rattle.command_plans.proofs.Plans.{each_end, end_of}
+use Rattle.command_words.specs.Job.{Sql}
+use Rattle.command_runs.specs.declared.report.Report.{Report}
+use Rattle.command_runs.specs.Command.{ArchiveFound, DamageFound, Effects, HasEffects, NoneFound, OpeningResult, Progress, after_opening, archive_opened, opening_plan}
+use Rattle.command_runs.specs.ReadOnly.{IsReadAsBefore, IsReadOnly}
+use Rattle.command_runs.specs.Report.{read_only, unopened}
+use Rattle.query_commands.specs.Sql.{archive_text_plan, sql_plan, statements_plan, text_plan}
+use Rattle.command_laws.specs.Calls.{HeldArchive, IsRefusedBy, IsRun, LeavesAll, Prints, PrintsSome, Succeeded, WasInterrupted}
+use Rattle.command_laws.specs.NamedFiles.{HasFile}
+use Rattle.command_laws.specs.Sql.{AreStatementsAnswered, HasStatements}
+use Rattle.command_laws.proofs.Files.{one_file}
+use Rattle.command_laws.proofs.Left.{all_opened, all_unopened, not_asked}
+use Rattle.command_laws.proofs.Readings.{IsUnread, each_read, read_due}
+use Rattle.command_laws.proofs.Runs.{all_is_some, by_due, by_job, none_is_some, none_or_some, or_interrupted, refused, succeeded}
+
+-- all but what is due
+record IsLeft {D : Type 0} (device : Device D) (e : Effects D) (files : Files) (name : List ℕ) : Type 0 where
+  left : LeavesAll device e
+  whole : Succeeded e
+      → HeldArchive device e (λ filled. (statements : List TypedStatement) × HasStatements files name filled (Ok statements) × Prints e (statements_text filled.plain statements))
+  printed : (filled : FilledArchive) (statements : List TypedStatement) → StandsFilled (device.reads e.disk) filled → HasStatements files name filled (Ok statements)
+      → PrintsSome e (statements_text filled.plain statements)
+  silent : (filled : FilledArchive) (refusal : Refusal) → StandsFilled (device.reads e.disk) filled → HasStatements files name filled (Err refusal) → Prints e []
+
+abbrev Answer : Type 0
+Answer = Result (List TypedStatement) Refusal
+
+abbrev IsAnswer : FilledArchive → List ℕ → Answer → Type 0
+IsAnswer filled text = IsScriptAnswer ScriptPlace.Sql filled.plain.head.tables (packet_names filled.plain.head filled.plain.history) text
+
+-- a script has one answer over an archive
+one_answer : (files : Files) (name : List ℕ) (filled : FilledArchive) (a b : Answer) → HasStatements files name filled a → HasStatements files name filled b → a ≡ b
+one_answer files name filled a b h k =
+    one_script_answer ScriptPlace.Sql filled.plain.head.tables (packet_names filled.plain.head filled.plain.history) h.text a b h.script
+    (subst (λ (t : List ℕ). IsAnswer filled t b) (one_file files ScriptOctets name k.text h.text k.file h.file) k.script)
+
+same_statements : (a b : List TypedStatement) → ◌≡◌ {A = Answer} (Ok a) (Ok b) → a ≡ b
+same_statements a b is = cc (is)
+
+not_both : (a : List TypedStatement) (refusal : Refusal) → ◌≡◌ {A = Answer} (Ok a) (Err refusal) → ⊥
+not_both a refusal is = cc (is)
+
+module _ {D : Type 0} (device : Device D) (e : Effects D) (files : Files) (name : List ℕ) (known : IsTrue device.is_transparent) where
+  abbrev Leaves : Way Progress ⊥ → Type 0
+  Leaves way = HasEffects device e way → IsLeft device e files name
+
+  -- no archive was opened
+  left_unopened : (refusal : Refusal) → e.report ≡ unopened (Some refusal) → Prints e [] → IsReadAsBefore device e.disk e.disk' → IsLeft device e files name
+  left_unopened refusal report silent kept = record {
+    left = all_unopened device e refusal report silent kept;
+    whole = λ none. none_or_some e.report.refusal refusal (ap (λ (r : Report). r.refusal) report) none;
+    printed = λ filled statements stands has. none_is_some e (statements_text filled.plain statements) silent;
+    silent = λ filled refused stands has. silent;
+  }
+
+  left_unread : (refusal : Refusal) → IsUnread e refusal → IsLeft device e files name
+  left_unread refusal unread = left_unopened refusal unread.report unread.silent (not_asked device e unread.disk)
+
+  module _ (filled : FilledArchive) (only : IsReadOnly device e.disk e.disk' filled) where
+    -- one was, and nothing was printed
+    left_silent : (refusal : Refusal) → e.report ≡ read_only (Some refusal) (length filled.plain.history) → Prints e [] → IsLeft device e files name
+    left_silent refusal report silent = record {
+      left = all_opened device e filled only (Some refusal) report;
+      whole = λ none. none_or_some e.report.refusal refusal (ap (λ (r : Report). r.refusal) report) none;
+      printed = λ other statements stands has. none_is_some e (statements_text other.plain statements) silent;
+      silent = λ other refused stands has. silent;
+    }
+
+    same_archive : (other : FilledArchive) → StandsFilled (device.reads e.disk) other → other ≡ filled
+    same_archive other stands = filled_once (device.reads e.disk) other filled stands only.stands
+
+    here : (other : FilledArchive) (answer : Answer) → StandsFilled (device.reads e.disk) other → HasStatements files name other answer → HasStatements files name filled answer
+    here other answer stands has = subst (λ (f : FilledArchive). HasStatements files name f answer) (same_archive other stands) has
+
+    -- or some of the answers were, or all
+    left_printed : (statements : List TypedStatement) → HasStatements files name filled (Ok statements) → (refusal : Option Refusal)
+        → e.report ≡ read_only refusal (length filled.plain.history) → PrintsSome e (statements_text filled.plain statements) → (Succeeded e → Prints e (statements_text filled.plain statements))
+        → IsLeft device e files name
+    left_printed statements has refusal report some whole = record {
+      left = all_opened device e filled only refusal report;
+      whole = λ none. (filled, only.stands, (statements, has, whole none));
+      printed = λ other others stands is. subst (λ (f : FilledArchive). PrintsSome e (statements_text f.plain others)) (sym (same_archive other stands))
+          (subst (λ (s : List TypedStatement). PrintsSome e (statements_text filled.plain s))
+          (same_statements statements others (one_answer files name filled (Ok statements) (Ok others) has (here other (Ok others) stands is))) some);
+      silent = λ other refused stands is. absurd (not_both statements refused (one_answer files name filled (Ok statements) (Err refused) has (here other (Err refused) stands is)));
+    }
+
+  refused_whole : {Q : Type 0} (filled : FilledArchive) (refusal : Refusal) → e.report ≡ read_only (Some refusal) (length filled.plain.history) → Succeeded e → Q
+  refused_whole filled refusal report ok = none_or_some e.report.refusal refusal (ap (λ (r : Report). r.refusal) report) ok
+
+  -- ---- ends
+
+  opening_left : (held : OpeningResult) → EachEnd Leaves (after_opening 1 held)
+  opening_left NoneFound = λ did. left_unopened NoArchive did.report did.printed (did.disk.1 known)
+  opening_left (DamageFound file at) = λ did. left_unopened (Damaged file at) did.report did.printed (did.disk.1 known)
+  opening_left (ArchiveFound filled) = tt
+
+  module _ (text : List ℕ) (file : HasFile files ScriptOctets name text) where
+    statements_left : (filled : FilledArchive) (answer : Answer) → IsAnswer filled text answer → EachEnd Leaves (and_then (after_answer (archive_opened 1 filled) answer) (statements_plan filled))
+    statements_left filled (Err refusal) is = λ did. left_silent filled (did.disk.1 known) refusal did.report did.printed
+    statements_left filled (Ok statements) is = let has : HasStatements files name filled (Ok statements) = record { text = text; file = file; script = is } in (
+      λ did. left_printed filled (did.disk.1 known) statements has (Some OutOfMemory) did.report did.printed (refused_whole filled OutOfMemory did.report),
+      (
+        λ did. left_printed filled (did.disk.1 known) statements has (Some WriteFault) did.report did.printed (refused_whole filled WriteFault did.report),
+        λ did. left_printed filled (did.disk.1 known) statements has None did.report (all_is_some e (statements_text filled.plain statements) did.printed) (λ ok. did.printed),
+      ),
+    )
+
+    archive_left : EachEnd Leaves (archive_text_plan device e.disk text)
+    archive_left = (
+      λ did. left_unopened OutOfMemory did.report did.printed (not_asked device e did.disk),
+      each_end Leaves (opening_plan 1 device e.disk) (text_plan text) (
+        λ did. left_unopened OutOfMemory did.report did.printed (did.disk.1 known),
+        (λ did. left_unopened DiskFault did.report did.printed (did.disk.1 known), λ held h. opening_left held),
+      ) (λ filled. (λ did. left_silent filled (did.disk.1 known) OutOfMemory did.report did.printed, λ answer is. statements_left filled answer is)),
+    )
+
+  each_left : EachEnd Leaves (sql_plan device e.disk (Some files) name)
+  each_left = each_read device e (IsLeft device e files name) files ScriptOctets (λ octets. octets) name 0 (archive_text_plan device e.disk) (λ refusal unread cause. left_unread refusal unread) archive_left
+
+  -- ---- what is due
+
+  module _ (way : Way Progress ⊥) (at : refusal_at way ≡ e.report.refusal) (filled : FilledArchive) (stands : StandsFilled (device.reads e.disk) filled) where
+    abbrev Answered : Answer → Type 0
+    Answered answer = Requires (and_then (after_answer (archive_opened 1 filled) answer) (statements_plan filled)) way
+
+    text_due : (text : List ℕ) (answer : Answer) → IsAnswer filled text answer → Requires (text_plan text filled) way → Answered answer ⊎ WasInterrupted e
+    text_due text answer is (inl cut) = or_interrupted e way at (Answered answer) _ OfMemory cut
+    text_due text answer is (inr asked) = inl (asked answer is)
+
+    archive_due : (text : List ℕ) (answer : Answer) → IsAnswer filled text answer → Requires (archive_text_plan device e.disk text) way → Answered answer ⊎ WasInterrupted e
+    archive_due text answer is (inl cut) = or_interrupted e way at (Answered answer) _ OfMemory cut
+    archive_due text answer is (inr (inl cut)) = or_interrupted e way at (Answered answer) _ OfMemory cut
+    archive_due text answer is (inr (inr (inl cut))) = or_interrupted e way at (Answered answer) _ OfDisk cut
+    archive_due text answer is (inr (inr (inr asked))) = text_due text answer is (asked (ArchiveFound filled) (λ transparent. stands))
+
+    script_due : (answer : Answer) → HasStatements files name filled answer → Requires (sql_plan device e.disk (Some files) name) way → Answered answer ⊎ WasInterrupted e
+    script_due answer has required = elim (read_due e files way at ScriptOctets (λ octets. octets) name 0 (archive_text_plan device e.disk) has.text has.file required) [
+      | inl read ↦ archive_due has.text answer has.script read
+      | inr cut ↦ inr cut
+    ]
+
+    printing_due : (statements : List TypedStatement) → Answered (Ok statements) → Succeeded e ⊎ WasInterrupted e
+    printing_due statements (inl is) = or_interrupted e way at (Succeeded e) _ OfMemory is
+    printing_due statements (inr (inl is)) = or_interrupted e way at (Succeeded e) _ OfOutput is
+    printing_due statements (inr (inr is)) = succeeded e way at _ is
+
+    complete_due : (statements : List TypedStatement) → HasStatements files name filled (Ok statements) → Requires (sql_plan device e.disk (Some files) name) way → Succeeded e ⊎ WasInterrupted e
+    complete_due statements has required = elim (script_due (Ok statements) has required) [
+      | inl answered ↦ printing_due statements answered
+      | inr cut ↦ inr cut
+    ]
+
+    refused_due : (refusal : Refusal) → HasStatements files name filled (Err refusal) → Requires (sql_plan device e.disk (Some files) name) way → IsRefusedBy e refusal
+    refused_due refusal has required = elim (script_due (Err refusal) has required) [
+      | inl answered ↦ refused e way at _ refusal answered
+      | inr cut ↦ inr cut
+    ]
+
+-- ---- the clause
+
+module _ {D : Type 0} (device : Device D) (e : Effects D) (files : Files) (clock : Option ℤ) (name : List ℕ) (run : IsRun device e files clock (Sql name)) where
+  left : IsLeft device e files name
+  left = by_job device e files clock (Sql name) run (IsLeft device e files name)
+      (λ did. left_unopened device e files name run.transparent OutOfMemory did.report did.printed (not_asked device e did.disk))
+      (λ way allows did. end_of (Leaves device e files name run.transparent) (sql_plan device e.disk (Some files) name) way (each_left device e files name run.transparent) allows did)
+
+  pub selected : AreStatementsAnswered device e files name
+  selected = record {
+    left = left.left;
+    whole = left.whole;
+    printed = left.printed;
+    refused = λ filled refusal stands has. (
+      by_due device e files clock (Sql name) run (IsRefusedBy e refusal) (λ cut. inr cut)
+          (λ way required at. refused_due device e files name run.transparent way at filled stands refusal has required),
+      left.silent filled refusal stands has,
+    );
+    complete = λ filled statements stands has. by_due device e files clock (Sql name) run (Succeeded e ⊎ WasInterrupted e) (λ cut. inr cut)
+        (λ way required at. complete_due device e files name run.transparent way at filled stands statements has required);
+  }

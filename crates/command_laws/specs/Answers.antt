@@ -1,0 +1,39 @@
+-- The answers to asks over the rows of a history, whatever its fills.
+use Rattle.std.specs.Prelude.{ℕ, suc, List, [], ◌∷◌, ◌++◌, length, unwrap_or, Option, Some, Result, Ok, Err}
+use Rattle.asks.specs.declared.ask.Ask.{Ask}
+use Rattle.asks.specs.declared.ask.Ask.TheVariants.{Values, Replay}
+use Rattle.asks.specs.declared.ask.Request.{Request}
+use Rattle.asks.specs.Names.{parameter_number}
+use Rattle.refusals.specs.declared.refusal.Refusal.{Refusal}
+use Rattle.mdb_items.specs.Database.{Database}
+use Rattle.container_extract.specs.Answer.{answer_of}
+use Rattle.history_items.specs.declared.items.Item.{Item}
+use Rattle.history_items.specs.Databases.{database_in}
+use Rattle.history_items.specs.Items.{rows_in}
+use Rattle.archive_store.specs.declared.head.Head.{Head}
+use Rattle.archive_store.specs.Entries.{Archive}
+use Rattle.retrieval.specs.AnswerText.{answer_lines}
+use Rattle.retrieval.specs.ReplayText.{replay_text}
+use Rattle.ask_answers.specs.Asks.{archive_asks_refusal}
+
+-- the text of the answer to a request, the ask with a number: the front, and the cells of its parameter that extracting
+-- the packets of its range gives, in the order and number that it asks for
+abbrev pub values_answer : Database → List Item → ℕ → Request → List ℕ
+values_answer db history k request =
+    let number = unwrap_or (parameter_number db request.parameter) 0 in
+    answer_lines k (length history) db number (answer_of db number request (rows_in history))
+
+-- the text of the ask with a number
+abbrev pub ask_answer : Head → List Item → ℕ → Ask → List ℕ
+ask_answer head history k (Values request) = values_answer (database_in head.mdb history) history k request
+ask_answer head history k (Replay request) = replay_text head history k request
+
+-- the texts of asks, numbered from k on
+abbrev pub asks_answers : Head → List Item → ℕ → List Ask → List ℕ
+asks_answers head history k [] = []
+asks_answers head history k (ask ∷ asks) = ask_answer head history k ask ++ asks_answers head history (suc k) asks
+
+-- why a sheet of asks isn't answered: its own refusal, or that of its first ask that is refused
+abbrev pub sheet_refusal : Archive → Result (List Ask) Refusal → Option Refusal
+sheet_refusal archive (Ok asks) = archive_asks_refusal archive asks
+sheet_refusal archive (Err refusal) = Some refusal

@@ -1,0 +1,71 @@
+-- The clause of `create`.
+use Rattle.std.specs.Prelude.{◌≡◌, ◌⊎◌, ℕ, ℤ, List, [], Option, Result, Ok, Err}
+use Rattle.arch_disk.specs.Image.{Image}
+use Rattle.arch_disk.specs.Disk.{Device, LeavesOnly}
+use Rattle.disk_journal.specs.Calls.{BeginsOpen}
+use Rattle.disk_journal.specs.Format.{HoldsNone}
+use Rattle.intervals.specs.Interval.{format_1_exponent}
+use Rattle.mdb_items.specs.declared.sheet.RawMdb.{RawMdb}
+use Rattle.refusals.specs.declared.refusal.Refusal.{Refusal}
+use Rattle.refusals.specs.declared.refusal.Refusal.TheVariants.{Exists}
+use Rattle.outer_traits.specs.Outside.{Files}
+use Rattle.archive_store.specs.declared.head.Head.{Head}
+use Rattle.archive_store.specs.Entries.{archive}
+use Rattle.archive_store.specs.Stands.{IsSoundImage, StandsFor}
+use Rattle.command_words.specs.Job.{Create, CreateWords}
+use Rattle.command_runs.specs.Command.{Effects}
+use Rattle.command_runs.specs.Creation.{create_line}
+use Rattle.command_runs.specs.Report.{read_only}
+use Rattle.archive_commands.specs.Create.{IsHeadAnswer}
+use Rattle.command_laws.specs.Calls.{IsRefusedBy, IsRun, IsUnopened, IsUntouched, Prints, PrintsSome, Succeeded, WasInterrupted}
+use Rattle.command_laws.specs.NamedFiles.{HasScript, HasSheets}
+
+-- the three sheets and the script give this head (the table `tm`, the tables that the script creates, and the database),
+-- or are refused
+pub record GivesHead (files : Files) (words : CreateWords) (answer : Result Head Refusal) : Type 0 where
+  pub raw : RawMdb
+  pub text : List ℕ
+  pub sheets : HasSheets files words.parameters words.calibrations words.containers raw
+  pub script : HasScript files words.script text
+  pub gives : IsHeadAnswer raw text answer
+
+-- an image stands for this head without rows
+abbrev pub IsHeadAlone : Head → Image → Type 0
+IsHeadAlone head image = StandsFor image (archive head format_1_exponent [])
+
+-- There was no archive, and the disk as it is handed back stands for the head without rows. So does each image that a
+-- crash now leaves, and it is sound.
+pub record IsMadeOf {D : Type 0} (device : Device D) (e : Effects D) (head : Head) : Type 0 where
+  pub none : HoldsNone (device.reads e.disk 0)
+  pub reads : IsHeadAlone head (device.reads e.disk')
+  pub images : (image : Image) → device.images e.disk' image → IsHeadAlone head image × IsSoundImage image
+
+-- an image stands for nothing, or for the head that the sheets and the script give
+abbrev pub IsNoneOrHead : Files → CreateWords → Image → Type 0
+IsNoneOrHead files words image =
+    HoldsNone (image 0) ⊎ ((head : Head) × GivesHead files words (Ok head) × IsHeadAlone head image)
+
+-- At status 0 the disk that is handed back stands for the head without rows. One that held an archive stays as it was,
+-- and the refusal says so. Where every image of the disk handed in stands for nothing, every image of a moment during
+-- the call stands for nothing or for that head. Sheets or a script that are refused are answered so; those that give a
+-- head make its archive where there is none, but for want of memory and calls that fail.
+pub record IsCreated {D : Type 0} (device : Device D) (e : Effects D) (files : Files)
+    (words : CreateWords) : Type 0 where
+  pub made : Succeeded e → (head : Head) × GivesHead files words (Ok head) × IsMadeOf device e head
+      × Prints e (create_line head)
+  pub printed : (head : Head) → GivesHead files words (Ok head) → PrintsSome e (create_line head)
+  pub kept : BeginsOpen (device.reads e.disk 0) → IsUntouched device e
+  pub exists : (head : Head) → GivesHead files words (Ok head) → BeginsOpen (device.reads e.disk 0)
+      → IsRefusedBy e Exists × Prints e []
+  pub refused : (refusal : Refusal) → GivesHead files words (Err refusal) → IsRefusedBy e refusal × Prints e []
+  pub images : ((image : Image) → device.images e.disk image → HoldsNone (image 0))
+      → LeavesOnly device e.disk e.disk' (IsNoneOrHead files words)
+  pub complete : (head : Head) → GivesHead files words (Ok head) → HoldsNone (device.reads e.disk 0)
+      → Succeeded e ⊎ WasInterrupted e
+  pub report : IsUnopened e ⊎ (e.report ≡ read_only e.report.refusal 0)
+
+-- so it is of each call for this job
+abbrev pub CreateClause : {D : Type 0} → Device D → Type 0
+CreateClause {D = D} device =
+    (e : Effects D) (files : Files) (clock : Option ℤ) (words : CreateWords) → IsRun device e files clock (Create words)
+    → IsCreated device e files words

@@ -1,0 +1,11 @@
+pub mod Answers
+pub mod Calls
+pub mod Create
+pub mod Dumps
+pub mod NamedFiles
+pub mod Query
+pub mod Recover
+pub mod Scan
+pub mod Sql
+pub mod Values
+pub mod Verify

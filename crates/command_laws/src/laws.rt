@@ -1,0 +1,46 @@
+//! The clauses of the commands, carried by functions that do nothing.
+
+ghost use Rattle.command_laws.specs.Create.{CreateClause};
+ghost use Rattle.command_laws.specs.Query.{QueryClause};
+ghost use Rattle.command_laws.specs.Recover.{RecoverClause};
+ghost use Rattle.command_laws.specs.Scan.{ScanClause};
+ghost use Rattle.command_laws.specs.Sql.{SqlClause};
+ghost use Rattle.command_laws.specs.Values.{ValuesClause};
+ghost use Rattle.command_laws.specs.Verify.{VerifyClause};
+
+use arch_disk::Disk;
+
+/// `scan` prints the first packet of each key, in the order of the keys, and asks no disk.
+pub fn scan_clause<D: Disk>()
+    ensures { ScanClause D.device }
+{}
+
+/// `values` prints the cells that extracting these packets gives of one parameter, and asks no disk.
+pub fn values_clause<D: Disk>()
+    ensures { ValuesClause D.device }
+{}
+
+/// `create` makes an archive of the head alone where there was none, at each moment of a crash too.
+pub fn create_clause<D: Disk>()
+    ensures { CreateClause D.device }
+{}
+
+/// `query --sql` answers each statement over the whole history, and changes neither that nor the disk.
+pub fn sql_clause<D: Disk>()
+    ensures { SqlClause D.device }
+{}
+
+/// `query --ask` answers each ask over the whole history, and changes neither that nor the disk.
+pub fn query_clause<D: Disk>()
+    ensures { QueryClause D.device }
+{}
+
+/// `recover` leaves the history, and at status 0 no interval late.
+pub fn recover_clause<D: Disk>()
+    ensures { RecoverClause D.device }
+{}
+
+/// `verify` leaves all, and finds exactly a sound archive sound.
+pub fn verify_clause<D: Disk>()
+    ensures { VerifyClause D.device }
+{}
