@@ -1,6 +1,10 @@
 -- Stores whose history goes on, and fills that stay right for them.
 use Rattle.std.proofs.Common.{◌≡◌, ℕ, List, ◌++◌, refl, sym, ◌∙◌, ap, subst, append_assoc}
 use mathlib.Core.List.{IsPrefix}
+use Rattle.std.proofs.lemmas.List.{take-append-le}
+use Rattle.history_items.specs.declared.items.Item.{Item}
+use Rattle.history_items.specs.Items.{prefix}
+use Rattle.history_items.specs.Databases.{database_in}
 use Rattle.store_fills.specs.Built.{BuiltFill}
 use Rattle.store_fills.specs.Filled.{IsRightFill}
 use Rattle.store_fills.proofs.RightFills.{right_fill_stays}
@@ -24,8 +28,14 @@ module _ {D : Type 0} where
   }
 
   pub stays_right : (old new : StoreView D) (done : BuiltFill) → GoesOnFrom old new → IsRightFor old done → IsRightFor new done
-  stays_right old new done on right =
-      subst (λ (e : ℕ). IsRightFill e new.head.mdb new.history done.interval done.base done.set) (sym on.exponent)
-      (subst (λ (h : Head). IsRightFill old.exponent h.mdb new.history done.interval done.base done.set) (sym on.head)
-      (subst (λ l. IsRightFill old.exponent old.head.mdb l done.interval done.base done.set) on.history.1
-      (right_fill_stays old.exponent old.head.mdb old.history on.history.0 done.interval done.base done.set right)))
+  stays_right old new done on right = (
+    (
+      right.0.0 ∙ ap (database_in old.head.mdb) (sym (take-append-le done.base old.history on.history.0 right.1.may.within))
+          ∙ ap (λ (l : List Item). database_in old.head.mdb (prefix done.base l)) on.history.1 ∙ ap (λ (h : Head). database_in h.mdb (prefix done.base new.history)) (sym on.head),
+      right.0.1 ∙ sym on.exponent,
+    ),
+    subst (λ (e : ℕ). IsRightFill e new.head.mdb new.history done.interval done.base done.set) (sym on.exponent)
+        (subst (λ (h : Head). IsRightFill old.exponent h.mdb new.history done.interval done.base done.set) (sym on.head)
+        (subst (λ l. IsRightFill old.exponent old.head.mdb l done.interval done.base done.set) on.history.1
+        (right_fill_stays old.exponent old.head.mdb old.history on.history.0 done.interval done.base done.set right.1))),
+  )

@@ -166,7 +166,7 @@ pub(crate) fn built<D: Disk>(
         store.abandon(task);
         return None;
     }
-    match Filled::of(alloc, task, &store.head().mdb) {
+    match Filled::of(alloc, task, store.mdb()) {
         Ok(filled) => Some(filled),
         Err((task, _)) => {
             store.abandon(task);
@@ -215,7 +215,7 @@ fn has_values<D: Disk>(
     raws: &[i128],
 ) -> bool {
     match store.segments(Interval(interval)) {
-        Ok(Some(set)) => match set.cells(alloc, &store.head().mdb, parameter) {
+        Ok(Some(set)) => match set.cells(alloc, store.mdb(), parameter) {
             Ok(cells) => are_raws(cells.as_slice(), raws),
             Err(_) => false,
         },

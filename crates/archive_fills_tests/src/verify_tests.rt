@@ -50,8 +50,8 @@ fn of_answer(answer: Result<Sound, Refusal>) -> Answer {
 /// What verifying a store answers that is given up, and its disk.
 pub(crate) fn answer_of<D: Disk>(alloc: Global, store: Result<Store<D>, D>) -> (Answer, D) {
     match store {
-        Ok(store) => {
-            let answer = of_answer(verify(alloc, &store));
+        Ok(mut store) => {
+            let answer = of_answer(verify(alloc, &mut store));
             (answer, store.into_disk())
         }
         Err(disk) => (Answer::Another, disk),

@@ -18,7 +18,7 @@ use std::test::Fail;
 /// An ingest, and a reopen where it is refused. With fewer than two faults every image stands for the history that is
 /// reached, with its fills.
 fn ingest_and_reopen<D: Disk>(alloc: Global, store: &mut Store<D>, batch: &Batch)
-    requires batch { IsBatch store.old.head batch.now }
+    requires batch { IsBatch store.old.head store.old.history batch.now }
     requires healed { pending_fault_of store.old.fills ≡ None }
     ensures { IsTrue D.device.is_transparent
         → D.device.fault_count store.new.disk < raised (raised (D.device.fault_count store.old.disk))

@@ -1,10 +1,11 @@
 // What the tests are made of: heads, packets, batches, disks in memory, the words for refusals, and how archives are made and opened. Where memory is
 // wanting there's none of these.
-ghost use Rattle.std.specs.Prelude.{◌≡◌, ◌<◌, ◌≤◌, [], false, length, IfOk, IfSome};
+ghost use Rattle.std.specs.Prelude.{◌≡◌, ◌<◌, ◌≤◌, List, [], false, length, IfOk, IfSome};
 ghost use Rattle.std.specs.List.{AllByRecursion};
 ghost use Rattle.arch_types.specs.Packet.{IsPacket, is_idle};
 ghost use Rattle.field_codec.specs.declared.entry.Entry.TheVariants as entries;
 ghost use Rattle.field_codec.specs.Entries.{IsArchiveEntry};
+ghost use Rattle.history_items.specs.declared.items.Item.{Item};
 ghost use Rattle.archive_store.specs.Batches.{IsArrival, IsBatch};
 
 use arch_disk::{Crash, Disk, MemDisk};
@@ -142,9 +143,9 @@ fn tables_of(alloc: Global, head: &Head, tables: &[u8]) -> Option<TableList>
     Some(list)
 }
 
-/// A packet of link 1 that is received at a time and comes into tables.
+/// A packet of link 1 that is received at a time and comes into tables, behind any history.
 fn arrival(alloc: Global, head: &Head, rectime: i64, number: u64, tables: &[u8]) -> Option<Arrival>
-    ensures { IfSome result (IsArrival head.now rectime) }
+    ensures { IfSome result (λ arrival. (history : List Item) → IsArrival head.now history rectime arrival) }
 {
     if head.mdb.containers() == 0 {
         return None;
@@ -168,7 +169,8 @@ fn arrivals(
 ) -> Option<Arrivals>
     requires { length numbers.now ≤ 64 }
     ensures few { IfSome result (λ arrivals. length arrivals ≤ 64) }
-    ensures each { IfSome result (λ arrivals. AllByRecursion (IsArrival head.now rectime) arrivals) }
+    ensures each { IfSome result (λ arrivals. (history : List Item) →
+        AllByRecursion (IsArrival head.now history rectime) arrivals) }
 {
     let mut arrivals = Arrivals::new(alloc);
     for number in numbers {
@@ -182,7 +184,7 @@ fn arrivals(
 
 /// The batch of at most 64 packets.
 pub(crate) fn batch(alloc: Global, head: &Head, incoming: &Incoming) -> Option<Batch>
-    ensures { IfSome result (IsBatch head.now) }
+    ensures { IfSome result (λ batch. (history : List Item) → IsBatch head.now history batch) }
 {
     let (rectime, numbers, tables) = *incoming;
     if numbers.len() > 64 {

@@ -154,17 +154,17 @@ fn names_by_their_text(rt: HostRuntime) -> Result<(), Fail> {
     none_other(other_answer(rt.alloc(), texts()))
 }
 
-fn part_of(octets: &Octets, from: usize, to: usize) -> Option<Octets> {
+fn slice_of(octets: &Octets, from: usize, to: usize) -> Option<Octets> {
     if to < from || octets.len() < to {
         return None;
     }
     octets.slice(from, to).ok()
 }
 
-/// Of the part from 1 to 4 of the octets 0 to 4 the part from 1 to 2.
-fn part_of_a_part(alloc: Global) -> Option<Octets> {
+/// Of the slice from 1 to 4 of the octets 0 to 4 the slice from 1 to 2.
+fn slice_of_a_slice(alloc: Global) -> Option<Octets> {
     let block = Octets::from_slice(alloc, &[0, 1, 2, 3, 4]).ok()?;
-    part_of(&part_of(&block, 1, 4)?, 1, 2)
+    slice_of(&slice_of(&block, 1, 4)?, 1, 2)
 }
 
 /// Whether a copy of octets is this one.
@@ -175,9 +175,9 @@ fn is_copied(octets: &Octets, want: u8) -> bool {
     }
 }
 
-fn parts_of_parts(alloc: Global) -> bool {
-    match part_of_a_part(alloc) {
-        Some(part) => is_copied(&part, 2),
+fn slices_of_slices(alloc: Global) -> bool {
+    match slice_of_a_slice(alloc) {
+        Some(slice) => is_copied(&slice, 2),
         None => false,
     }
 }
@@ -257,7 +257,7 @@ fn copies_names(alloc: Global) -> bool {
 #[test]
 fn copies(rt: HostRuntime) -> Result<(), Fail> {
     none_other(other(&[
-        ("parts of parts", parts_of_parts(rt.alloc())),
+        ("parts of parts", slices_of_slices(rt.alloc())),
         ("rows", copies_rows(rt.alloc())),
         ("outcomes", copies_outcomes(rt.alloc())),
         ("names", copies_names(rt.alloc())),

@@ -103,7 +103,7 @@ fn grow<D: Disk>(
 {
     match add(alloc, journal, disk, body) {
         Ok(_) => Ok(true),
-        Err(JournalFault::DiskFault) => {
+        Err(JournalFault::DiskFault { wrote: true }) => {
             journal.heal(disk)?;
             Ok(false)
         }
@@ -286,14 +286,16 @@ fn is_created<D: Disk>(alloc: Global, disk: &mut D) -> bool {
     }
 }
 
-// Whether a `create` fails after so many calls and leaves these octets and no archive, and a second one succeeds.
+// Whether a `create` fails, at a write or at a look, after so many calls and leaves these octets and no archive, and a
+// second one succeeds.
 fn fails_and_is_made_again<D: Watched>(
     alloc: Global,
     disk: &mut D,
+    wrote: bool,
     calls: u64,
     octets: &[u8],
 ) -> bool {
-    is_refused(alloc, disk, JournalFault::DiskFault)
+    is_refused(alloc, disk, JournalFault::DiskFault { wrote })
         && disk.calls() == calls
         && disk.octets(FILE) == octets
         && open_since(alloc, disk, 0, 0)
@@ -302,7 +304,7 @@ fn fails_and_is_made_again<D: Watched>(
 
 // Two failures leave the gate as the last write did.
 fn fails_twice<D: Watched>(alloc: Global, disk: &mut D) -> bool {
-    is_refused(alloc, disk, JournalFault::DiskFault)
+    is_refused(alloc, disk, JournalFault::DiskFault { wrote: true })
         && disk.faults() == 2
         && disk.octets(FILE) == open()
 }
@@ -352,8 +354,8 @@ fn has_one_journal<D: Watched>(alloc: Global, disk: &mut D) -> bool {
 enum Look {
     Calls,
     Images,
-    // A `create` that fails after so many calls, and what the file reads as then.
-    Created(u64, &'static [u8]),
+    // A `create` that fails at a write, or at a look, after so many calls, and what the file reads as then.
+    Created(bool, u64, &'static [u8]),
     FailsTwice,
     // An append that so many calls heal.
     Healed(u64),
@@ -365,7 +367,9 @@ fn is_seen<D: Watched>(alloc: Global, disk: &mut D, look: &Look) -> bool {
     match look {
         Look::Calls => makes_four_calls(alloc, disk),
         Look::Images => leaves_images(alloc, disk),
-        Look::Created(calls, octets) => fails_and_is_made_again(alloc, disk, *calls, octets),
+        Look::Created(wrote, calls, octets) => {
+            fails_and_is_made_again(alloc, disk, *wrote, *calls, octets)
+        }
         Look::FailsTwice => fails_twice(alloc, disk),
         Look::Healed(calls) => is_healed(alloc, disk, *calls),
         Look::Grown => is_grown(alloc, disk),
@@ -397,16 +401,16 @@ const LOOKS: &[Row] = &[
     (&[8, 9], Look::FailsTwice),
 ];
 
-// Each call of a `create` fails. Up to call 4 the first closed gate isn't durable, from call 7 on the open one is asked for and closed again.
+// Each call of a `create` fails, of which the second is a look. Up to call 4 the first closed gate isn't durable, from call 7 on the open one is asked for and closed again.
 const CREATES: &[Row] = &[
-    (&[1], Look::Created(1, &[])),
-    (&[2], Look::Created(2, &[])),
-    (&[3], Look::Created(3, &[])),
-    (&[4], Look::Created(4, &[0])),
-    (&[5], Look::Created(6, &[0])),
-    (&[6], Look::Created(7, CLOSED)),
-    (&[7], Look::Created(9, CLOSED)),
-    (&[8], Look::Created(10, CLOSED)),
+    (&[1], Look::Created(true, 1, &[])),
+    (&[2], Look::Created(false, 2, &[])),
+    (&[3], Look::Created(true, 3, &[])),
+    (&[4], Look::Created(true, 4, &[0])),
+    (&[5], Look::Created(true, 6, &[0])),
+    (&[6], Look::Created(true, 7, CLOSED)),
+    (&[7], Look::Created(true, 9, CLOSED)),
+    (&[8], Look::Created(true, 10, CLOSED)),
 ];
 
 // A call of an append after a `create` of eight calls fails.
@@ -563,7 +567,10 @@ fn next_are_long(
 
 // Whether a record is asked for, and the disk fails.
 fn next_fails(alloc: Global, opening: &mut Opening, disk: &mut OpaqueDisk) -> bool {
-    matches!(opening.next(alloc, disk), Err(JournalFault::DiskFault))
+    matches!(
+        opening.next(alloc, disk),
+        Err(JournalFault::DiskFault { wrote: false })
+    )
 }
 
 // Whether an opening gives the short body, the six long ones, and no more.

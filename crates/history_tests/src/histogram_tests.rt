@@ -109,7 +109,11 @@ fn has_records(histogram: &Histogram, pname: u16, want: &[Record]) -> Result<boo
 fn gives(alloc: Global, times: &[Time], pname: u16, want: &[Record]) -> Result<bool, AllocError> {
     let times = named(alloc, times)?;
     let histogram = histogram_of(alloc, times.as_slice())?;
-    has_records(&histogram, pname, want)
+    if !has_records(&histogram, pname, want)? {
+        return Ok(false);
+    }
+    let alone = histogram.of_name(pname)?;
+    has_records(&alone, pname, want)
 }
 
 fn other_order(

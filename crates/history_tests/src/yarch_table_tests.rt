@@ -6,6 +6,7 @@ use arch_types::key::Key;
 use std::alloc::{AllocError, Global};
 use std::test::Fail;
 use yarch_table::rows::TableRows;
+use yarch_table::stored_rows::StoredRows;
 use yarch_table::table::Table;
 
 /// The keys of six rows, of which the fifth has the key of the second.
@@ -88,6 +89,21 @@ fn gives(mut rows: TableRows<'_>, want: &[i64]) -> bool {
     rows.next().is_none()
 }
 
+/// Whether a walk gives these positions.
+fn walks(mut rows: StoredRows<'_>, want: &[u64]) -> bool {
+    for position in want {
+        match rows.next() {
+            Some(stored) => {
+                if stored.position != *position {
+                    return false;
+                }
+            }
+            None => return false,
+        }
+    }
+    rows.next().is_none()
+}
+
 /// The place of the first range with other rows.
 fn other_range(table: &Table, ranges: &[Ranged]) -> Option<usize> {
     let mut place = 0usize;
@@ -109,6 +125,9 @@ fn other_rows(table: &Table) -> Option<(&'static str, usize)> {
     }
     if !gives(table.rows_at(2), &[1, 0]) {
         return Some(("rows at a front", 2));
+    }
+    if !walks(table.stored_by_key(), &[3, 2, 1, 5, 0]) {
+        return Some(("positions in key order", 5));
     }
     match other_range(table, ranges()) {
         Some(place) => Some(("ranges at a front", place)),

@@ -1,11 +1,11 @@
 //! Worked octets of a head and of rows, both ways, and each octet of them left out or changed.
 
-ghost use Rattle.field_codec.specs.Entries.{IsArchiveEntry};
+ghost use Rattle.field_codec.specs.Entries.{IsArchiveEntry, IsStored};
 
 use crate::given::none_other;
 use arch_types::octets::Octets;
 use arch_types::row::Row;
-use field_codec::{Entry, NotAnEntry, read_entry, read_shared, write_entry};
+use field_codec::{Entry, NotAnEntry, put_row, read_entry, read_row, read_shared, write_entry};
 use std::alloc::{AllocError, Global};
 use std::test::*;
 
@@ -41,6 +41,15 @@ fn behind_tables() -> &'static [u8] {
 
 fn two_rows() -> &'static [u8] {
     &ROWS
+}
+
+/// The rows behind their count.
+fn counted_rows() -> &'static [u8] {
+    &ROWS[3..]
+}
+
+fn first_row() -> &'static [u8] {
+    &ROWS[3..28]
 }
 
 /// The packet of the last row.
@@ -90,6 +99,32 @@ fn are_worked_rows(read: Result<Entry, NotAnEntry>) -> bool {
 fn worked_rows(rt: HostRuntime) -> Result<(), Fail> {
     let octets = Octets::from_slice(rt.alloc(), two_rows())?;
     assert!(rt; are_worked_rows(read_shared(rt.alloc(), &octets)));
+    Ok(())
+}
+
+/// Whether a row by itself is written so.
+fn is_row_written(alloc: Global, row: &Row, octets: &[u8]) -> bool
+    requires { IsStored row.now }
+{
+    let mut out = Vec::new(alloc);
+    match put_row(&mut out, row) {
+        Ok(()) => out.as_slice() == octets,
+        Err(_) => false,
+    }
+}
+
+/// Whether the octets of a block begin with a row that is written so again, and go on with so many.
+fn begins_with_row(alloc: Global, block: &Octets, octets: &[u8], left: usize) -> bool {
+    match read_row(block, block.as_slice()) {
+        Ok((row, rest)) => rest.len() == left && is_row_written(alloc, &row, octets),
+        Err(_) => false,
+    }
+}
+
+#[test]
+fn row_before_another(rt: HostRuntime) -> Result<(), Fail> {
+    let block = Octets::from_slice(rt.alloc(), counted_rows())?;
+    assert!(rt; begins_with_row(rt.alloc(), &block, first_row(), 19));
     Ok(())
 }
 

@@ -3,7 +3,7 @@
 ghost use Rattle.std.specs.Prelude.{◌≡◌, map, true, IfOk, IfSome};
 ghost use Rattle.std.specs.List.{AllByRecursion};
 ghost use Rattle.std.specs.List.Sorted.{IsStrictlySortedBy};
-ghost use Rattle.intervals.specs.Interval.{interval_of};
+ghost use Rattle.intervals.specs.Interval.{format_1_exponent, interval_of};
 ghost use Rattle.arch_types.specs.Order.{key_cmp};
 ghost use Rattle.param_segments.specs.Cells.{AreValuesOf};
 
@@ -27,7 +27,8 @@ fn are_rising(rows: &[Row]) -> bool
 
 /// The times lie in the interval.
 fn are_inside(interval: Interval, rows: &[Row]) -> bool
-    ensures { result ≡ true → AllByRecursion (λ row. interval_of 22 row.key.time ≡ interval.0) rows.now }
+    ensures { result ≡ true →
+        AllByRecursion (λ row. interval_of format_1_exponent row.key.time ≡ interval.0) rows.now }
 {
     rows.iter().all(|row| Interval::at(row.key.time, Exponent::of_format_1()) == interval)
 }

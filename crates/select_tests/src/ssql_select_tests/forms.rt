@@ -8,7 +8,7 @@ use arch_types::name::{Name, Names};
 use arch_types::octets::Octets;
 use arch_types::row_fault::RowFault;
 use arch_types::steps::Steps;
-use dump_lines::line_buffer::LineBuffer;
+use line_buffer::LineBuffer;
 use outer_traits::mem_sink::MemSink;
 use outer_traits::print_fault::PrintFault;
 use partitions::lists::PartList;
@@ -115,6 +115,7 @@ fn print_selection(alloc: Global, text: &SelectionText<'_>, sink: &mut MemSink) 
     match text.print(alloc, &mut line_buffer, sink) {
         Ok(()) if line_buffer.finish(sink).is_ok() => Ending::Whole,
         Ok(()) | Err(PrintFault::Write) => Ending::Cut,
+        Err(PrintFault::DiskFault | PrintFault::Damaged { .. }) => Ending::Refused,
         Err(PrintFault::OutOfMemory) => Ending::Unasked,
     }
 }

@@ -6,7 +6,7 @@ use crate::mem_source::MemSource;
 use arch_types::name::Names;
 use arch_types::row_fault::RowFault;
 use arch_types::spans::Span;
-use dump_lines::line_buffer::LineBuffer;
+use line_buffer::LineBuffer;
 use outer_traits::mem_sink::MemSink;
 use ssql_select::show::{ShowLine, partition_lines, print_show};
 use std::alloc::Global;
