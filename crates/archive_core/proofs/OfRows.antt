@@ -8,11 +8,12 @@ use Rattle.arch_types.specs.History.{is_duplicate_of}
 use Rattle.asks.specs.declared.ask.ReplayRequest.{ReplayRequest}
 use Rattle.asks.specs.declared.ask.Request.{Request}
 use Rattle.mdb_items.specs.Database.{Database}
+use Rattle.mdb_items.specs.Texts.{Text}
 use Rattle.history_items.specs.declared.items.Item.{Item}
 use Rattle.history_items.specs.Items.{database_item, has_key_of, items_of, row_item, rows_in}
-use Rattle.history_items.specs.Databases.{database_in}
+use Rattle.history_items.specs.Databases.{database_in, names_in, names_of_database}
 use Rattle.history_items.specs.Places.{first_place}
-use Rattle.history_items.proofs.Databases.{rows_keep_database}
+use Rattle.history_items.proofs.Databases.{rows_keep_database, rows_keep_names}
 use Rattle.history_items.proofs.ItemLists.{length-items_of, rows_in-append, rows_of_rows}
 use Rattle.archive_core.specs.declared.reply.Reply.{Reply}
 use Rattle.archive_core.specs.Replies.{RepliesToReplay, RepliesToRequest}
@@ -68,9 +69,10 @@ answered_by first rows request reply is =
     (subst (λ (n : ℕ). RepliesToRequest first n (rows_in (items_of rows)) request reply) (sym (as_long rows))
     (subst (λ (l : List Row). RepliesToRequest first (length rows) l request reply) (sym (rows_of_rows rows)) is))
 
-pub replayed_by : (tables : List (List ℕ)) (first : Database) (rows : List Row) (request : ReplayRequest) (reply : Reply) → RepliesToReplay tables first (length rows) rows request reply
-    → RepliesToReplay tables (database_in first (items_of rows)) (length (items_of rows)) (rows_in (items_of rows)) request reply
+pub replayed_by : (tables : List Text) (first : Database) (rows : List Row) (request : ReplayRequest) (reply : Reply) → RepliesToReplay tables (names_of_database first) (length rows) rows request reply
+    → RepliesToReplay tables (names_in first (items_of rows)) (length (items_of rows)) (rows_in (items_of rows)) request reply
 replayed_by tables first rows request reply is =
-    subst (λ (db : Database). RepliesToReplay tables db (length (items_of rows)) (rows_in (items_of rows)) request reply) (sym (same_database first rows))
-    (subst (λ (n : ℕ). RepliesToReplay tables first n (rows_in (items_of rows)) request reply) (sym (as_long rows))
-    (subst (λ (l : List Row). RepliesToReplay tables first (length rows) l request reply) (sym (rows_of_rows rows)) is))
+    let names = names_of_database first in
+    subst (λ (n : List Text). RepliesToReplay tables n (length (items_of rows)) (rows_in (items_of rows)) request reply) (sym (rows_keep_names first [] rows))
+    (subst (λ (n : ℕ). RepliesToReplay tables names n (rows_in (items_of rows)) request reply) (sym (as_long rows))
+    (subst (λ (l : List Row). RepliesToReplay tables names (length rows) l request reply) (sym (rows_of_rows rows)) is))

@@ -15,7 +15,7 @@ use Rattle.arch_types.specs.declared.row.Row.{Row}
 use Rattle.history_items.specs.declared.fills.Fill.TheVariants.{Begun}
 use Rattle.history_items.specs.declared.items.Item.{Item}
 use Rattle.history_items.specs.Items.{rows_in}
-use Rattle.history_items.specs.Databases.{database_in}
+use Rattle.history_items.specs.Databases.{database_in, names_in}
 use Rattle.container_extract.specs.Answer.{answer_of}
 use Rattle.replay_merge.specs.Replay.{replay_of}
 use Rattle.archive_core.specs.Asks.{IsAnswered, IsReplayed}
@@ -29,6 +29,7 @@ use Rattle.interval_fills.proofs.Steps.{one_outcome, some_is}
 use Rattle.interval_fills.specs.Intervals.{rows_of_interval}
 use Rattle.interval_fills.specs.Steps.{MachineState, state_of, Ingests, AllLateInFlight, BeginsFill}
 use Rattle.mdb_items.specs.Database.{Database}
+use Rattle.mdb_items.specs.Texts.{Text}
 
 same_state : (a b : MachineState) → a.history ≡ b.history → a.fills ≡ b.fills → a ≡ b
 same_state a b history fills = ap (λ (h : List Item). state_of h a.fills) history ∙ ap (state_of b.history) fills
@@ -126,20 +127,20 @@ module _ (db : Database) (front : ℕ) (rows : List Row) (request : Request) whe
 
 -- ---- rows
 
-module _ (tables : List (List ℕ)) (db : Database) (front : ℕ) (history : List Row) (request : ReplayRequest) where
-  rows_are_one : (n m : ℕ) (xs ys : List Row) → IsReplayed tables db front history request n xs → IsReplayed tables db front history request m ys → Replayed n xs ≡ Replayed m ys
+module _ (tables names : List Text) (front : ℕ) (history : List Row) (request : ReplayRequest) where
+  rows_are_one : (n m : ℕ) (xs ys : List Row) → IsReplayed tables names front history request n xs → IsReplayed tables names front history request m ys → Replayed n xs ≡ Replayed m ys
   rows_are_one n m xs ys x y =
       let table : x.table ≡ y.table = some_is x.table y.table (sym x.named ∙ y.named) in
-      let rows : xs ≡ ys = x.rows_are ∙ ap (λ (t : ℕ). replay_of db t request history) table ∙ sym y.rows_are in
+      let rows : xs ≡ ys = x.rows_are ∙ ap (λ (t : ℕ). replay_of names t request history) table ∙ sym y.rows_are in
       ap (λ (k : ℕ). Replayed k xs) (x.front_is ∙ sym y.front_is) ∙ ap (Replayed m) rows
 
   -- what has rows isn't refused
-  replayed_or_refused : (n : ℕ) (xs : List Row) (s : AskRefusal) → IsReplayed tables db front history request n xs → replay_refusal tables request ≡ Some s → ⊥
+  replayed_or_refused : (n : ℕ) (xs : List Row) (s : AskRefusal) → IsReplayed tables names front history request n xs → replay_refusal tables request ≡ Some s → ⊥
   replayed_or_refused n xs s x y =
       no_range_refused request.from request.to s x.range
       (ap (λ (o : Option ℕ). option_map_or (λ table. range_refusal request.from request.to) o (Some (UnknownTable request.table))) (sym x.named) ∙ y)
 
-  replay_is_one : (r s : Reply) → RepliesToReplay tables db front history request r → RepliesToReplay tables db front history request s → r ≡ s
+  replay_is_one : (r s : Reply) → RepliesToReplay tables names front history request r → RepliesToReplay tables names front history request s → r ≡ s
   replay_is_one (Replayed n xs) (Replayed m ys) x y = rows_are_one n m xs ys x y
   replay_is_one (Replayed n xs) (Refused s) x y = absurd (replayed_or_refused n xs s x y)
   replay_is_one (Replayed n xs) _ x y = absurd y
@@ -161,7 +162,7 @@ module _ (e : ℕ) (tables : List (List ℕ)) (db : Database) where
   one old new other (Abandon caller interval) Abandoned _ x y = absurd y
   one old new other (Abandon caller interval) _ s x y = absurd x
   one old new other (Retrieve caller request) r s x y = (request_is_one (database_in db old.history) (length old.history) (rows_in old.history) request r s x.0 y.0, x.1 ∙ sym y.1)
-  one old new other (Replay caller request) r s x y = (replay_is_one tables (database_in db old.history) (length old.history) (rows_in old.history) request r s x.0 y.0, x.1 ∙ sym y.1)
+  one old new other (Replay caller request) r s x y = (replay_is_one tables (names_in db old.history) (length old.history) (rows_in old.history) request r s x.0 y.0, x.1 ∙ sym y.1)
 
   pub all_one : (old new other : MachineState) (events : List Event) (rs ss : List Reply) → MachineRun e tables db old events rs new → MachineRun e tables db old events ss other → (rs ≡ ss) × (new ≡ other)
   all_one old new other [] [] [] x y = (refl, x ∙ sym y)

@@ -7,6 +7,7 @@ use Rattle.asks.specs.Names.{parameter_number, table_number}
 use Rattle.arch_types.specs.declared.row.Row.{Row}
 use Rattle.container_extract.specs.Answer.{answer_of}
 use Rattle.mdb_items.specs.Database.{Database}
+use Rattle.mdb_items.specs.Texts.{Text}
 use Rattle.replay_merge.specs.Replay.{replay_of}
 
 -- ---- values
@@ -23,11 +24,11 @@ pub record IsAnswered (db : Database) (front : ℕ) (rows : List Row) (request :
 -- ---- replays
 
 -- there is a table of the name, the range doesn't end before it begins, and these are the rows asked of all of the rows
--- below a front
-pub record IsReplayed (tables : List (List ℕ)) (db : Database) (front : ℕ) (history : List Row) (request : ReplayRequest)
+-- below a front, by the packet names that stand at these numbers
+pub record IsReplayed (tables names : List Text) (front : ℕ) (history : List Row) (request : ReplayRequest)
     (told : ℕ) (rows : List Row) : Type 0 where
   pub table : ℕ
   pub named : table_number tables request.table ≡ Some table
   pub range : request.from ≤ℤ request.to
   pub front_is : told ≡ front
-  pub rows_are : rows ≡ replay_of db table request history
+  pub rows_are : rows ≡ replay_of names table request history

@@ -10,6 +10,7 @@ use Rattle.archive_core.specs.Asks.{IsAnswered, IsReplayed}
 use Rattle.asks.specs.Refusals.{replay_refusal, request_refusal}
 use Rattle.interval_fills.specs.Steps.{MachineState, Ingests, AllLateInFlight, BeginsFill, IsFillBase, InstallsFill, given_up}
 use Rattle.mdb_items.specs.Database.{Database}
+use Rattle.mdb_items.specs.Texts.{Text}
 
 -- to rows that come in: what became of each
 abbrev pub RepliesToIngest : MachineState → List Row → Reply → MachineState → Type 0
@@ -41,8 +42,8 @@ RepliesToRequest db front rows request (Refused refusal) = request_refusal db re
 RepliesToRequest db front rows request _ = ⊥
 
 -- to who asks for rows
-abbrev pub RepliesToReplay : List (List ℕ) → Database → ℕ → List Row → ReplayRequest → Reply → Type 0
-RepliesToReplay tables db front history request (Replayed told rows) =
-    IsReplayed tables db front history request told rows
-RepliesToReplay tables db front history request (Refused refusal) = replay_refusal tables request ≡ Some refusal
-RepliesToReplay tables db front history request _ = ⊥
+abbrev pub RepliesToReplay : List Text → List Text → ℕ → List Row → ReplayRequest → Reply → Type 0
+RepliesToReplay tables names front history request (Replayed told rows) =
+    IsReplayed tables names front history request told rows
+RepliesToReplay tables names front history request (Refused refusal) = replay_refusal tables request ≡ Some refusal
+RepliesToReplay tables names front history request _ = ⊥

@@ -3,6 +3,7 @@
 ghost use Rattle.std.specs.Prelude.{◌≡◌, IfOk, filter, nat_eq, length};
 ghost use Rattle.std.specs.List.{filter_map, list_any};
 ghost use Rattle.asks.specs.Names.{packet_name_number, packet_name_numbers};
+ghost use Rattle.history_items.specs.Databases.{names_of_database};
 ghost use Rattle.arch_types.specs.Directions.{truncated};
 ghost use Rattle.replay_merge.specs.Replay.{has_listed_name, is_listed_name, replay_of};
 ghost use Rattle.archive_core.specs.Replies.{RepliesToReplay};
@@ -18,7 +19,7 @@ use std::alloc::{AllocError, Global};
 
 /// The numbers of those packet names that the database has.
 fn numbers_of(alloc: Global, mdb: &Mdb, names: &Names) -> Result<Items<u16>, AllocError>
-    ensures { IfOk result (λ numbers. numbers ≡ filter_map (packet_name_number mdb.now) names.now) }
+    ensures { IfOk result (λ numbers. numbers ≡ filter_map (packet_name_number (names_of_database mdb.now)) names.now) }
 {
     let mut numbers = Items::new(alloc);
     for name in names.as_slice() {
@@ -35,7 +36,7 @@ fn names_asked(
     mdb: &Mdb,
     names: &Option<Names>,
 ) -> Result<Option<Items<u16>>, AllocError>
-    ensures { IfOk result (λ numbers. numbers ≡ packet_name_numbers mdb.now names.now) }
+    ensures { IfOk result (λ numbers. numbers ≡ packet_name_numbers (names_of_database mdb.now) names.now) }
 {
     match names {
         Some(names) => Ok(Some(numbers_of(alloc, mdb, names)?)),
@@ -85,7 +86,7 @@ fn replayed_rows(
     rows: &[Row],
     request: &ReplayRequest,
 ) -> Result<Rows, AllocError>
-    ensures { IfOk result (λ found. found ≡ replay_of mdb.now table request.now rows.now) }
+    ensures { IfOk result (λ found. found ≡ replay_of (names_of_database mdb.now) table request.now rows.now) }
 {
     let names = names_asked(alloc, mdb, &request.names)?;
     let mut found = range_of(alloc, rows, table, request.from, request.to)?;
@@ -102,7 +103,8 @@ pub(crate) fn replayed(
     rows: &[Row],
     request: &ReplayRequest,
 ) -> Result<Reply, AllocError>
-    ensures { IfOk result (RepliesToReplay tables.now mdb.now (length rows.now) rows.now request.now) }
+    ensures { IfOk result
+        (RepliesToReplay tables.now (names_of_database mdb.now) (length rows.now) rows.now request.now) }
 {
     let Some(table) = table_number(tables, &request.table) else {
         let name = request.table.copy()?;

@@ -1,4 +1,4 @@
--- The numbers of what asks name: a parameter and packet names in a database, and a table.
+-- The numbers of what asks name: a parameter of a database, a table, and packet names.
 use Rattle.std.specs.Prelude.{ℕ, List, map, Option, option_map}
 use Rattle.std.specs.List.{filter_map}
 use Rattle.mdb_items.specs.Database.{Database}
@@ -12,10 +12,10 @@ parameter_number db name = place_of name (map (λ p. p.name) db.parameters)
 abbrev pub table_number : List Text → Text → Option ℕ
 table_number tables name = place_of name tables
 
--- the number of a packet name, if the database has it
-abbrev pub packet_name_number : Database → Text → Option ℕ
-packet_name_number db name = place_of name (map (λ c. c.name) db.containers)
+-- the number of a packet name, its place among the packet names that there are, if it is one of them
+abbrev pub packet_name_number : List Text → Text → Option ℕ
+packet_name_number names name = place_of name names
 
--- the numbers of the packet names asked for, those that the database lacks left out; without a list, none is left out
-abbrev pub packet_name_numbers : Database → Option (List Text) → Option (List ℕ)
-packet_name_numbers db names = option_map (filter_map (packet_name_number db)) names
+-- the numbers of the packet names asked for, those that there aren't left out; without a list, none is left out
+abbrev pub packet_name_numbers : List Text → Option (List Text) → Option (List ℕ)
+packet_name_numbers names asked = option_map (filter_map (packet_name_number names)) asked

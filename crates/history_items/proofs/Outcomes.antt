@@ -3,6 +3,7 @@ use Rattle.std.proofs.Common.{◌≡◌, ℕ, zero, suc, ◌+◌, ◌≤◌, Lis
 use mathlib.Core.List.{Sublist}
 use mathlib.Core.List.Sublist as sublist
 use Rattle.std.specs.Prelude.{slice_get, if◌then◌else◌, ◌↔◌, option_map}
+use Rattle.std.specs.List.{list_any}
 use Rattle.std.specs.Ordering.{is_eq}
 use Rattle.std.specs.declared.cmp.Ordering.{Ordering}
 use Rattle.std.specs.declared.cmp.Ordering.TheVariants.{Less, Equal, Greater}
@@ -14,7 +15,8 @@ use Rattle.arch_types.specs.declared.row.Row.{Row}
 use Rattle.arch_types.specs.declared.inserted.Inserted.{Inserted}
 use Rattle.arch_types.specs.declared.inserted.Inserted.TheVariants.{New, Duplicate}
 use Rattle.arch_types.specs.Order.{key_cmp}
-use Rattle.arch_types.specs.History.{is_duplicate_of, IsHistory}
+use Rattle.arch_types.specs.History.{is_duplicate_of, firsts, IsHistory}
+use Rattle.arch_types.proofs.Histories.{same_key}
 use Rattle.arch_types.proofs.Ranks.{key_cmp_total}
 use Rattle.history_items.specs.declared.items.Item.{Item}
 use Rattle.history_items.specs.declared.items.Item.TheVariants as items
@@ -22,7 +24,7 @@ use Rattle.history_items.specs.Items.{after_row, after_rows, has_key_of, items_o
 use Rattle.history_items.specs.Outcomes.{outcome_at, outcome_of, outcomes_of, Says, answered_new, fresh_of}
 use Rattle.history_items.specs.Places.{first_place}
 use Rattle.history_items.proofs.Places.{first_none, first_some, first_there}
-use Rattle.history_items.proofs.ItemLists.{all_in, items_of-append, keeps_rows, length-items_of}
+use Rattle.history_items.proofs.ItemLists.{all_in, items_of-append, keeps_rows, length-items_of, rows_after_rows, rows_of_rows}
 
 -- ---- batches in parts
 
@@ -59,6 +61,22 @@ fresh_added history (row ∷ rows) = go (first_place (has_key_of row) history) r
     go None is others =
         others ∙ ap (λ (l : List Item). l ++ items_of (fresh_of (after_row history row) rows)) (kept_new history row is)
         ∙ append_assoc history (row_item row ∷ []) (items_of (fresh_of (after_row history row) rows))
+
+-- of a row and more rows those are new that are new behind it, and the row itself where no item has its table and key
+pub fresh_of_cons : (history : List Item) (row : Row) (rows : List Row) →
+    fresh_of history (row ∷ rows) ≡ (if list_any (has_key_of row) history then fresh_of history rows else row ∷ fresh_of (history ++ row_item row ∷ []) rows)
+fresh_of_cons history row rows = go (first_place (has_key_of row) history) refl
+  where
+    by_test : Bool → List Row
+    by_test there = if there then fresh_of history rows else row ∷ fresh_of (history ++ row_item row ∷ []) rows
+
+    go : (o : Option ℕ) → first_place (has_key_of row) history ≡ o → fresh_after o history row rows ≡ by_test (list_any (has_key_of row) history)
+    go (Some place) is = ap (λ (h : List Item). fresh_of h rows) (kept_same history row place is) ∙ sym (ap by_test (first_some (has_key_of row) history place is))
+    go None is = ap (λ (h : List Item). row ∷ fresh_of h rows) (kept_new history row is) ∙ sym (ap by_test (first_none (has_key_of row) history is))
+
+-- of rows alone the first of each table and key are new
+pub fresh_firsts : (rows : List Row) → fresh_of [] rows ≡ firsts rows
+fresh_firsts rows = sym (rows_of_rows (fresh_of [] rows)) ∙ (sym (ap rows_in (fresh_added [] rows)) ∙ rows_after_rows [] rows)
 
 pub fresh_new : (history : List Item) (rows : List Row) → after_rows history (fresh_of history rows) ≡ history ++ items_of (fresh_of history rows)
 fresh_new history [] = sym (append-nil history)
@@ -138,7 +156,7 @@ equal_true Equal e = refl
 equal_true Greater e = absurd cc
 
 -- two rows that have the table and key of a third have each other's
-each_other : (row a b : Row) → is_duplicate_of row a ≡ true → is_duplicate_of row b ≡ true → is_duplicate_of a b ≡ true
+pub each_other : (row a b : Row) → is_duplicate_of row a ≡ true → is_duplicate_of row b ≡ true → is_duplicate_of a b ≡ true
 each_other row a b one two =
     let p = and_parts (eqb row.table a.table) (is_eq (key_cmp row.key a.key)) one in
     let q = and_parts (eqb row.table b.table) (is_eq (key_cmp row.key b.key)) two in
@@ -147,6 +165,10 @@ each_other row a b one two =
     let table : eqb a.table b.table ≡ true = grind (arith, nat_tests) in
     let key : key_cmp a.key b.key ≡ Equal = sym (key_cmp_total.congr row.key a.key b.key (equal_true (key_cmp row.key a.key) p.1)) ∙ equal_true (key_cmp row.key b.key) q.1 in
     rw (table, key) refl
+
+-- a row has the table and key of each that has its own
+pub duplicate_back : (a b : Row) → is_duplicate_of a b ≡ true → is_duplicate_of b a ≡ true
+duplicate_back a b same = each_other a b a same (same_key a)
 
 place_is : (history : List Item) (row : Row) (there : Item) (place : ℕ) → IsHistory (rows_in history) → slice_get history place ≡ Some there → has_key_of row there ≡ true → first_place (has_key_of row) history ≡ Some place
 place_is [] row there place is at passes = absurd cc

@@ -1,11 +1,12 @@
 -- Partitions that may hold what is asked hold each row that is asked.
-use Rattle.std.proofs.Common.{◌≡◌, ◌↔◌, ℕ, ℤ, ◌<ℤ◌, ◌≤ℤ◌, List, ◌++◌, take, drop, map, get_or, Option, Some, None, Bool, true, false, not, ◌&&◌, refl, sym, ap, ◌∙◌, subst, nat_eq, arith}
+use Rattle.std.proofs.Common.{◌≡◌, ◌↔◌, ℕ, ℤ, ◌<ℤ◌, ◌≤ℤ◌, List, ◌++◌, map, get_or, Option, Some, None, Bool, true, false, not, ◌&&◌, refl, sym, ap, ◌∙◌, subst, nat_eq, arith}
 use Rattle.std.specs.Prelude.{filter, Contains, int_lt}
 use Rattle.std.specs.List.{All, list_any}
+use mathlib.Core.List.{IsPrefix}
 use Rattle.std.proofs.lemmas.Bool.Decides.{nat_tests}
 use Rattle.std.proofs.lemmas.Cmp.{tied_itself}
 use Rattle.std.proofs.lemmas.Int.{ints}
-use Rattle.std.proofs.lemmas.List.{take-append-drop, length-map, get_or-map}
+use Rattle.std.proofs.lemmas.List.{length-map, get_or-map}
 use Rattle.std.proofs.lemmas.List.Elements.{All-filter, All-weaker, All-contains_itself, filter_passes, filter-append, recursion_from_All, Contains-append_left}
 use Rattle.std.proofs.lemmas.List.Folds.{Any-from_list_any, list_any-from_Any}
 use Rattle.std.proofs.lemmas.List.Sorted.{All-permutation}
@@ -62,18 +63,18 @@ within_range from to row is = by (int_lt row.key.time from) (int_lt row.key.time
     by false true ea eb is = (grind (arith, ints), grind (arith, ints))
     by false false ea eb is = absurd cc
 
-module _ (bounds : Bounds) (table front : ℕ) (parts : List Partition) (history : List Row)
-    (enough : HoldsPruned bounds (filter (is_in_table table) history) parts) where
+module _ (bounds : Bounds) (table : ℕ) (parts : List Partition) (first history : List Row)
+    (enough : HoldsPruned bounds (filter (is_in_table table) history) parts) (begins : IsPrefix first history) where
   rows : List Row
   rows = filter (is_in_table table) history
 
-  prefix_rows : All (Contains rows) (filter (is_in_table table) (take front history))
+  prefix_rows : All (Contains rows) (filter (is_in_table table) first)
   unfolding rows
   prefix_rows =
-      let first = filter (is_in_table table) (take front history) in
-      let rest = filter (is_in_table table) (drop front history) in
-      let whole : first ++ rest ≡ filter (is_in_table table) history = sym (filter-append (is_in_table table) (take front history) (drop front history)) ∙ ap (filter (is_in_table table)) (take-append-drop front history) in
-      subst (λ (l : List Row). All (Contains l) first) whole (All-weaker (Contains first) (Contains (first ++ rest)) (λ row is. Contains-append_left first rest row is) first (All-contains_itself first))
+      let here = filter (is_in_table table) first in
+      let rest = filter (is_in_table table) begins.0 in
+      let whole : here ++ rest ≡ filter (is_in_table table) history = sym (filter-append (is_in_table table) first begins.0) ∙ ap (filter (is_in_table table)) begins.1 in
+      subst (λ (l : List Row). All (Contains l) here) whole (All-weaker (Contains here) (Contains (here ++ rest)) (λ row is. Contains-append_left here rest row is) here (All-contains_itself here))
 
   one_held : (row : Row) → Contains rows row → is_in_time_range bounds.from bounds.to row ≡ true → has_listed_name bounds.names row ≡ true → is_of_parts parts row ≡ true
   unfolding rows
@@ -84,12 +85,12 @@ module _ (bounds : Bounds) (table front : ℕ) (parts : List Partition) (history
       list_any-from_Any (λ partition. is_of_partition partition row) parts (at.0, own_partition row, at.1, at.2, in_own row)
 
   -- partitions that hold each that has a row of the table, and may hold one in the bounds, hold each row that is asked
-  pub pruned_is_enough : HoldsEachRow parts (rows_asked table bounds.from bounds.to bounds.names (take front history))
+  pub pruned_is_enough : HoldsEachRow parts (rows_asked table bounds.from bounds.to bounds.names first)
   pruned_is_enough =
-      let asked = rows_asked table bounds.from bounds.to bounds.names (take front history) in
-      let of_table = table_of table (take front history) in
+      let asked = rows_asked table bounds.from bounds.to bounds.names first in
+      let of_table = table_of table first in
       let in_range = filter (is_in_time_range bounds.from bounds.to) of_table in
-      let in_table : All (Contains rows) of_table = All-permutation (Contains rows) (filter (is_in_table table) (take front history)) of_table (order_same is_before (filter (is_in_table table) (take front history))) prefix_rows in
+      let in_table : All (Contains rows) of_table = All-permutation (Contains rows) (filter (is_in_table table) first) of_table (order_same is_before (filter (is_in_table table) first)) prefix_rows in
       let there : All (Contains rows) asked = All-filter (has_listed_name bounds.names) (Contains rows) in_range (All-filter (is_in_time_range bounds.from bounds.to) (Contains rows) of_table in_table) in
       let times : All (λ row. is_in_time_range bounds.from bounds.to row ≡ true) asked = All-filter (has_listed_name bounds.names) (λ row. is_in_time_range bounds.from bounds.to row ≡ true) in_range (filter_passes (is_in_time_range bounds.from bounds.to) of_table) in
       let names : All (λ row. has_listed_name bounds.names row ≡ true) asked = filter_passes (has_listed_name bounds.names) in_range in

@@ -1,5 +1,5 @@
 -- A range cut to the days of partitions.
-use Rattle.std.proofs.Common.{◌≡◌, ℕ, ℤ, pos, ◌-◌, ◌<◌, ◌<ℤ◌, ◌≤ℤ◌, ◌+ℤ◌, ◌*ℤ◌, List, [], ◌∷◌, length, get_or, take, Option, Some, None, refl, Bool, true, false, sym, ◌∙◌, ap, arith}
+use Rattle.std.proofs.Common.{◌≡◌, ℕ, ℤ, pos, ◌-◌, ◌<◌, ◌<ℤ◌, ◌≤ℤ◌, ◌+ℤ◌, ◌*ℤ◌, List, [], ◌∷◌, length, get_or, Option, Some, None, refl, Bool, true, false, sym, ◌∙◌, ap, arith}
 use Rattle.std.specs.Prelude.{filter, int_lt, IfSome}
 use Rattle.std.specs.List.{AllByRecursion}
 use Rattle.std.proofs.lemmas.Int.{ints}
@@ -10,9 +10,9 @@ use Rattle.time_text.specs.Day.{day_of}
 use Rattle.time_text.proofs.DayFacts.{on_its_day}
 use Rattle.partitions.specs.declared.partition.Partition.{Partition}
 use Rattle.partitions.specs.Partitions.{AreRising}
-use Rattle.partitions.specs.Rows.{is_of_partition, is_of_parts, parts_between}
+use Rattle.partitions.specs.Rows.{is_of_partition, is_of_parts}
 use Rattle.partitions.proofs.Parted.{its_day, day_rises, default_free}
-use Rattle.replay_merge.specs.RowSource.{IsRowBetween}
+use Rattle.replay_merge.specs.RowSource.{IsRowBetween, range_of_parts}
 
 same_below : (time from low : ℤ) → from ≤ℤ low → (from ≤ℤ time → low ≤ℤ time) → int_lt time low ≡ int_lt time from
 same_below time from low le least = by (int_lt time from) refl
@@ -72,8 +72,8 @@ each_cut table parts low high from to same (row ∷ rows) all = (
   each_cut table parts low high from to same rows all.1,
 )
 
-pub told_cut : (told : Option (List Row)) (front table : ℕ) (parts : List Partition) (low high from to : ℤ) → ((row : Row) → is_of_parts parts row ≡ true → is_in_time_range low high row ≡ is_in_time_range from to row) →
-    (rows : List Row) → IfSome told (λ history. rows ≡ parts_between front table parts low high history) → IfSome told (λ history. rows ≡ parts_between front table parts from to history)
+pub told_cut : (told : Option (ℕ → List Row)) (front table : ℕ) (parts : List Partition) (low high from to : ℤ) → ((row : Row) → is_of_parts parts row ≡ true → is_in_time_range low high row ≡ is_in_time_range from to row) →
+    (rows : List Row) → IfSome told (λ history. rows ≡ range_of_parts table parts low high (history front)) → IfSome told (λ history. rows ≡ range_of_parts table parts from to (history front))
 told_cut None front table parts low high from to same rows got = tt
 told_cut (Some history) front table parts low high from to same rows got =
-    got ∙ filter_under (is_of_parts parts) (is_in_time_range low high) (is_in_time_range from to) same (table_of table (take front history))
+    got ∙ filter_under (is_of_parts parts) (is_in_time_range low high) (is_in_time_range from to) same (table_of table (history front))

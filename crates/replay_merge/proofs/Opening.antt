@@ -1,5 +1,5 @@
 -- Cursors at their opening, and at their end.
-use Rattle.std.proofs.Common.{◌≡◌, inl, inr, ◌↔◌, ℕ, List, [], ◌∷◌, ◌++◌, take, Option, Some, None, Bool, true, false, cond, ◌<◌, refl, sym, ap, ◌∙◌, subst, arith}
+use Rattle.std.proofs.Common.{◌≡◌, inl, inr, ◌↔◌, ℕ, List, [], ◌∷◌, ◌++◌, Option, Some, None, Bool, true, false, cond, ◌<◌, refl, sym, ap, ◌∙◌, subst, arith}
 use Rattle.std.specs.Prelude.{filter, Contains, ◌&&◌, ◌==◌, nat_lt}
 use Rattle.std.specs.List.{AllByRecursion}
 use Rattle.std.specs.List.Sorted.{IsPermutation, IsSorted}
@@ -87,18 +87,18 @@ all_there given parts same [] all = tt
 all_there given parts same (row ∷ rows) all = (there given parts same row all.0, all_there given parts same rows all.1)
 
 -- a cursor that was just opened, over all partitions that it needs, has the replay before it
-pub opened_is_replay : (request : ReplayRequest) (table front : ℕ) (parts : List Partition) (names : Option (List ℕ)) (c : CursorView) → IsCursorOf request table front parts names c → (history : List Row) →
-    HoldsEachRow parts (rows_asked table request.from request.to names (take front history)) →
-    rest_of c history ≡ truncated request.limit (rows_asked table request.from request.to names (take front history))
+pub opened_is_replay : (request : ReplayRequest) (table front : ℕ) (parts : List Partition) (names : Option (List ℕ)) (c : CursorView) → IsCursorOf request table front parts names c → (history : ℕ → List Row) →
+    HoldsEachRow parts (rows_asked table request.from request.to names (history front)) →
+    rest_of c history ≡ truncated request.limit (rows_asked table request.from request.to names (history front))
 opened_is_replay request table front parts names c is history hold =
-    let range = range_of table request.from request.to (take front history) in
-    let asked : rows_asked c.table c.from c.to c.names (take c.front history) ≡ rows_asked table request.from request.to names (take front history) =
+    let range = range_of table request.from request.to (history front) in
+    let asked : rows_asked c.table c.from c.to c.names (history c.front) ≡ rows_asked table request.from request.to names (history front) =
     rw (is.of_table, is.at_front, is.starts, is.ends) (filter_agree (has_listed_name c.names) (has_listed_name names) (λ row. is.listed row.pname) range) in
-    let held = all_pass (is_of_parts c.parts) (rows_asked table request.from request.to names (take front history)) (all_there parts c.parts is.same_parts _ hold) in
-    ap (λ (w : List Row). truncated c.left (w ++ filter (is_of_parts c.parts) (rows_asked c.table c.from c.to c.names (take c.front history)))) is.unread
+    let held = all_pass (is_of_parts c.parts) (rows_asked table request.from request.to names (history front)) (all_there parts c.parts is.same_parts _ hold) in
+    ap (λ (w : List Row). truncated c.left (w ++ filter (is_of_parts c.parts) (rows_asked c.table c.from c.to c.names (history c.front)))) is.unread
     ∙ ap (λ (w : List Row). truncated c.left (filter (is_of_parts c.parts) w)) asked
     ∙ ap (truncated c.left) held
-    ∙ ap (λ (l : Option ℕ). truncated l (rows_asked table request.from request.to names (take front history))) is.limit
+    ∙ ap (λ (l : Option ℕ). truncated l (rows_asked table request.from request.to names (history front))) is.limit
 
 -- ---- the end
 
@@ -106,14 +106,14 @@ truncated_none : (left : Option ℕ) → truncated {X = Row} left [] ≡ []
 truncated_none None = refl
 truncated_none (Some n) = take_all n [] (omega arith)
 
-pub end_no_rest : (c : CursorView) (history : List Row) → IsAtEnd c → rest_of c history ≡ []
+pub end_no_rest : (c : CursorView) (history : ℕ → List Row) → IsAtEnd c → rest_of c history ≡ []
 end_no_rest c history (inl zero) = rw zero refl
 end_no_rest c history (inr (ahead, parts)) =
-    let asked = rows_asked c.table c.from c.to c.names (take c.front history) in
+    let asked = rows_asked c.table c.from c.to c.names (history c.front) in
     let none : filter (is_of_parts c.parts) asked ≡ [] = rw parts (none_in_parts [] asked refl) in
     ap (λ (w : List Row). truncated c.left (w ++ filter (is_of_parts c.parts) asked)) ahead ∙ ap (truncated c.left) none ∙ truncated_none c.left
 
 -- ---- the front
 
-pub rest_at_front : (c : CursorView) (one other : List Row) → take c.front one ≡ take c.front other → rest_of c one ≡ rest_of c other
+pub rest_at_front : (c : CursorView) (one other : ℕ → List Row) → one c.front ≡ other c.front → rest_of c one ≡ rest_of c other
 rest_at_front c one other same = ap (λ (rows : List Row). truncated c.left (c.ahead ++ filter (is_of_parts c.parts) (rows_asked c.table c.from c.to c.names rows))) same

@@ -40,7 +40,7 @@ still_truncated (Some zero) rows others = refl
 still_truncated (Some (suc n)) rows others = rw (above_none n) refl
 
 -- some of the rows ahead, or of a day that was read, were given
-pub given : (told : Option (List Row)) (wanted : Wanted) (left left' : Option ℕ) (parts parts' : List Partition) (ahead ahead' kept day rows : List Row) (most : ℕ) → IfSome left (λ n. most ≤ n) →
+pub given : (told : Option (ℕ → List Row)) (wanted : Wanted) (left left' : Option ℕ) (parts parts' : List Partition) (ahead ahead' kept day rows : List Row) (most : ℕ) → IfSome left (λ n. most ≤ n) →
     IfSome told (λ history. ahead ++ wanted_in wanted parts history ≡ day ++ wanted_in wanted parts' history) → rows ≡ take most day → ahead' ≡ drop most day → left' ≡ left_after left (length rows) → kept ≡ still_ahead left' ahead' →
     IfSome told (λ history. rows ++ rest_of (standing wanted left' parts' kept) history ≡ rest_of (standing wanted left parts ahead) history)
 given None wanted left left' parts parts' ahead ahead' kept day rows most within before are rest less still = tt
@@ -54,11 +54,11 @@ given (Some history) wanted left left' parts parts' ahead ahead' kept day rows m
     ∙ piece_of day others left most within
     ∙ ap (truncated left) (sym before)
 
-pub same_rest : (told : Option (List Row)) (wanted : Wanted) (parts : List Partition) (ahead : List Row) → IfSome told (λ history. ahead ++ wanted_in wanted parts history ≡ ahead ++ wanted_in wanted parts history)
+pub same_rest : (told : Option (ℕ → List Row)) (wanted : Wanted) (parts : List Partition) (ahead : List Row) → IfSome told (λ history. ahead ++ wanted_in wanted parts history ≡ ahead ++ wanted_in wanted parts history)
 same_rest None wanted parts ahead = tt
 same_rest (Some history) wanted parts ahead = refl
 
-pub nothing_ahead : (told : Option (List Row)) (wanted : Wanted) (parts parts' : List Partition) (ahead day : List Row) → ahead ≡ [] →
+pub nothing_ahead : (told : Option (ℕ → List Row)) (wanted : Wanted) (parts parts' : List Partition) (ahead day : List Row) → ahead ≡ [] →
     IfSome told (λ history. wanted_in wanted parts history ≡ day ++ wanted_in wanted parts' history) → IfSome told (λ history. ahead ++ wanted_in wanted parts history ≡ day ++ wanted_in wanted parts' history)
 nothing_ahead None wanted parts parts' ahead day none got = tt
 nothing_ahead (Some history) wanted parts parts' ahead day none got = ap (λ (w : List Row). w ++ wanted_in wanted parts history) none ∙ got

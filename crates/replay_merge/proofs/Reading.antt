@@ -12,18 +12,18 @@ use Rattle.std.proofs.lemmas.Map.Views.{any-filter_same}
 use Rattle.arch_types.specs.declared.row.Row.{Row}
 use Rattle.arch_types.specs.Order.{is_before}
 use Rattle.arch_types.specs.History.{is_in_table}
-use Rattle.arch_types.specs.Table.{is_in_time_range, range_of, table_at_front}
+use Rattle.arch_types.specs.Table.{is_in_time_range, range_of, table_of}
 use Rattle.arch_types.proofs.Ranks.{rows_rank}
 use Rattle.arch_types.proofs.InOrder.{order_sorted}
 use Rattle.partitions.specs.declared.partition.Partition.{Partition}
 use Rattle.partitions.specs.Partition.{partition_cmp}
 use Rattle.partitions.specs.Partitions.{AreRising}
-use Rattle.partitions.specs.Rows.{is_of_partition, is_of_parts, parts_between}
+use Rattle.partitions.specs.Rows.{is_of_partition, is_of_parts}
 use Rattle.partitions.proofs.Filters.{filter_both}
 use Rattle.partitions.proofs.Order.{partition_cmp_total}
 use Rattle.partitions.proofs.Parted.{its_partition, no_partition}
 use Rattle.replay_merge.specs.declared.wanted.Wanted.{Wanted}
-use Rattle.replay_merge.specs.RowSource.{IsRowBetween}
+use Rattle.replay_merge.specs.RowSource.{IsRowBetween, range_of_parts}
 use Rattle.replay_merge.specs.Replay.{is_listed_name, has_listed_name}
 use Rattle.replay_merge.specs.Fetch.{rows_wanted, wanted_in, IsWanted, EndsDay}
 use Rattle.replay_merge.proofs.Splits.{split}
@@ -89,34 +89,34 @@ listed_rise names n parts listed rising is = subst AreRising (sym is) (IsStrictl
 
 -- ---- a day
 
-pub wanted_sorted : (wanted : Wanted) (history : List Row) → IsSortedBy is_before (rows_wanted wanted history)
+pub wanted_sorted : (wanted : Wanted) (history : ℕ → List Row) → IsSortedBy is_before (rows_wanted wanted history)
 wanted_sorted wanted history =
-    let table = table_at_front wanted.front wanted.table history in
+    let table = table_of wanted.table (history wanted.front) in
     IsSortedBy-filter is_before rows_rank (has_listed_name wanted.names) (filter (is_in_time_range wanted.from wanted.to) table)
-    (IsSortedBy-filter is_before rows_rank (is_in_time_range wanted.from wanted.to) table (order_sorted (filter (is_in_table wanted.table) (take wanted.front history))))
+    (IsSortedBy-filter is_before rows_rank (is_in_time_range wanted.from wanted.to) table (order_sorted (filter (is_in_table wanted.table) (history wanted.front))))
 
 -- the rows of partitions are those of the first days, and then those of the others
-pub day_split : (wanted : Wanted) (history : List Row) (parts : List Partition) (n : ℕ) → EndsDay parts n → wanted_in wanted parts history ≡ wanted_in wanted (take n parts) history ++ wanted_in wanted (drop n parts) history
+pub day_split : (wanted : Wanted) (history : ℕ → List Row) (parts : List Partition) (n : ℕ) → EndsDay parts n → wanted_in wanted parts history ≡ wanted_in wanted (take n parts) history ++ wanted_in wanted (drop n parts) history
 day_split wanted history parts n ends =
     filter_agree (is_of_parts parts) (λ row. is_of_parts (take n parts) row || is_of_parts (drop n parts) row)
     (λ row. ap (λ (ps : List Partition). is_of_parts ps row) (sym (take-append-drop n parts)) ∙ list_any-append (λ partition. is_of_partition partition row) (take n parts) (drop n parts)) (rows_wanted wanted history)
     ∙ split rows_rank (is_of_parts (take n parts)) (is_of_parts (drop n parts)) (days_in_order parts n ends) (rows_wanted wanted history) (ascending rows_rank (rows_wanted wanted history) (wanted_sorted wanted history))
 
 -- the rows of the first day's partitions whose names are listed are those of the first day that are wanted
-pub day_read : (told : Option (List Row)) (wanted : Wanted) (parts listed : List Partition) (n : ℕ) (rows : List Row) → EndsDay parts n →
+pub day_read : (told : Option (ℕ → List Row)) (wanted : Wanted) (parts listed : List Partition) (n : ℕ) (rows : List Row) → EndsDay parts n →
     listed ≡ filter (λ partition. is_listed_name wanted.names partition.pname) (take n parts) →
-    IfSome told (λ history. rows ≡ parts_between wanted.front wanted.table listed wanted.from wanted.to history) →
+    IfSome told (λ history. rows ≡ range_of_parts wanted.table listed wanted.from wanted.to (history wanted.front)) →
     IfSome told (λ history. wanted_in wanted parts history ≡ rows ++ wanted_in wanted (drop n parts) history)
 day_read None wanted parts listed n rows ends is got = tt
 day_read (Some history) wanted parts listed n rows ends is got =
-    let range = range_of wanted.table wanted.from wanted.to (take wanted.front history) in
+    let range = range_of wanted.table wanted.from wanted.to (history wanted.front) in
     let first : rows ≡ wanted_in wanted (take n parts) history =
     got ∙ ap (λ (ps : List Partition). filter (is_of_parts ps) range) is ∙ listed_rows wanted.names (take n parts) range in
     day_split wanted history parts n ends ∙ ap (λ (w : List Row). w ++ wanted_in wanted (drop n parts) history) (sym first)
 
 -- ---- day after day
 
-pub day_fetched : (told : Option (List Row)) (wanted : Wanted) (parts slice : List Partition) (read count : ℕ) (rows : List Row) → slice ≡ drop read parts →
+pub day_fetched : (told : Option (ℕ → List Row)) (wanted : Wanted) (parts slice : List Partition) (read count : ℕ) (rows : List Row) → slice ≡ drop read parts →
     IfSome told (λ history. wanted_in wanted slice history ≡ rows ++ wanted_in wanted (drop count slice) history) →
     IfSome told (λ history. wanted_in wanted (drop read parts) history ≡ rows ++ wanted_in wanted (drop (read + count) parts) history)
 day_fetched told wanted parts slice read count rows is got =

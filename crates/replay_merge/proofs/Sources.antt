@@ -1,5 +1,5 @@
 -- The rows of a partition of a history are what a source gives of it.
-use Rattle.std.proofs.Common.{◌≡◌, inl, inr, ℕ, ◌<◌, ◌≤◌, List, [], ◌∷◌, take, Bool, true, false, cond, not, refl, sym, ap, ◌∙◌, subst, arith}
+use Rattle.std.proofs.Common.{◌≡◌, inl, inr, ℕ, ◌<◌, ◌≤◌, List, [], ◌∷◌, Bool, true, false, cond, not, refl, sym, ap, ◌∙◌, subst, arith}
 use Rattle.std.specs.Prelude.{filter, ◌&&◌, ◌==◌}
 use Rattle.std.specs.List.{AllByRecursion}
 use Rattle.std.specs.List.Sorted.{IsStrictlySortedBy}
@@ -13,17 +13,16 @@ use Rattle.std.proofs.lemmas.List.Sorted.{All-permutation}
 use Rattle.arch_types.specs.declared.row.Row.{Row}
 use Rattle.arch_types.specs.Order.{key_cmp, is_before, order_by}
 use Rattle.arch_types.specs.History.{is_in_table}
-use Rattle.arch_types.specs.Table.{table_of, table_at_front}
+use Rattle.arch_types.specs.Table.{table_of}
 use Rattle.arch_types.proofs.Ranks.{key_cmp_total, rows_rank}
 use Rattle.arch_types.proofs.Ordered.{IsAscending}
 use Rattle.arch_types.proofs.InOrder.{order_same, order_sorted}
 use Rattle.partitions.specs.declared.partition.Partition.{Partition}
-use Rattle.partitions.specs.Rows.{is_of_partition, partition_at}
+use Rattle.partitions.specs.Rows.{is_of_partition}
 use Rattle.partitions.proofs.Filters.{none_pass}
-use Rattle.replay_merge.specs.RowSource.{IsKeyedRow, IsRowOf, AreRowsOf, IsRowSourceHistory}
-use Rattle.replay_merge.proofs.Pieces.{all_first}
+use Rattle.replay_merge.specs.RowSource.{IsKeyedRow, IsRowOf, AreRowsOf, IsRowSourceHistory, rows_of_partition}
 use Rattle.replay_merge.proofs.Sorting.{ascending, tied_with_itself}
-use Rattle.replay_merge.proofs.Tied.{is_tied, AtMostOne, one_after, one_in_table, first_rows}
+use Rattle.replay_merge.proofs.Tied.{is_tied, AtMostOne, one_after, one_in_table}
 
 -- ---- ascending rows of which no two tie
 
@@ -85,16 +84,14 @@ in_table_keyed table history all =
     let each = each_tested IsKeyedRow (IsKeyedIn table) (is_in_table table) (λ row keyed e. record { keyed = keyed; in_table = one_number table row.table e }) history all in
     recursion_from_All (IsKeyedIn table) (order_by is_before those) (All-permutation (IsKeyedIn table) those (order_by is_before those) (order_same is_before those) (All-from_recursion (IsKeyedIn table) those each))
 
--- those of a history at a front are rows of the partition, in the order of their keys
-pub partition_rows_are : (front table : ℕ) (partition : Partition) (history : List Row) → IsRowSourceHistory history → AreRowsOf table partition (partition_at front table partition history)
-partition_rows_are front table partition history is =
-    let first = take front history in
-    let rows = table_of table first in
-    let once = first_rows front history is.once in
+-- those of a history are rows of the partition, in the order of their keys
+pub partition_rows_are : (table : ℕ) (partition : Partition) (history : List Row) → IsRowSourceHistory history → AreRowsOf table partition (rows_of_partition table partition history)
+partition_rows_are table partition history is =
+    let rows = table_of table history in
     let test = is_of_partition partition in
     record {
-      each = each_tested (IsKeyedIn table) (IsRowOf table partition) test (λ row both e. record { keyed = both.keyed; in_table = both.in_table; in_partition = e }) rows (in_table_keyed table first (all_first IsKeyedRow front history is.each));
-      rising = strictly (filter test rows) (ascending rows_rank (filter test rows) (IsSortedBy-filter is_before rows_rank test rows (order_sorted (filter (is_in_table table) first)))) (λ z. one_after test z rows (one_in_table table z first once));
+      each = each_tested (IsKeyedIn table) (IsRowOf table partition) test (λ row both e. record { keyed = both.keyed; in_table = both.in_table; in_partition = e }) rows (in_table_keyed table history is.each);
+      rising = strictly (filter test rows) (ascending rows_rank (filter test rows) (IsSortedBy-filter is_before rows_rank test rows (order_sorted (filter (is_in_table table) history)))) (λ z. one_after test z rows (one_in_table table z history is.once));
     }
 
 -- ---- a table that no row is in
@@ -107,9 +104,8 @@ none_in table n [] all most = tt
 none_in table n (row ∷ rows) all most = (other_number table row.table n all.0 most, none_in table n rows all.1 most)
 
 -- where all rows are in tables of lower numbers, it has none
-pub no_rows_in : (front table n : ℕ) (history : List Row) → AllByRecursion (λ row. row.table < n) history → n ≤ table → table_at_front front table history ≡ []
-no_rows_in front table n history all most =
-    ap (order_by is_before) (none_pass (is_in_table table) (take front history) (none_in table n (take front history) (all_first (λ row. row.table < n) front history all) most))
+pub no_rows_in : (table n : ℕ) (history : List Row) → AllByRecursion (λ row. row.table < n) history → n ≤ table → table_of table history ≡ []
+no_rows_in table n history all most = ap (order_by is_before) (none_pass (is_in_table table) history (none_in table n history all most))
 
-pub no_rows_of_table : (front table n : ℕ) (partition : Partition) (history : List Row) → AllByRecursion (λ row. row.table < n) history → n ≤ table → partition_at front table partition history ≡ []
-no_rows_of_table front table n partition history all most = ap (filter (is_of_partition partition)) (no_rows_in front table n history all most)
+pub no_rows_of_table : (table n : ℕ) (partition : Partition) (history : List Row) → AllByRecursion (λ row. row.table < n) history → n ≤ table → rows_of_partition table partition history ≡ []
+no_rows_of_table table n partition history all most = ap (filter (is_of_partition partition)) (no_rows_in table n history all most)

@@ -1,5 +1,5 @@
 -- Where a replay stands.
-use Rattle.std.specs.Prelude.{◌≡◌, ◌⊎◌, ◌↔◌, ◌-◌, ◌+◌, ◌*◌, ◌^◌, ◌<◌, ℕ, ℤ, List, length, [], ◌++◌, take, filter, Option, Some, None, ◌==◌, if◌then◌else◌, Contains}
+use Rattle.std.specs.Prelude.{◌≡◌, ◌⊎◌, ◌↔◌, ◌-◌, ◌+◌, ◌*◌, ◌^◌, ◌<◌, ℕ, ℤ, List, length, [], ◌++◌, filter, Option, Some, None, ◌==◌, if◌then◌else◌, Contains}
 use Rattle.arch_types.specs.declared.row.Row.{Row}
 use Rattle.arch_types.specs.Directions.{truncated}
 use Rattle.asks.specs.declared.ask.ReplayRequest.{ReplayRequest}
@@ -23,9 +23,9 @@ pub record CursorView : Type 0 where
   -- the rows that were read and not given yet
   pub ahead : List Row
 
--- what is left to give of a replay of a history
-abbrev pub rest_of : CursorView → List Row → List Row
-rest_of c history = truncated c.left (c.ahead ++ filter (is_of_parts c.parts) (rows_asked c.table c.from c.to c.names (take c.front history)))
+-- what is left to give of a replay of a history, of which the rows below each front are given
+abbrev pub rest_of : CursorView → (ℕ → List Row) → List Row
+rest_of c history = truncated c.left (c.ahead ++ filter (is_of_parts c.parts) (rows_asked c.table c.from c.to c.names (history c.front)))
 
 -- nothing is left, whatever the history: the limit is reached, or all was read and given
 abbrev pub IsAtEnd : CursorView → Type 0

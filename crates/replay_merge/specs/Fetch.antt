@@ -1,5 +1,5 @@
 -- What is read of a source for a replay.
-use Rattle.std.specs.Prelude.{◌≡◌, ℕ, ℤ, ◌<ℤ◌, ◌≤ℤ◌, ◌<◌, ◌≤◌, ◌^◌, List, length, take, filter, Option}
+use Rattle.std.specs.Prelude.{◌≡◌, ℕ, ℤ, ◌<ℤ◌, ◌≤ℤ◌, ◌<◌, ◌≤◌, ◌^◌, List, length, filter, Option}
 use Rattle.std.specs.List.{AllByRecursion}
 use Rattle.std.specs.List.Sorted.{IsPartitionPoint}
 use Rattle.arch_types.specs.declared.row.Row.{Row}
@@ -20,11 +20,11 @@ pub record IsAskedBy (request : ReplayRequest) (table front : ℕ) (names : Opti
   pub listed : (pname : ℕ) → is_listed_name wanted.names pname ≡ is_listed_name names pname
 
 -- the rows of a history that are wanted
-abbrev pub rows_wanted : Wanted → List Row → List Row
-rows_wanted wanted history = rows_asked wanted.table wanted.from wanted.to wanted.names (take wanted.front history)
+abbrev pub rows_wanted : Wanted → (ℕ → List Row) → List Row
+rows_wanted wanted history = rows_asked wanted.table wanted.from wanted.to wanted.names (history wanted.front)
 
 -- those of some partitions
-abbrev pub wanted_in : Wanted → List Partition → List Row → List Row
+abbrev pub wanted_in : Wanted → List Partition → (ℕ → List Row) → List Row
 wanted_in wanted parts history = filter (is_of_parts parts) (rows_wanted wanted history)
 
 -- a row that may be wanted

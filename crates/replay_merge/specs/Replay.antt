@@ -6,7 +6,7 @@ use Rattle.asks.specs.Names.{packet_name_numbers}
 use Rattle.arch_types.specs.declared.row.Row.{Row}
 use Rattle.arch_types.specs.Directions.{truncated}
 use Rattle.arch_types.specs.Table.{is_in_time_range, range_of}
-use Rattle.mdb_items.specs.Database.{Database}
+use Rattle.mdb_items.specs.Texts.{Text}
 use Rattle.partitions.specs.declared.partition.Partition.{Partition}
 use Rattle.partitions.specs.Rows.{is_of_parts}
 use Rattle.replay_merge.specs.RowSource.{IsKeyedRow}
@@ -22,13 +22,13 @@ has_listed_name names row = is_listed_name names row.pname
 
 -- the rows of a table with from <= time < to and one of these packet names, in the order of their keys
 abbrev pub rows_asked : ℕ → ℤ → ℤ → Option (List ℕ) → List Row → List Row
-rows_asked table from to names history = filter (has_listed_name names) (range_of table from to history)
+rows_asked table from to names rows = filter (has_listed_name names) (range_of table from to rows)
 
--- the replay of a request, whose table has this number, over a history: the rows of the table in its range of its packet names
--- in key order, and of these the first `limit`
-abbrev pub replay_of : Database → ℕ → ReplayRequest → List Row → List Row
-replay_of db table request history =
-    truncated request.limit (rows_asked table request.from request.to (packet_name_numbers db request.names) history)
+-- the replay of a request, whose table has this number, over rows whose packet names stand at their numbers: the rows of the
+-- table in its range of its packet names in key order, and of these the first `limit`
+abbrev pub replay_of : List Text → ℕ → ReplayRequest → List Row → List Row
+replay_of names table request rows =
+    truncated request.limit (rows_asked table request.from request.to (packet_name_numbers names request.names) rows)
 
 -- each of the rows stands in one of these partitions
 abbrev pub HoldsEachRow : List Partition → List Row → Type 0

@@ -1,5 +1,5 @@
 -- What a source of rows tells, and what it gives.
-use Rattle.std.specs.Prelude.{◌≡◌, ◌≤◌, ℕ, ℤ, List, Option, IsNone, true}
+use Rattle.std.specs.Prelude.{◌≡◌, ◌≤◌, ℕ, ℤ, List, filter, Option, IsNone, true}
 use Rattle.std.specs.List.{AllByRecursion}
 use Rattle.std.specs.List.Sorted.{IsSortedByKey, IsStrictlySortedBy}
 use Rattle.text_forms.specs.ClockTime.{IsClockTime}
@@ -10,14 +10,15 @@ use Rattle.arch_types.specs.Packet.{IsPacket}
 use Rattle.arch_types.specs.GenerationTime.{key_of}
 use Rattle.arch_types.specs.Order.{key_cmp}
 use Rattle.arch_types.specs.History.{IsHistory}
-use Rattle.arch_types.specs.Table.{is_in_time_range}
+use Rattle.arch_types.specs.Table.{is_in_time_range, range_of, table_of}
 use Rattle.arch_disk.specs.Disk.{raised}
 use Rattle.partitions.specs.declared.partition.Partition.{Partition}
 use Rattle.partitions.specs.Rows.{is_of_partition, is_of_parts}
 
--- the rows that a source tells, in the order in which they came to stay, and how often it has failed
+-- the history that a source tells, by the rows below each front in the order in which they came to stay, and how often it has
+-- failed: whatever else has a position in the history, a front counts it too
 pub record RowSourceState : Type 0 where
-  pub history : Option (List Row)
+  pub history : Option (ℕ → List Row)
   pub faults : ℕ
 
 -- a whole packet, received within the clock's range, with the key that it gives then
@@ -30,6 +31,18 @@ pub record IsKeyedRow (row : Row) : Type 0 where
 pub record IsRowSourceHistory (history : List Row) : Type 0 where
   pub once : IsHistory history
   pub each : AllByRecursion IsKeyedRow history
+
+-- those below each front are one
+abbrev pub AreRowSourceHistories : (ℕ → List Row) → Type 0
+AreRowSourceHistories history = (front : ℕ) → IsRowSourceHistory (history front)
+
+-- the rows of a partition of a table, in the order of their keys
+abbrev pub rows_of_partition : ℕ → Partition → List Row → List Row
+rows_of_partition table partition rows = filter (is_of_partition partition) (table_of table rows)
+
+-- those of several partitions with from <= time < to, in the order of their keys
+abbrev pub range_of_parts : ℕ → List Partition → ℤ → ℤ → List Row → List Row
+range_of_parts table parts from to rows = filter (is_of_parts parts) (range_of table from to rows)
 
 -- such a row of a table and a partition
 pub record IsRowOf (table : ℕ) (partition : Partition) (row : Row) : Type 0 where

@@ -1,6 +1,6 @@
 //! A replay that is read piece by piece.
 
-ghost use Rattle.std.specs.Prelude.{◌≡◌, ◌<◌, ◌≤◌, ◌++◌, ◌↔◌, List, [], length, take, Some, Contains, IfOk, IfErr, IfSome, OnErr};
+ghost use Rattle.std.specs.Prelude.{◌≡◌, ◌<◌, ◌≤◌, ◌++◌, ◌↔◌, ℕ, List, [], length, Some, Contains, IfOk, IfErr, IfSome, OnErr};
 ghost use Rattle.std.specs.List.{AllByRecursion};
 ghost use Rattle.arch_types.specs.declared.row.Row.{Row};
 ghost use Rattle.arch_types.specs.Directions.{truncated};
@@ -68,10 +68,10 @@ impl Cursor {
         names: Option<PnameList>,
     ) -> Cursor
         ensures opened { IsCursorOf request.now table front parts names result }
-        ensures replays { (history : List Row)
-            → HoldsEachRow parts (rows_asked table request.now.from request.now.to names (take front history))
+        ensures replays { (history : ℕ → List Row)
+            → HoldsEachRow parts (rows_asked table request.now.from request.now.to names (history front))
             → rest_of result history ≡ truncated request.now.limit
-            (rows_asked table request.now.from request.now.to names (take front history)) }
+            (rows_asked table request.now.from request.now.to names (history front)) }
     {
         let parts = in_order(parts);
         let ahead = Ahead::new(*parts.allocator());

@@ -5,8 +5,8 @@ ghost use Rattle.std.specs.List.{AllByRecursion};
 ghost use Rattle.arch_types.specs.declared.row.Row.{Row as ARow};
 ghost use Rattle.arch_types.specs.Table.{is_in_time_range};
 ghost use Rattle.partitions.specs.Partitions.{AreRising};
-ghost use Rattle.partitions.specs.Rows.{is_of_parts, parts_between};
-ghost use Rattle.replay_merge.specs.RowSource.{AreInKeyOrder, IsRowBetween, IsRowFault, UsedRowSource};
+ghost use Rattle.partitions.specs.Rows.{is_of_parts};
+ghost use Rattle.replay_merge.specs.RowSource.{AreInKeyOrder, IsRowBetween, IsRowFault, UsedRowSource, range_of_parts};
 
 use crate::row_source::RowSource;
 use arch_types::row::Rows;
@@ -65,7 +65,7 @@ pub fn rows_on_days<R: RowSource>(
 ) -> Result<Rows, RowFault>
     requires { AreRising parts.now }
     ensures told { IfOk result (λ rows. IfSome (R.state source.old).history (λ history.
-        rows ≡ parts_between front table parts.now from to history)) }
+        rows ≡ range_of_parts table parts.now from to (history front))) }
     ensures each { IfOk result (AllByRecursion (IsRowBetween table parts.now from to)) }
     ensures in_key_order { IfOk result AreInKeyOrder }
     ensures refused { IfErr result (IsRowFault (R.state source.old) (R.state source.new)) }

@@ -3,8 +3,7 @@
 ghost use Rattle.std.specs.Prelude.{◌≡◌, IfOk, IfErr, IfSome};
 ghost use Rattle.std.specs.List.{AllByRecursion};
 ghost use Rattle.partitions.specs.Partitions.{AreRising};
-ghost use Rattle.partitions.specs.Rows.{partition_at, parts_between};
-ghost use Rattle.replay_merge.specs.RowSource.{RowSourceState, IsRowSourceHistory, AreRowsOf, IsRowBetween, AreInKeyOrder, IsRowFault, UsedRowSource};
+ghost use Rattle.replay_merge.specs.RowSource.{RowSourceState, AreRowSourceHistories, AreRowsOf, IsRowBetween, AreInKeyOrder, IsRowFault, UsedRowSource, range_of_parts, rows_of_partition};
 
 use arch_types::row::Rows;
 use arch_types::row_fault::RowFault;
@@ -14,7 +13,7 @@ use std::alloc::Global;
 
 /// What has the rows of tables.
 pub trait RowSource {
-    /// The rows that it tells, and how often it has failed.
+    /// The history that it tells, and how often it has failed.
     ghost state: { Self → RowSourceState };
 
     /// The rows of a partition of a table with a position below the front, in the order of their keys. Refused with `DiskFault`,
@@ -27,9 +26,9 @@ pub trait RowSource {
         front: u64,
     ) -> Result<Rows, RowFault>
         ensures told { IfOk result (λ rows. IfSome (state self.old).history (λ history.
-            rows ≡ partition_at front table partition.now history)) }
+            rows ≡ rows_of_partition table partition.now (history front))) }
         ensures each { IfOk result (AreRowsOf table partition.now) }
-        ensures history { IfSome (state self.old).history IsRowSourceHistory }
+        ensures history { IfSome (state self.old).history AreRowSourceHistories }
         ensures refused { IfErr result (IsRowFault (state self.old) (state self.new)) }
         ensures source { UsedRowSource (state self.old) (state self.new) };
 
@@ -48,7 +47,7 @@ pub trait RowSource {
     ) -> Result<Rows, RowFault>
         requires { AreRising parts.now }
         ensures told { IfOk result (λ rows. IfSome (state self.old).history (λ history.
-            rows ≡ parts_between front table parts.now from to history)) }
+            rows ≡ range_of_parts table parts.now from to (history front))) }
         ensures each { IfOk result (AllByRecursion (IsRowBetween table parts.now from to)) }
         ensures in_key_order { IfOk result AreInKeyOrder }
         ensures refused { IfErr result (IsRowFault (state self.old) (state self.new)) }

@@ -15,8 +15,8 @@ use Rattle.arch_types.proofs.Ranks.{rows_rank}
 use Rattle.arch_types.proofs.Ordered.{filter-order}
 use Rattle.arch_types.proofs.InOrder.{order_sorted}
 use Rattle.partitions.specs.declared.partition.Partition.{Partition}
-use Rattle.partitions.specs.Rows.{is_of_parts, parts_between}
-use Rattle.replay_merge.specs.RowSource.{IsKeyedRow, IsRowBetween, AreInKeyOrder}
+use Rattle.partitions.specs.Rows.{is_of_parts}
+use Rattle.replay_merge.specs.RowSource.{IsKeyedRow, IsRowBetween, AreInKeyOrder, range_of_parts}
 use Rattle.replay_merge.proofs.Sorting.{ascending, same_sorted}
 use Rattle.replay_merge.proofs.Tied.{is_tied}
 use Rattle.replay_merge.proofs.Reading.{all_both}
@@ -74,15 +74,15 @@ one_of_tables (table ∷ other ∷ tables) one = absurd (omega (arith, one))
 
 module _ (parts : List Partition) (from to : ℤ) (front : ℕ) where
   -- of one table
-  pub one_told : (told : Option (List Row)) (table : ℕ) (rows : List Row) → AreInKeyOrder rows → IfSome told (λ history. rows ≡ parts_between front table parts from to history) →
-      IfSome told (λ history. rows ≡ sorted (rows_between_of (table ∷ []) parts from to (take front history)))
+  pub one_told : (told : Option (ℕ → List Row)) (table : ℕ) (rows : List Row) → AreInKeyOrder rows → IfSome told (λ history. rows ≡ range_of_parts table parts from to (history front)) →
+      IfSome told (λ history. rows ≡ sorted (rows_between_of (table ∷ []) parts from to (history front)))
   one_told None table rows in_order got = tt
   one_told (Some history) table rows in_order got =
-      sorted_already rows in_order ∙ ap sorted (got ∙ sym (append-nil (ranged_in_parts parts from to (take front history) table)))
+      sorted_already rows in_order ∙ ap sorted (got ∙ sym (append-nil (ranged_in_parts parts from to (history front) table)))
 
   -- of several, put in order
-  pub merged_told : (told : Option (List Row)) (tables : List ℕ) (given rows : List Row) → IsSortedBy is_before rows → ((z : Row) → filter (is_tied z) rows ≡ filter (is_tied z) given) →
-      IfSome told (λ history. given ≡ rows_between_of tables parts from to (take front history)) → IfSome told (λ history. rows ≡ sorted (rows_between_of tables parts from to (take front history)))
+  pub merged_told : (told : Option (ℕ → List Row)) (tables : List ℕ) (given rows : List Row) → IsSortedBy is_before rows → ((z : Row) → filter (is_tied z) rows ≡ filter (is_tied z) given) →
+      IfSome told (λ history. given ≡ rows_between_of tables parts from to (history front)) → IfSome told (λ history. rows ≡ sorted (rows_between_of tables parts from to (history front)))
   merged_told None tables given rows in_order stable got = tt
   merged_told (Some history) tables given rows in_order stable got = stable_is_sorted given rows in_order stable ∙ ap sorted got
 
@@ -95,18 +95,18 @@ flat_next f xs i x within is =
     ap (λ (l : List Row). flat_map f (take i xs) ++ l) (sym last) ∙ sym (flat_map-append f (take i xs) (x ∷ []))
     ∙ ap (λ (y : ℕ). flat_map f (take i xs ++ y ∷ [])) is ∙ ap (flat_map f) (sym (take-suc xs i x within)) ∙ ap (λ (n : ℕ). flat_map f (take n xs)) (sym next)
 
-pub one_table_more : (parts : List Partition) (from to : ℤ) (front : ℕ) (told : Option (List Row)) (tables : List ℕ) (i table : ℕ) (rows more all : List Row) → i < length tables → table ≡ get_or tables i table →
-    IfSome told (λ history. rows ≡ rows_between_of (take i tables) parts from to (take front history)) → IfSome told (λ history. more ≡ parts_between front table parts from to history) → all ≡ rows ++ more →
-    IfSome told (λ history. all ≡ rows_between_of (take (i + 1) tables) parts from to (take front history))
+pub one_table_more : (parts : List Partition) (from to : ℤ) (front : ℕ) (told : Option (ℕ → List Row)) (tables : List ℕ) (i table : ℕ) (rows more all : List Row) → i < length tables → table ≡ get_or tables i table →
+    IfSome told (λ history. rows ≡ rows_between_of (take i tables) parts from to (history front)) → IfSome told (λ history. more ≡ range_of_parts table parts from to (history front)) → all ≡ rows ++ more →
+    IfSome told (λ history. all ≡ rows_between_of (take (i + 1) tables) parts from to (history front))
 one_table_more parts from to front None tables i table rows more all within is so_far got added = tt
 one_table_more parts from to front (Some history) tables i table rows more all within is so_far got added =
-    added ∙ ap (λ (l : List Row). l ++ more) so_far ∙ ap (λ (l : List Row). rows_between_of (take i tables) parts from to (take front history) ++ l) got
-    ∙ flat_next (ranged_in_parts parts from to (take front history)) tables i table within is
+    added ∙ ap (λ (l : List Row). l ++ more) so_far ∙ ap (λ (l : List Row). rows_between_of (take i tables) parts from to (history front) ++ l) got
+    ∙ flat_next (ranged_in_parts parts from to (history front)) tables i table within is
 
-pub all_tables : (parts : List Partition) (from to : ℤ) (front : ℕ) (told : Option (List Row)) (tables : List ℕ) (i : ℕ) (rows : List Row) → length tables ≤ i →
-    IfSome told (λ history. rows ≡ rows_between_of (take i tables) parts from to (take front history)) → IfSome told (λ history. rows ≡ rows_between_of tables parts from to (take front history))
+pub all_tables : (parts : List Partition) (from to : ℤ) (front : ℕ) (told : Option (ℕ → List Row)) (tables : List ℕ) (i : ℕ) (rows : List Row) → length tables ≤ i →
+    IfSome told (λ history. rows ≡ rows_between_of (take i tables) parts from to (history front)) → IfSome told (λ history. rows ≡ rows_between_of tables parts from to (history front))
 all_tables parts from to front told tables i rows le got =
-    subst (λ (ts : List ℕ). IfSome told (λ history. rows ≡ rows_between_of ts parts from to (take front history))) (take_all i tables le) got
+    subst (λ (ts : List ℕ). IfSome told (λ history. rows ≡ rows_between_of ts parts from to (history front))) (take_all i tables le) got
 
 -- ---- rows of partitions
 

@@ -1,9 +1,9 @@
 -- What is selected of the rows in the bounds of a condition is all that is selected.
-use Rattle.std.proofs.Common.{◌≡◌, ◌↔◌, ℕ, ℤ, ◌+◌, ◌≤◌, List, [], ◌∷◌, ◌++◌, length, reverse, take, Option, Some, None, Bool, true, false, cond, refl, sym, ap, ◌∙◌, length-append, subst, arith}
+use Rattle.std.proofs.Common.{◌≡◌, ◌↔◌, ℕ, ℤ, ◌+◌, ◌≤◌, List, [], ◌∷◌, ◌++◌, length, reverse, Option, Some, None, Bool, true, false, cond, refl, sym, ap, ◌∙◌, length-append, subst, arith}
 use Rattle.std.specs.Prelude.{filter, flat_map, Result, Ok, Err, IfOk, IfSome, Contains, int_lt}
 use Rattle.std.specs.List.{AllByRecursion}
 use Rattle.std.proofs.lemmas.Int.{ints}
-use Rattle.std.proofs.lemmas.List.{reverse-append, take_all}
+use Rattle.std.proofs.lemmas.List.{append-nil, reverse-append}
 use Rattle.std.proofs.lemmas.List.Elements.{filter-append, filter_agree, recursion_from_All, All-from_recursion, All-filter}
 use Rattle.std.proofs.lemmas.List.Folds.{Any-from_list_any, list_any-from_Any}
 use Rattle.std.proofs.lemmas.List.Sorted.{All-permutation, length_permutation}
@@ -20,7 +20,7 @@ use Rattle.partitions.specs.declared.bounds.Bounds.{Bounds}
 use Rattle.partitions.specs.Bounds.{IsInBounds}
 use Rattle.partitions.specs.Rows.{is_of_partition, is_of_parts}
 use Rattle.partitions.proofs.Filters.{filter_swap}
-use Rattle.replay_merge.specs.Replay.{has_listed_name, HoldsEachRow, rows_asked}
+use Rattle.replay_merge.specs.Replay.{has_listed_name}
 use Rattle.replay_merge.specs.Laws.{HoldsPruned, ListedIsAmong, PrunedIsEnough}
 use Rattle.replay_merge.proofs.Reading.{all_both, all_pass}
 use Rattle.arch_types.specs.declared.direction.Direction.{Direction}
@@ -171,13 +171,13 @@ module _ (given rising : List Partition) (same : (partition : Partition) → Con
   held_by_these (row ∷ rows) all = (record { in_parts = same_parts row ∙ all.0.in_parts; clock = all.0.clock }, held_by_these rows all.1)
 
   -- what is told of a selection over the partitions in their order
-  pub selected_told : BoundsHold → (told : Option (List Row)) (statement : TypedSelect) (front : ℕ) (bounds : Bounds) (rows : List Row) → bounds ≡ bounds_of statement.condition →
-      IfSome told (λ history. rows ≡ truncated statement.limit (selected_between statement rising bounds.from bounds.to (take front history))) →
-      IfSome told (λ history. HoldsSelected statement given (take front history) → rows ≡ selection_of statement (take front history))
+  pub selected_told : BoundsHold → (told : Option (ℕ → List Row)) (statement : TypedSelect) (front : ℕ) (bounds : Bounds) (rows : List Row) → bounds ≡ bounds_of statement.condition →
+      IfSome told (λ history. rows ≡ truncated statement.limit (selected_between statement rising bounds.from bounds.to (history front))) →
+      IfSome told (λ history. HoldsSelected statement given (history front) → rows ≡ selection_of statement (history front))
   selected_told hold None statement front bounds rows is got = tt
   selected_told hold (Some history) statement front bounds rows is got = λ held.
-      got ∙ ap (λ (b : Bounds). truncated statement.limit (selected_between statement rising b.from b.to (take front history))) is
-      ∙ all_selected hold statement rising (take front history) (held_by_these (selected_rows statement.condition statement.sources (take front history)) held)
+      got ∙ ap (λ (b : Bounds). truncated statement.limit (selected_between statement rising b.from b.to (history front))) is
+      ∙ all_selected hold statement rising (history front) (held_by_these (selected_rows statement.condition statement.sources (history front)) held)
 
   few_of_table : (from to : ℤ) (table : ℕ) (history : List Row) → length (filter (is_of_parts rising) (range_of table from to history)) ≤ length (rows_in_parts given history table)
   few_of_table from to table history =
@@ -214,13 +214,13 @@ module _ (given rising : List Partition) (same : (partition : Partition) → Con
       omega (arith, moved, few_of_tables from to tables history)
 
   -- the steps are no more than rows stand in the partitions
-  pub steps_told : (told : Option (List Row)) (tables : List ℕ) (front : ℕ) (from to : ℤ) (first now : ℕ) →
-      IfSome told (λ history. now ≤ first + length (filter (is_of_parts rising) (merged_between tables from to (take front history)))) →
-      IfSome told (λ history. now ≤ first + length (rows_of_sources tables given (take front history)))
+  pub steps_told : (told : Option (ℕ → List Row)) (tables : List ℕ) (front : ℕ) (from to : ℤ) (first now : ℕ) →
+      IfSome told (λ history. now ≤ first + length (filter (is_of_parts rising) (merged_between tables from to (history front)))) →
+      IfSome told (λ history. now ≤ first + length (rows_of_sources tables given (history front)))
   steps_told None tables front from to first now h = tt
-  steps_told (Some history) tables front from to first now h = omega (arith, h, few_merged from to tables (take front history))
+  steps_told (Some history) tables front from to first now h = omega (arith, h, few_merged from to tables (history front))
 
-pub no_steps_told : (told : Option (List Row)) (tables : List ℕ) (given : List Partition) (front first : ℕ) → IfSome told (λ history. first ≤ first + length (rows_of_sources tables given (take front history)))
+pub no_steps_told : (told : Option (ℕ → List Row)) (tables : List ℕ) (given : List Partition) (front first : ℕ) → IfSome told (λ history. first ≤ first + length (rows_of_sources tables given (history front)))
 no_steps_told None tables given front first = tt
 no_steps_told (Some history) tables given front first = omega arith
 
@@ -266,9 +266,7 @@ module _ (hold : BoundsHold) (listed : ListedIsAmong) (enough : PrunedIsEnough) 
       let P : Row → Type 0 = λ row. IsClockTime row.key.time in
       let times : AllByRecursion P (table_of table history) =
       recursion_from_All P (table_of table history) (All-permutation P those (table_of table history) (order_same is_before those) (All-filter (is_in_table table) P history (All-from_recursion P history clocks))) in
-      let held = enough (bounds_of condition) table (length history) parts history pruned in
-      kept_held (table_of table history) times
-      (subst (λ (rows : List Row). HoldsEachRow parts (rows_asked table (bounds_of condition).from (bounds_of condition).to (bounds_of condition).names rows)) (take_all (length history) history (omega arith)) held)
+      kept_held (table_of table history) times (enough (bounds_of condition) table parts history history pruned ([], append-nil history))
 
   pub tables_held : (tables : List ℕ) (history : List Row) → AllByRecursion (λ row. IsClockTime row.key.time) history →
       AllByRecursion (λ table. HoldsPruned (bounds_of condition) (filter (is_in_table table) history) parts) tables → AllByRecursion (IsHeld parts) (selected_rows condition tables history)

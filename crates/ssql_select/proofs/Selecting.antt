@@ -1,5 +1,5 @@
 -- A selection, row after row and day after day.
-use Rattle.std.proofs.Common.{◌≡◌, ℕ, ℤ, ◌+◌, ◌≤◌, List, [], ◌∷◌, ◌++◌, length, reverse, take, Option, Some, None, Bool, true, false, cond, refl, sym, ap, ◌∙◌, append_assoc, length-append, subst, arith}
+use Rattle.std.proofs.Common.{◌≡◌, ℕ, ℤ, ◌+◌, ◌≤◌, List, [], ◌∷◌, ◌++◌, length, reverse, Option, Some, None, Bool, true, false, cond, refl, sym, ap, ◌∙◌, append_assoc, length-append, subst, arith}
 use Rattle.std.specs.Prelude.{filter, IfSome, ◌==◌}
 use Rattle.std.proofs.lemmas.Bool.Decides.{nat_tests}
 use Rattle.std.specs.List.{AllByRecursion}
@@ -123,30 +123,30 @@ module _ (statement : TypedSelect) (left day rest : List Partition) (from to : �
         ∙ ap (λ (n : ℕ). length rows + n) (directed_len direction (filter (is_of_parts rest) m))
 
   -- what is told once the day was gone through
-  pub day_told : (told : Option (List Row)) (found new : List Row) (parts : List Partition) →
-      IfSome told (λ history. rows ≡ sorted (rows_between_of statement.sources day from to (take front history))) → reverse turned ≡ in_direction statement.direction rows →
+  pub day_told : (told : Option (ℕ → List Row)) (found new : List Row) (parts : List Partition) →
+      IfSome told (λ history. rows ≡ sorted (rows_between_of statement.sources day from to (history front))) → reverse turned ≡ in_direction statement.direction rows →
       new ≡ truncated statement.limit (found ++ filter (is_selected statement.condition) (reverse turned)) →
-      IfSome told (λ history. truncated statement.limit (found ++ selected_between statement left from to (take front history)) ≡ truncated statement.limit (selected_between statement parts from to (take front history))) →
-      IfSome told (λ history. truncated statement.limit (new ++ selected_between statement rest from to (take front history)) ≡ truncated statement.limit (selected_between statement parts from to (take front history)))
+      IfSome told (λ history. truncated statement.limit (found ++ selected_between statement left from to (history front)) ≡ truncated statement.limit (selected_between statement parts from to (history front))) →
+      IfSome told (λ history. truncated statement.limit (new ++ selected_between statement rest from to (history front)) ≡ truncated statement.limit (selected_between statement parts from to (history front)))
   day_told None found new parts got back added h = tt
   day_told (Some history) found new parts got back added h =
       let q = is_selected statement.condition in
-      let first = take front history in
+      let first = history front in
       let all = truncated statement.limit (selected_between statement parts from to first) in
       next_rows statement.limit found new (filter q (reverse turned)) (selected_between statement rest from to first) all added
       (ap (λ (l : List Row). truncated statement.limit (found ++ l)) (sym (day_first first got back)) ∙ h)
 
-  pub day_counted : (told : Option (List Row)) (before now first : ℕ) (parts : List Partition) → IfSome told (λ history. rows ≡ sorted (rows_between_of statement.sources day from to (take front history))) →
+  pub day_counted : (told : Option (ℕ → List Row)) (before now first : ℕ) (parts : List Partition) → IfSome told (λ history. rows ≡ sorted (rows_between_of statement.sources day from to (history front))) →
       length turned ≡ length rows → now ≤ before + length turned →
-      IfSome told (λ history. before + length (filter (is_of_parts left) (merged_between statement.sources from to (take front history))) ≤ first + length (filter (is_of_parts parts) (merged_between statement.sources from to (take front history)))) →
-      IfSome told (λ history. now + length (filter (is_of_parts rest) (merged_between statement.sources from to (take front history))) ≤ first + length (filter (is_of_parts parts) (merged_between statement.sources from to (take front history))))
+      IfSome told (λ history. before + length (filter (is_of_parts left) (merged_between statement.sources from to (history front))) ≤ first + length (filter (is_of_parts parts) (merged_between statement.sources from to (history front)))) →
+      IfSome told (λ history. now + length (filter (is_of_parts rest) (merged_between statement.sources from to (history front))) ≤ first + length (filter (is_of_parts parts) (merged_between statement.sources from to (history front))))
   day_counted None before now first parts got same more h = tt
   day_counted (Some history) before now first parts got same more h =
-      let len = day_len (take front history) got in
+      let len = day_len (history front) got in
       omega (arith, len, same, more, h)
 
 -- the steps so far are no more than all
-pub steps_within : (told : Option (List Row)) (left all : List Row → List Row) (before first : ℕ) → IfSome told (λ history. before + length (left history) ≤ first + length (all history)) → IfSome told (λ history. before ≤ first + length (all history))
+pub steps_within : (told : Option (ℕ → List Row)) (left all : (ℕ → List Row) → List Row) (before first : ℕ) → IfSome told (λ history. before + length (left history) ≤ first + length (all history)) → IfSome told (λ history. before ≤ first + length (all history))
 steps_within None left all before first h = tt
 steps_within (Some history) left all before first h = omega (arith, h)
 
@@ -171,28 +171,28 @@ nothing_left statement from to history =
     ∙ ap (filter (is_selected statement.condition)) (none_directed statement.direction)
 
 -- all days were gone through, or there are enough
-pub days_done : (told : Option (List Row)) (statement : TypedSelect) (left parts : List Partition) (from to : ℤ) (front : ℕ) (found : List Row) → left ≡ [] → truncated statement.limit found ≡ found →
-    IfSome told (λ history. truncated statement.limit (found ++ selected_between statement left from to (take front history)) ≡ truncated statement.limit (selected_between statement parts from to (take front history))) →
-    IfSome told (λ history. found ≡ truncated statement.limit (selected_between statement parts from to (take front history)))
+pub days_done : (told : Option (ℕ → List Row)) (statement : TypedSelect) (left parts : List Partition) (from to : ℤ) (front : ℕ) (found : List Row) → left ≡ [] → truncated statement.limit found ≡ found →
+    IfSome told (λ history. truncated statement.limit (found ++ selected_between statement left from to (history front)) ≡ truncated statement.limit (selected_between statement parts from to (history front))) →
+    IfSome told (λ history. found ≡ truncated statement.limit (selected_between statement parts from to (history front)))
 days_done None statement left parts from to front found none within h = tt
 days_done (Some history) statement left parts from to front found none within h =
-    let first = take front history in
+    let first = history front in
     let nothing : selected_between statement left from to first ≡ [] = subst (λ (ps : List Partition). selected_between statement ps from to first ≡ []) (sym none) (nothing_left statement from to first) in
     all_taken statement.limit found (truncated statement.limit (selected_between statement parts from to first)) within (ap (λ (l : List Row). truncated statement.limit (found ++ l)) (sym nothing) ∙ h)
 
-pub days_enough : (told : Option (List Row)) (statement : TypedSelect) (left parts : List Partition) (from to : ℤ) (front : ℕ) (found : List Row) → is_enough statement.limit found ≡ true → truncated statement.limit found ≡ found →
-    IfSome told (λ history. truncated statement.limit (found ++ selected_between statement left from to (take front history)) ≡ truncated statement.limit (selected_between statement parts from to (take front history))) →
-    IfSome told (λ history. found ≡ truncated statement.limit (selected_between statement parts from to (take front history)))
+pub days_enough : (told : Option (ℕ → List Row)) (statement : TypedSelect) (left parts : List Partition) (from to : ℤ) (front : ℕ) (found : List Row) → is_enough statement.limit found ≡ true → truncated statement.limit found ≡ found →
+    IfSome told (λ history. truncated statement.limit (found ++ selected_between statement left from to (history front)) ≡ truncated statement.limit (selected_between statement parts from to (history front))) →
+    IfSome told (λ history. found ≡ truncated statement.limit (selected_between statement parts from to (history front)))
 days_enough None statement left parts from to front found most within h = tt
 days_enough (Some history) statement left parts from to front found most within h =
-    sym (enough statement.limit found (selected_between statement left from to (take front history)) most within) ∙ h
+    sym (enough statement.limit found (selected_between statement left from to (history front)) most within) ∙ h
 
 -- ---- the beginning
 
-pub nothing_yet : (told : Option (List Row)) (limit : Option ℕ) (all : List Row → List Row) → IfSome told (λ history. truncated limit ([] ++ all history) ≡ truncated limit (all history))
+pub nothing_yet : (told : Option (ℕ → List Row)) (limit : Option ℕ) (all : (ℕ → List Row) → List Row) → IfSome told (λ history. truncated limit ([] ++ all history) ≡ truncated limit (all history))
 nothing_yet None limit all = tt
 nothing_yet (Some history) limit all = refl
 
-pub no_steps : (told : Option (List Row)) (first : ℕ) (all : List Row → List Row) → IfSome told (λ history. first + length (all history) ≤ first + length (all history))
+pub no_steps : (told : Option (ℕ → List Row)) (first : ℕ) (all : (ℕ → List Row) → List Row) → IfSome told (λ history. first + length (all history) ≤ first + length (all history))
 no_steps None first all = tt
 no_steps (Some history) first all = omega arith

@@ -10,9 +10,8 @@ use Rattle.time_text.specs.Spelling.{day_name_of}
 use Rattle.time_text.proofs.DayFacts.{on_its_day}
 use Rattle.arch_types.specs.declared.row.Row.{Row}
 use Rattle.partitions.specs.declared.partition.Partition.{Partition}
-use Rattle.partitions.specs.Rows.{partition_at}
 use Rattle.partitions.proofs.Parted.{its_day}
-use Rattle.replay_merge.specs.RowSource.{AreRowsOf, IsKeyedRow}
+use Rattle.replay_merge.specs.RowSource.{AreRowsOf, IsKeyedRow, rows_of_partition}
 use Rattle.ssql_select.specs.declared.show.ShowLine.{ShowLine}
 use Rattle.ssql_select.specs.declared.show.ShowLine.TheVariants as l
 use Rattle.ssql_select.specs.ShowText.{line_of_rows, partition_line, partition_lines}
@@ -45,10 +44,10 @@ flat_next {A} {B} f xs i x within is =
     ∙ ap (flat_map f) (sym (take-suc xs i x within))
     ∙ ap (λ (n : ℕ). flat_map f (take n xs)) (sym next)
 
-pub one_part_more : (front table : ℕ) (told : Option (List Row)) (parts : List Partition) (i : ℕ) (partition : Partition) (lines : List ShowLine) (rows : List Row) (all : List ShowLine) →
-    i < length parts → partition ≡ get_or parts i partition → IfSome told (λ history. lines ≡ partition_lines front table history (take i parts)) →
-    IfSome told (λ history. rows ≡ partition_at front table partition history) → all ≡ lines ++ line_of_rows partition rows → IfSome told (λ history. all ≡ partition_lines front table history (take (i + 1) parts))
+pub one_part_more : (front table : ℕ) (told : Option (ℕ → List Row)) (parts : List Partition) (i : ℕ) (partition : Partition) (lines : List ShowLine) (rows : List Row) (all : List ShowLine) →
+    i < length parts → partition ≡ get_or parts i partition → IfSome told (λ history. lines ≡ partition_lines table (history front) (take i parts)) →
+    IfSome told (λ history. rows ≡ rows_of_partition table partition (history front)) → all ≡ lines ++ line_of_rows partition rows → IfSome told (λ history. all ≡ partition_lines table (history front) (take (i + 1) parts))
 one_part_more front table None parts i partition lines rows all within is so_far got put = tt
 one_part_more front table (Some history) parts i partition lines rows all within is so_far got put =
-    put ∙ ap (λ (r : List Row). lines ++ line_of_rows partition r) got ∙ ap (λ (k : List ShowLine). k ++ partition_line front table history partition) so_far
-    ∙ flat_next (partition_line front table history) parts i partition within is
+    put ∙ ap (λ (r : List Row). lines ++ line_of_rows partition r) got ∙ ap (λ (k : List ShowLine). k ++ partition_line table (history front) partition) so_far
+    ∙ flat_next (partition_line table (history front)) parts i partition within is

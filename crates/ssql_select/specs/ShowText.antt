@@ -5,7 +5,7 @@ use Rattle.time_text.specs.Spelling.{day_name_of}
 use Rattle.arch_types.specs.declared.row.Row.{Row}
 use Rattle.arch_types.specs.declared.spans.Span.{Span}
 use Rattle.partitions.specs.declared.partition.Partition.{Partition}
-use Rattle.partitions.specs.Rows.{partition_at}
+use Rattle.replay_merge.specs.RowSource.{rows_of_partition}
 use Rattle.ssql_select.specs.declared.show.ShowLine.{ShowLine}
 use Rattle.ssql_select.specs.declared.show.ShowLine.TheVariants as l
 use Rattle.ssql_select.specs.SelectionText.{pname_of}
@@ -17,13 +17,13 @@ abbrev pub line_of_rows : Partition → List Row → List ShowLine
 line_of_rows partition [] = []
 line_of_rows partition (row ∷ rows) = l.Partition (day_name_of partition.day) partition.pname (length (row ∷ rows)) ∷ []
 
--- a partition of a table with its rows at a front
-abbrev pub partition_line : ℕ → ℕ → List Row → Partition → List ShowLine
-partition_line front table history partition = line_of_rows partition (partition_at front table partition history)
+-- a partition of a table with its rows
+abbrev pub partition_line : ℕ → List Row → Partition → List ShowLine
+partition_line table rows partition = line_of_rows partition (rows_of_partition table partition rows)
 
 -- those of some partitions
-abbrev pub partition_lines : ℕ → ℕ → List Row → List Partition → List ShowLine
-partition_lines front table history parts = flat_map (partition_line front table history) parts
+abbrev pub partition_lines : ℕ → List Row → List Partition → List ShowLine
+partition_lines table rows parts = flat_map (partition_line table rows) parts
 
 -- ---- how it is written
 

@@ -1,6 +1,6 @@
 //! The rows of a day, of all sources.
 
-ghost use Rattle.std.specs.Prelude.{◌≡◌, ◌++◌, take, IfOk, IfErr, IfSome};
+ghost use Rattle.std.specs.Prelude.{◌≡◌, ◌++◌, IfOk, IfErr, IfSome};
 ghost use Rattle.std.specs.List.{AllByRecursion};
 ghost use Rattle.arch_types.specs.Table.{sorted};
 ghost use Rattle.partitions.specs.Partitions.{AreRising};
@@ -41,7 +41,7 @@ fn rows_by_table<R: RowSource>(
 ) -> Result<Vec<Row>, RowFault>
     requires { AreRising parts.now }
     ensures rows { IfOk result (λ rows. IfSome (R.state source.old).history (λ history.
-        rows.items ≡ rows_between_of tables.now parts.now bounds.now.from bounds.now.to (take front history))) }
+        rows.items ≡ rows_between_of tables.now parts.now bounds.now.from bounds.now.to (history front))) }
     ensures each { IfOk result (λ rows. AllByRecursion IsKeyedRow rows.items) }
     ensures refused { IfErr result (IsRowFault (R.state source.old) (R.state source.new)) }
     ensures source { UsedRowSource (R.state source.old) (R.state source.new) }
@@ -66,7 +66,7 @@ pub(crate) fn merged_rows<R: RowSource>(
 ) -> Result<Vec<Row>, RowFault>
     requires { AreRising parts.now }
     ensures rows { IfOk result (λ rows. IfSome (R.state source.old).history (λ history. rows.items
-        ≡ sorted (rows_between_of tables.now parts.now bounds.now.from bounds.now.to (take front history)))) }
+        ≡ sorted (rows_between_of tables.now parts.now bounds.now.from bounds.now.to (history front)))) }
     ensures each { IfOk result (λ rows. AllByRecursion IsKeyedRow rows.items) }
     ensures refused { IfErr result (IsRowFault (R.state source.old) (R.state source.new)) }
     ensures source { UsedRowSource (R.state source.old) (R.state source.new) }

@@ -1,6 +1,6 @@
 //! Selections.
 
-ghost use Rattle.std.specs.Prelude.{◌≡◌, ◌+◌, ◌≤◌, ◌++◌, [], ◌∷◌, length, take, filter, reverse, IfOk, IfErr, IfSome, OnOk};
+ghost use Rattle.std.specs.Prelude.{◌≡◌, ◌+◌, ◌≤◌, ◌++◌, [], ◌∷◌, length, filter, reverse, IfOk, IfErr, IfSome, OnOk};
 ghost use Rattle.std.specs.List.{AllByRecursion};
 ghost use Rattle.partitions.specs.Partitions.{AreRising};
 ghost use Rattle.partitions.specs.Rows.{is_of_parts};
@@ -109,10 +109,10 @@ fn select_days<R: RowSource, L: Ledger>(
 ) -> Result<Vec<Row>, RowFault>
     requires { AreRising parts.now }
     ensures rows { IfOk result (λ rows. IfSome (R.state source.old).history (λ history. rows.items ≡ truncated statement.now.limit
-        (selected_between statement.now parts.now bounds.now.from bounds.now.to (take front history)))) }
+        (selected_between statement.now parts.now bounds.now.from bounds.now.to (history front)))) }
     ensures each { IfOk result (λ rows. AllByRecursion IsKeyedRow rows.items) }
     ensures steps { IfSome (R.state source.old).history (λ history. steps.new ≤ steps.old + length (filter
-        (is_of_parts parts.now) (merged_between statement.now.sources bounds.now.from bounds.now.to (take front history)))) }
+        (is_of_parts parts.now) (merged_between statement.now.sources bounds.now.from bounds.now.to (history front)))) }
     ensures refused { IfErr result (IsRowFault (R.state source.old) (R.state source.new)) }
     ensures source { UsedRowSource (R.state source.old) (R.state source.new) }
 {
@@ -148,10 +148,10 @@ fn select_rows<R: RowSource, L: Ledger>(
     steps: &mut Steps<L>,
 ) -> Result<Vec<Row>, RowFault>
     ensures rows { IfOk result (λ rows. IfSome (R.state source.old).history (λ history.
-        HoldsSelected statement.now parts.now (take front history) → rows.items ≡ selection_of statement.now (take front history))) }
+        HoldsSelected statement.now parts.now (history front) → rows.items ≡ selection_of statement.now (history front))) }
     ensures each { IfOk result (λ rows. AllByRecursion IsKeyedRow rows.items) }
     ensures steps { IfSome (R.state source.old).history (λ history. steps.new ≤ steps.old + length
-        (rows_of_sources statement.now.sources parts.now (take front history))) }
+        (rows_of_sources statement.now.sources parts.now (history front))) }
     ensures refused { IfErr result (IsRowFault (R.state source.old) (R.state source.new)) }
     ensures source { UsedRowSource (R.state source.old) (R.state source.new) }
 {
@@ -186,10 +186,10 @@ pub fn select<'a, R: RowSource, L: Ledger>(
 ) -> Result<SelectionText<'a>, RowFault>
     // Where the partitions hold all that is selected.
     ensures text { IfOk result (λ text. IfSome (R.state source.old).history (λ history.
-        HoldsSelected statement.now parts.now (take front history)
-        → text ≡ selection_text names.now statement.now (take front history))) }
+        HoldsSelected statement.now parts.now (history front)
+        → text ≡ selection_text names.now statement.now (history front))) }
     ensures steps { IfSome (R.state source.old).history (λ history. steps.new ≤ steps.old + length
-        (rows_of_sources statement.now.sources parts.now (take front history))) }
+        (rows_of_sources statement.now.sources parts.now (history front))) }
     ensures refused { IfErr result (IsRowFault (R.state source.old) (R.state source.new)) }
     ensures source { UsedRowSource (R.state source.old) (R.state source.new) }
 {

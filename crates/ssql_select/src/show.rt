@@ -75,7 +75,7 @@ pub fn partition_lines<R: RowSource>(
     front: u64,
 ) -> Result<Vec<ShowLine>, RowFault>
     ensures lines { IfOk result (λ lines. IfSome (R.state source.old).history (λ history.
-        lines.items ≡ spec.partition_lines front table history parts.now)) }
+        lines.items ≡ spec.partition_lines table (history front) parts.now)) }
     ensures refused { IfErr result (IsRowFault (R.state source.old) (R.state source.new)) }
     ensures source { UsedRowSource (R.state source.old) (R.state source.new) }
 {

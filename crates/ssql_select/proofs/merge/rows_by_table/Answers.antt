@@ -1,11 +1,10 @@
-use Rattle.std.proofs.Common.{◌≡◌, List, Option, get_or, w64, SFits, ◌∙◌, sym, subst, arith, rules}
+use Rattle.std.proofs.Common.{◌≡◌, ℕ, List, Option, get_or, w64, SFits, ◌∙◌, sym, subst, arith, rules}
 use Rattle.std.proofs.lemmas.Int.{to_z-of_z}
 use Rattle.std.specs.Prelude.{IfSome}
 use Rattle.std.specs.List.{AllByRecursion}
 use Rattle.arch_types.specs.declared.row.Row.{Row}
 use Rattle.partitions.proofs.Parted.{default_free}
-use Rattle.partitions.specs.Rows.{parts_between}
-use Rattle.replay_merge.specs.RowSource.{IsKeyedRow}
+use Rattle.replay_merge.specs.RowSource.{IsKeyedRow, range_of_parts}
 use Rattle.replay_merge.proofs.Reading.{all_both}
 use Rattle.ssql_select.proofs.Merged.{one_table_more, keyed_between}
 use Rattle.ssql_select.proofs.merge.rows_by_table.Goals as goal
@@ -33,6 +32,6 @@ loop-table-preserved g c =
     record {
       used = record { told = got.source.told ∙ used.told; later = omega (arith, used.later, got.source.later) };
       rows = one_table_more parts bounds.from bounds.to c.args.front told tables i table loop.rows.items more all c.loop-table-test.true is loop.invariant.rows
-          (subst (λ (o : Option (List Row)). IfSome o (λ history. more ≡ parts_between c.args.front table parts bounds.from bounds.to history)) used.told given) c.in_ok-rows.ensures;
+          (subst (λ (o : Option (ℕ → List Row)). IfSome o (λ history. more ≡ range_of_parts table parts bounds.from bounds.to (history c.args.front))) used.told given) c.in_ok-rows.ensures;
       each = subst (AllByRecursion IsKeyedRow) (sym c.in_ok-rows.ensures) (all_both IsKeyedRow loop.rows.items more loop.invariant.each (keyed_between table parts bounds.from bounds.to more each_given));
     }

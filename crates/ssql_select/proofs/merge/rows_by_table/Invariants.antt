@@ -9,6 +9,6 @@ abbrev pub invariant-loop-table : goal.invariant-loop-table
 invariant-loop-table g l = record {
   used : UsedRowSource (g.R.RowSource.state l.fn.source) (g.R.RowSource.state l.source);
   rows : IfSome (g.R.RowSource.state l.fn.source).history (λ history.
-      l.rows.items ≡ rows_between_of (take l.table-index l.tables) l.parts l.bounds.from l.bounds.to (take l.front history));
+      l.rows.items ≡ rows_between_of (take l.table-index l.tables) l.parts l.bounds.from l.bounds.to (history l.front));
   each : AllByRecursion IsKeyedRow l.rows.items;
 }

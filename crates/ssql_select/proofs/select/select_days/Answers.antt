@@ -1,4 +1,4 @@
-use Rattle.std.proofs.Common.{◌≡◌, ◌∙◌, List, Option, reverse, take, true, sym, subst, arith}
+use Rattle.std.proofs.Common.{◌≡◌, ◌∙◌, ℕ, List, Option, reverse, true, sym, subst, arith}
 use Rattle.std.specs.Prelude.{filter, IfSome}
 use Rattle.arch_types.specs.declared.row.Row.{Row}
 use Rattle.arch_types.specs.Table.{sorted}
@@ -23,7 +23,7 @@ days-preserved g c =
     let turned = c.turned-rows.result.items in
     let used = c.days.invariant.used in
     let given = rw c.as_slice-tables.ensures at c.in_ok-rows.ensures.rows in
-    let got = subst (λ (o : Option (List Row)). IfSome o (λ history. rows ≡ sorted (rows_between_of statement.sources day bounds.from bounds.to (take front history)))) used.told given in
+    let got = subst (λ (o : Option (ℕ → List Row)). IfSome o (λ history. rows ≡ sorted (rows_between_of statement.sources day bounds.from bounds.to (history front)))) used.told given in
     let new = c.add_met.new.selected.items in
     record {
       used = record { told = c.in_ok-rows.ensures.source.told ∙ used.told; later = omega (arith, used.later, c.in_ok-rows.ensures.source.later) };
@@ -49,8 +49,8 @@ returns-in_err-add_met-clause-steps g c =
     let turned = c.turned-rows.result.items in
     let used = c.days.invariant.used in
     let given = rw c.as_slice-tables.ensures at c.in_ok-rows.ensures.rows in
-    let got = subst (λ (o : Option (List Row)). IfSome o (λ history. rows ≡ sorted (rows_between_of statement.sources day bounds.from bounds.to (take front history)))) used.told given in
-    let all = λ (ps : List _) (history : List Row). filter (is_of_parts ps) (merged_between statement.sources bounds.from bounds.to (take front history)) in
+    let got = subst (λ (o : Option (ℕ → List Row)). IfSome o (λ history. rows ≡ sorted (rows_between_of statement.sources day bounds.from bounds.to (history front)))) used.told given in
+    let all = λ (ps : List _) (history : ℕ → List Row). filter (is_of_parts ps) (merged_between statement.sources bounds.from bounds.to (history front)) in
     steps_within told (all rest) (all parts) c.add_met.new.steps c.args.steps.now
     (day_counted statement left day rest bounds.from bounds.to front rows turned c.split_day.ensures.rows told c.days.steps c.add_met.new.steps c.args.steps.now parts got c.turned-rows.ensures.len c.add_met.ensures.steps c.days.invariant.steps)
 

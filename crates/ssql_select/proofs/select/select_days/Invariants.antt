@@ -1,4 +1,4 @@
-use Rattle.std.proofs.Common.{◌≡◌, ◌+◌, ◌≤◌, ◌++◌, length, take}
+use Rattle.std.proofs.Common.{◌≡◌, ◌+◌, ◌≤◌, ◌++◌, length}
 use Rattle.std.specs.Prelude.{filter, IfSome}
 use Rattle.std.specs.List.{AllByRecursion}
 use Rattle.partitions.specs.Partitions.{AreRising}
@@ -16,10 +16,10 @@ invariant-days g l =
       rising : AreRising l.left;
       within : truncated l.statement.limit l.selected.items ≡ l.selected.items;
       found : AllByRecursion IsKeyedRow l.selected.items;
-      rows : IfSome told (λ history. truncated l.statement.limit (l.selected.items ++ selected_between l.statement l.left l.bounds.from l.bounds.to (take l.front history))
-          ≡ truncated l.statement.limit (selected_between l.statement l.parts l.bounds.from l.bounds.to (take l.front history)));
-      steps : IfSome told (λ history. l.steps + length (filter (is_of_parts l.left) (merged_between l.statement.sources l.bounds.from l.bounds.to (take l.front history)))
-          ≤ l.initial.steps + length (filter (is_of_parts l.parts) (merged_between l.statement.sources l.bounds.from l.bounds.to (take l.front history))));
+      rows : IfSome told (λ history. truncated l.statement.limit (l.selected.items ++ selected_between l.statement l.left l.bounds.from l.bounds.to (history l.front))
+          ≡ truncated l.statement.limit (selected_between l.statement l.parts l.bounds.from l.bounds.to (history l.front)));
+      steps : IfSome told (λ history. l.steps + length (filter (is_of_parts l.left) (merged_between l.statement.sources l.bounds.from l.bounds.to (history l.front)))
+          ≤ l.initial.steps + length (filter (is_of_parts l.parts) (merged_between l.statement.sources l.bounds.from l.bounds.to (history l.front))));
     }
 
 abbrev pub decreases-days : goal.decreases-days

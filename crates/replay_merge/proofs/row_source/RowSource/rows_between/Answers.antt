@@ -1,10 +1,9 @@
-use Rattle.std.proofs.Common.{◌≡◌, inr, List, Option, get_or, w64, to_z, of_z, ◌∙◌, subst, arith}
+use Rattle.std.proofs.Common.{◌≡◌, inr, ℕ, List, Option, get_or, w64, to_z, of_z, ◌∙◌, subst, arith}
 use Rattle.std.specs.Prelude.{IfSome}
 use Rattle.std.proofs.lemmas.Int.{to_z-of_z}
 use Rattle.arch_types.specs.declared.row.Row.{Row}
-use Rattle.partitions.specs.Rows.{partition_at}
 use Rattle.partitions.proofs.Parted.{no_partition, default_free}
-use Rattle.replay_merge.specs.RowSource.{IsRowSourceHistory}
+use Rattle.replay_merge.specs.RowSource.{AreRowSourceHistories, rows_of_partition}
 use Rattle.replay_merge.proofs.Gathered.{one_part_more, each_part_more, all_gathered, between_read, each_moved}
 use Rattle.replay_merge.proofs.row_source.RowSource.rows_between.Goals as goal
 
@@ -25,9 +24,9 @@ loop-partition-preserved g c =
     record {
       used = record { told = got.source.told ∙ used.told; later = omega (arith, used.later, got.source.later) };
       rows = one_part_more c.args.table c.args.front low high parts i partition c.loop-partition-test.true is told loop.rows.items given all loop.invariant.rows
-          (subst (λ (o : Option (List Row)). IfSome o (λ history. given ≡ partition_at c.args.front c.args.table partition history)) used.told got.told) c.in_ok-rows.ensures;
+          (subst (λ (o : Option (ℕ → List Row)). IfSome o (λ history. given ≡ rows_of_partition c.args.table partition (history c.args.front))) used.told got.told) c.in_ok-rows.ensures;
       each = each_part_more c.args.table c.args.front low high parts i partition c.loop-partition-test.true is loop.rows.items given all loop.invariant.each got.each.each c.in_ok-rows.ensures;
-      told = inr (subst (λ (o : Option (List Row)). IfSome o IsRowSourceHistory) used.told got.history);
+      told = inr (subst (λ (o : Option (ℕ → List Row)). IfSome o AreRowSourceHistories) used.told got.history);
     }
 
 pub returns-clause-told : goal.returns-clause-told

@@ -11,7 +11,7 @@ abbrev pub invariant-loop-partition : goal.invariant-loop-partition
 invariant-loop-partition g l = record {
   used : UsedRowSource (g.Self.RowSource.state l.fn.self) (g.Self.RowSource.state l.self);
   rows : IfSome (g.Self.RowSource.state l.fn.self).history (λ history.
-      l.rows.items ≡ by_parts (take l.partition-index l.parts) (range_of l.table l.from l.to (take l.front history)));
+      l.rows.items ≡ by_parts (take l.partition-index l.parts) (range_of l.table l.from l.to (history l.front)));
   each : AllByRecursion (IsRowBetween l.table l.parts l.from l.to) l.rows.items;
   told : IsToldHistory (g.Self.RowSource.state l.fn.self).history l.rows.items;
 }
