@@ -13,3 +13,4 @@ pub mod Down
 pub mod Names
 pub mod Positions
 pub mod Children
+pub mod ByNumber

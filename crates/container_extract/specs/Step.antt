@@ -1,10 +1,12 @@
 -- One step from a container to the next.
-use Rattle.std.specs.Prelude.{◌≡◌, ℕ, Bool, false, List, ◌++◌, length, map, nat_lt, slice_get, Option, Some, None, if◌then◌else◌}
-use Rattle.std.specs.List.{list_all, take_while}
+use Rattle.std.specs.Prelude.{◌≡◌, ◌||◌, ℕ, Bool, false, List, [], ◌++◌, length, map, nat_le, nat_lt, slice_get, Option, Some, None, if◌then◌else◌}
+use Rattle.std.specs.List.{find, list_all, take_while}
 use Rattle.mdb_items.specs.declared.container.Comparison.{Comparison}
 use Rattle.mdb_items.specs.declared.container.Container.{Container}
 use Rattle.mdb_items.specs.Database.{Database}
 use Rattle.mdb_items.specs.Paths.{path_at, paths_of}
+use Rattle.mdb_lookups.specs.declared.numbered_children.NumberedChildren.{NumberedChildren}
+use Rattle.mdb_lookups.specs.NumberedChildren.{children_at}
 use Rattle.mdb_lookups.specs.PlacedConditions.{path_parameters, placed_condition}
 use Rattle.container_extract.specs.declared.values.RawValue.{RawValue}
 use Rattle.container_extract.specs.Chain.{entries_at, first_child}
@@ -38,3 +40,22 @@ holds_by_places values condition = list_all (is_met_at values) condition
 -- the container with a number is there, and its condition holds of the values at its places
 abbrev pub holds_at : List Container → List RawValue → ℕ → Bool
 holds_at containers values n = if nat_lt n (length containers) then holds_by_places values (placed_condition containers n) else false
+
+-- the children that ask for the number of a value, where there is a value
+abbrev pub children_asking : NumberedChildren → Option RawValue → List ℕ
+children_asking children None = []
+children_asking children (Some v) = children_at children.by_number v.raw
+
+-- a container stands no earlier than the first one that was found, where one was
+abbrev pub is_behind : Option ℕ → ℕ → Bool
+is_behind None n = false
+is_behind (Some first) n = nat_le first n
+
+-- the first one that was found, unless another stands earlier
+abbrev pub earlier_of : Option ℕ → Option ℕ → Option ℕ
+earlier_of first None = first
+earlier_of first (Some other) = if is_behind first other then first else Some other
+
+-- the first one that was found, unless another that a test passes stands earlier
+abbrev pub first_unless : (ℕ → Bool) → Option ℕ → List ℕ → Option ℕ
+first_unless test first others = earlier_of first (find (λ n. is_behind first n || test n) others)

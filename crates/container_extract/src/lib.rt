@@ -9,7 +9,8 @@
 //
 // The idea of the proof: whatever goes on from the containers so far makes a chain (proofs/Walk.antt), so that the walk ends with one.
 // The values so far are those of the path's entries in their order, so that a condition finds each value at the place that the database keeps
-// beside the comparison (proofs/Placed.antt).
+// beside the comparison (proofs/Placed.antt). A child whose condition begins by asking for another number than the one that stands there
+// doesn't hold, so that it need not be asked (proofs/ByNumber.antt).
 // A container's children all stand after it in the sheet, so the walk ends: that and what else is used of a database is mdb_model's law (`IsStructured`).
 //
 // A caller has one extractor for all packets, and calibrates the values that it asks for:

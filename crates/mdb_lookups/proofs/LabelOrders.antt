@@ -11,7 +11,7 @@ AreOwnOrders calibrations orders = (n : ℕ) (order : List (ℤ × ℕ)) → sli
     → (c : Calibration) → slice_get calibrations n ≡ Some c → AreLabelsSorted (labels_of_calibrator c.calibrator) order
 
 -- what holds of each item at its place holds with one more
-each_more : {X : Type 0} (P : ℕ → X → Type 0) (xs : List X) (x : X) → ((n : ℕ) (y : X) → slice_get xs n ≡ Some y → P n y) → P (length xs) x
+pub each_more : {X : Type 0} (P : ℕ → X → Type 0) (xs : List X) (x : X) → ((n : ℕ) (y : X) → slice_get xs n ≡ Some y → P n y) → P (length xs) x
     → (n : ℕ) (y : X) → slice_get (xs ++ x ∷ []) n ≡ Some y → P n y
 each_more P [] x all here zero y is = subst (P 0) (same_Some x y is) here
 each_more P [] x all here (suc n) y is = cc

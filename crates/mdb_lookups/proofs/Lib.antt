@@ -7,3 +7,4 @@ pub mod SortedKeys
 pub mod LabelsInOrder
 pub mod LabelOrders
 pub mod PathPlaces
+pub mod ByNumber

@@ -4,3 +4,4 @@ pub mod Lookups
 pub mod SortedKeys
 pub mod LabelOrder
 pub mod PlacedConditions
+pub mod NumberedChildren

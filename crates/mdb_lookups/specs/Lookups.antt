@@ -8,15 +8,17 @@ use Rattle.mdb_lookups.specs.declared.lookups.Lookups.{Lookups}
 use Rattle.mdb_lookups.specs.Children.{AreChildren}
 use Rattle.mdb_lookups.specs.LabelOrder.{AreLabelOrders}
 use Rattle.mdb_lookups.specs.NameOrder.{IsNameOrder}
+use Rattle.mdb_lookups.specs.NumberedChildren.{AreAllByNumber}
 use Rattle.mdb_lookups.specs.PlacedConditions.{ArePlacedConditions}
 
--- the numbers in the order of the items' names; beside the containers their children and their conditions, placed; and the
--- raw numbers of labels in their order
+-- the numbers in the order of the items' names; beside the containers their children, their conditions, placed, and the
+-- children by number; and the raw numbers of labels in their order
 pub record AreLookups (parameters : List Parameter) (calibrations : List Calibration) (containers : List Container) (l : Lookups) : Type 0 where
   pub parameter_order : IsNameOrder (map (λ p. p.name) parameters) l.parameter_order.items
   pub container_order : IsNameOrder (map (λ c. c.name) containers) l.container_order.items
   pub children : AreChildren containers l.children.items
   pub placed_conditions : ArePlacedConditions containers l.placed_conditions.items
+  pub numbered_children : AreAllByNumber l.placed_conditions.items l.children.items l.numbered_children.items
   pub label_orders : AreLabelOrders calibrations l.label_orders.items
 
 -- the calibration with a number, where there is a number

@@ -7,6 +7,7 @@ ghost use Rattle.mdb_lookups.specs.Lookups.{AreLookups};
 use crate::children::children_of;
 use crate::label_order::label_orders;
 use crate::name_order::name_order;
+use crate::numbered_children::{NumberedChildren, numbered_children};
 use crate::placed_conditions::placed_conditions;
 use item_list::items::Items;
 use mdb_items::calibration::Calibration;
@@ -25,6 +26,8 @@ pub struct Lookups {
     pub children: Vec<Items<u16>>,
     /// For each container its condition, each comparison with its place on the path of the parent (D-72).
     pub placed_conditions: Vec<Items<(Comparison, usize)>>,
+    /// For each container those directly below it, by the numbers that their conditions begin by asking for.
+    pub numbered_children: Vec<NumberedChildren>,
     /// For each calibration the raw numbers of its labels with their rows, sorted.
     pub label_orders: Vec<Items<(i128, usize)>>,
 }
@@ -46,12 +49,18 @@ impl Lookups {
         let container_order = name_order(alloc, containers)?;
         let children = children_of(alloc, containers)?;
         let placed_conditions = placed_conditions(alloc, containers)?;
+        let numbered_children = numbered_children(
+            alloc,
+            children.as_slice(),
+            placed_conditions.as_slice(),
+        )?;
         let label_orders = label_orders(alloc, calibrations)?;
         Ok(Lookups {
             parameter_order,
             container_order,
             children,
             placed_conditions,
+            numbered_children,
             label_orders,
         })
     }

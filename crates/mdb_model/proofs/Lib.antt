@@ -14,3 +14,4 @@ pub mod Counts
 pub mod Distinct
 pub mod Calibrators
 pub mod Structure
+pub mod NumberedLists

@@ -6,6 +6,7 @@ ghost use Rattle.mdb_lookups.specs.Children.{children_of};
 ghost use Rattle.mdb_items.specs.Database.{IsDatabase, limit_passed};
 ghost use Rattle.mdb_lookups.specs.LabelOrder.{label_row_by};
 ghost use Rattle.mdb_lookups.specs.Lookups.{calibration_numbered, calibration_of};
+ghost use Rattle.mdb_lookups.specs.NumberedChildren.{AreByNumber, conditions_of};
 ghost use Rattle.mdb_lookups.specs.PlacedConditions.{placed_condition};
 ghost use Rattle.mdb_model.specs.SheetResults.{AreSpelledLists, IsCalibrationSheetResult, IsContainerSheetResult, IsParameterSheetResult, IsLimitsResult, database_of_lists};
 ghost use Rattle.mdb_model.specs.Rechecking.{ListsRechecked, refusal};
@@ -30,6 +31,7 @@ use mdb_lookups::equality::are_same;
 use mdb_lookups::label_order::label_row_by;
 use mdb_lookups::lookups::Lookups;
 use mdb_lookups::name_order::number_of;
+use mdb_lookups::numbered_children::NumberedChildren;
 use mdb_octets::reading::{ItemLists, item_lists};
 use mdb_octets::spelling::spelling;
 use mdb_rules::calibration_rows::Calibrations;
@@ -55,6 +57,8 @@ struct Inner {
     children: Vec<Items<u16>>,
     /// For each container its condition, each comparison with its place on the path of the parent.
     placed_conditions: Vec<Items<(Comparison, usize)>>,
+    /// For each container those directly below it, by the numbers that their conditions begin by asking for.
+    numbered_children: Vec<NumberedChildren>,
     /// For each calibration the raw numbers of its labels with their rows, sorted.
     label_orders: Vec<Items<(i128, usize)>>,
 }
@@ -198,6 +202,7 @@ pub(crate) fn within_limits(
             containers: containers.items,
             children: lookups.children,
             placed_conditions: lookups.placed_conditions,
+            numbered_children: lookups.numbered_children,
             label_orders: lookups.label_orders,
         },
     )?;
@@ -344,6 +349,15 @@ impl Mdb {
         ensures { result.now ≡ children_of self.now.containers n }
     {
         self.inner.children[n as usize].as_slice()
+    }
+
+    /// The containers directly below the one with a number, by the numbers that their conditions begin by asking for.
+    pub fn numbered_children(&self, n: u16) -> &NumberedChildren
+        requires { n < length self.now.containers }
+        ensures { AreByNumber (conditions_of self.now.containers) (children_of self.now.containers n) result.now }
+    {
+        let inner = &*self.inner;
+        &inner.numbered_children[n as usize]
     }
 
     /// The condition of the container with a number, each comparison with the place at which its parameter stands among the

@@ -28,5 +28,6 @@ invariant_of-shared c =
       container_order = lookups.container_order;
       children = lookups.children;
       placed_conditions = lookups.placed_conditions;
+      numbered_children = lookups.numbered_children;
       label_orders = lookups.label_orders;
     }
