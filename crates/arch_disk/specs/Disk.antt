@@ -1,5 +1,5 @@
 -- A disk of numbered files: what its values mean, and how a call changes that.
-use Rattle.std.specs.Prelude.{◌≡◌, ◌⊎◌, ℕ, ◌+◌, ◌-◌, ◌^◌, ◌<◌, ◌≤◌, min, max, Bool, IsTrue, List, length, Result, OnErr, is_ok, if◌then◌else◌}
+use Rattle.std.specs.Prelude.{◌≡◌, ◌⊎◌, ℕ, ◌+◌, ◌-◌, ◌^◌, ◌<◌, ◌≤◌, min, max, Bool, IsTrue, List, length, Result, OnErr, OnOk, is_ok, if◌then◌else◌}
 use Rattle.arch_disk.specs.Image.{Image}
 
 -- Everything that is known of the disks of a type: the meanings of their values, and the laws of these meanings.
@@ -60,10 +60,15 @@ raised count = max count (min (count + 1) (2 ^ 64 - 1))
 abbrev pub NoWriteFailed : {D : Type 0} → Device D → D → D → Type 0
 NoWriteFailed device before after = device.failed_writes after ≡ device.failed_writes before
 
--- the count of faults has not fallen, and a call that failed has raised it
+-- no call failed
+abbrev pub NoFault : {D : Type 0} → Device D → D → D → Type 0
+NoFault device before after = device.fault_count after ≡ device.fault_count before
+
+-- The count of faults never falls, and rises where the call failed and nowhere else: what it counts is told to the caller.
 pub record HasCause {D T E : Type 0} (device : Device D) (old new : D) (result : Result T E) : Type 0 where
   pub later : device.fault_count old ≤ device.fault_count new
   pub failed : OnErr result (raised (device.fault_count old) ≤ device.fault_count new)
+  pub told : OnOk result (NoFault device old new)
 
 -- the count of failed writes rises exactly where the call failed
 abbrev pub CountsFailure : {D T E : Type 0} → Device D → D → D → Result T E → Type 0

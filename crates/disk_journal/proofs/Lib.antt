@@ -7,3 +7,4 @@ pub mod Once
 pub mod Opened
 pub mod Pieces
 pub mod Reading
+pub mod Told

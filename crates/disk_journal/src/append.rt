@@ -1,6 +1,7 @@
 // One record more, and what is done when that fails.
 ghost use Rattle.std.specs.Prelude.{◌≡◌, [], ◌∷◌, None, IsTrue, OnOk, IfOk, IfErr};
 ghost use Rattle.disk_journal.specs.Calls.{CountsNeverFall, CrashLeavesRecords, IsAppended, IsAppendRefusal, IsHealed, IsHealRefusal, LeavesOthers, unhealed_records_of};
+ghost use Rattle.disk_journal.specs.Faults.{TellsFaults};
 ghost use Rattle.disk_journal.specs.State.{IsOnDisk, HasRoom, file_of, unhealed_fault};
 
 use crate::journal::{Extent, Journal, PendingFault};
@@ -30,6 +31,9 @@ impl Journal {
         ensures others { LeavesOthers D.device (file_of self.old) disk.old disk.new }
         ensures sound { IsTrue D.device.is_transparent → IsOnDisk D.device self.new disk.new }
         ensures counts { CountsNeverFall D.device disk.old disk.new }
+
+        // A failed call of the disk is never passed over.
+        ensures told { TellsFaults D.device disk.old disk.new result }
         ensures file { file_of self.new ≡ file_of self.old }
     {
         match self.pending_fault {
@@ -79,6 +83,9 @@ impl Journal {
         ensures others { LeavesOthers D.device (file_of self.old) disk.old disk.new }
         ensures sound { IsTrue D.device.is_transparent → IsOnDisk D.device self.new disk.new }
         ensures counts { CountsNeverFall D.device disk.old disk.new }
+
+        // A failed call of the disk is never passed over.
+        ensures told { TellsFaults D.device disk.old disk.new result }
         ensures file { file_of self.new ≡ file_of self.old }
     {
         match self.pending_fault {

@@ -4,6 +4,7 @@ ghost use Rattle.arch_disk.specs.Image.{Image};
 ghost use Rattle.arch_disk.specs.Disk.{IsDurable, LeavesOnly, NoWriteFailed, OnlyReads, HasCause, raised};
 ghost use Rattle.disk_journal.specs.Format.{HasRecords, IsDamagedAt, HoldsNone, IsBeforeOrAfter};
 ghost use Rattle.disk_journal.specs.Calls.{BeginsOpen, IsPrepareRefusal, LeavesOthers};
+ghost use Rattle.disk_journal.specs.Faults.{TellsFaults};
 ghost use Rattle.disk_journal.specs.declared.fault.JournalFault.TheVariants.{DiskFault};
 ghost use Rattle.disk_journal.specs.State.{IsUntouched};
 
@@ -77,6 +78,7 @@ fn prepare<D: Disk>(disk: &mut D, file: u32) -> Result<(), JournalFault>
         IsUntouched D.device disk.old disk.new }
     ensures later { D.device.fault_count disk.old ≤ D.device.fault_count disk.new }
     ensures no_failed_write { OnOk result (NoWriteFailed D.device disk.old disk.new) }
+    ensures told { TellsFaults D.device disk.old disk.new result }
 {
     flush(disk, file)?;
     let len = len_of(disk, file)?;
@@ -119,6 +121,9 @@ impl Journal {
         ensures others { LeavesOthers D.device file disk.old disk.new }
         ensures sound { IsTrue D.device.is_transparent → IfOk result (λ journal. IsOnDisk D.device journal disk.new) }
         ensures counts { CountsNeverFall D.device disk.old disk.new }
+
+        // A failed call of the disk is never passed over.
+        ensures told { TellsFaults D.device disk.old disk.new result }
     {
         let _size = first.len();
         let mut journal = Journal {
@@ -180,6 +185,9 @@ impl Journal {
         ensures untouched { IsUntouched D.device disk.old disk.new }
         ensures sound { IsTrue D.device.is_transparent → IfOk result (λ journal. IsOnDisk D.device journal disk.new) }
         ensures counts { CountsNeverFall D.device disk.old disk.new }
+
+        // A failed call of the disk is never passed over.
+        ensures told { TellsFaults D.device disk.old disk.new result }
     {
         let opening = Opening::begin(alloc, disk, file)?;
         opening.finish_all(disk)
@@ -213,6 +221,9 @@ impl Journal {
             IfOk result (λ body. slice_get (records_of D.device self.now disk.old) i ≡ Some body.items) }
         ensures refused { IfErr result (IsRecordRefusal D.device disk.old disk.new) }
         ensures looked { OnlyReads D.device disk.old disk.new }
+
+        // A failed call of the disk is never passed over.
+        ensures told { TellsFaults D.device disk.old disk.new result }
     {
         let extent = self.extents[i as usize];
         octets_at(alloc, disk, self.file, extent.at, extent.len)

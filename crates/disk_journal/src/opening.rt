@@ -1,6 +1,7 @@
 // A journal that is being read, record after record, in one pass.
 ghost use Rattle.std.specs.Prelude.{◌≡◌, ◌≢◌, ◌+◌, ◌<◌, ◌^◌, ◌≤◌, ◌⊎◌, ◌++◌, [], ◌∷◌, List, ℕ, IsTrue, false, length, get_or, take, drop, OnOk, IfOk, IfErr, IfSome, None};
 ghost use Rattle.arch_disk.specs.Disk.{OnlyReads, raised};
+ghost use Rattle.disk_journal.specs.Faults.{TellsFaults};
 ghost use Rattle.disk_journal.specs.State.{IsReadFault, IsUntouched};
 ghost use Rattle.disk_journal.specs.declared.fault.JournalFault.TheVariants.{DiskFault};
 
@@ -34,6 +35,9 @@ impl Opening {
 
         // Refused: the file doesn't begin with an open gate, or the disk failed.
         ensures refused { IfErr result (IsBeginRefusal D.device file disk.old disk.new) }
+
+        // A failed call of the disk is never passed over.
+        ensures told { TellsFaults D.device disk.old disk.new result }
         ensures untouched { IsUntouched D.device disk.old disk.new }
         ensures counts { CountsNeverFall D.device disk.old disk.new }
     {
@@ -71,6 +75,7 @@ impl Opening {
         ensures only { IfErr result IsReadFault }
         ensures cause { result ≡ Err (DiskFault false) →
             raised (D.device.fault_count disk.old) ≤ D.device.fault_count disk.new }
+        ensures told { TellsFaults D.device disk.old disk.new result }
     {
         if self.at > 0 && self.reader.octet(disk, self.at)? != 1 {
             return Ok(None);
@@ -118,6 +123,9 @@ impl Opening {
 
         // Refused: the next record, with the gate octet after it, passes the file's end; a read failed; or memory is wanting.
         ensures refused { IfErr result (IsNextRefusal D.device self.old disk.old disk.new) }
+
+        // A failed call of the disk is never passed over.
+        ensures told { TellsFaults D.device disk.old disk.new result }
         ensures looked { OnlyReads D.device disk.old disk.new }
         ensures file { file_read self.new ≡ file_read self.old }
     {
@@ -137,6 +145,7 @@ impl Opening {
         requires none_read { IsTrue D.device.is_transparent → IsAt self (content_read D.device self disk.old) [] }
         ensures read { IfOk result (IsReadWhole D.device self disk.old) }
         ensures refused { IfErr result (IsReadWholeRefusal D.device self disk.old disk.new) }
+        ensures told { TellsFaults D.device disk.old disk.new result }
         ensures looked { OnlyReads D.device disk.old disk.new }
     {
         'records: while let Some(extent) = self.read_header(disk)? {

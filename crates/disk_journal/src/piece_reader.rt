@@ -2,6 +2,7 @@
 ghost use Rattle.std.specs.Prelude.{◌≡◌, ◌+◌, ◌^◌, ◌<◌, ◌≤◌, ◌⊎◌, None, IsTrue, false, length, take, drop, get_or, OnOk, IfOk, IfErr, IfSome};
 ghost use Rattle.std.specs.Int.{w32, from_be_bytes, to_be_bytes};
 ghost use Rattle.arch_disk.specs.Disk.{OnlyReads, raised};
+ghost use Rattle.disk_journal.specs.Faults.{TellsFaults};
 ghost use Rattle.disk_journal.specs.declared.fault.JournalFault.TheVariants.{DiskFault, OutOfMemory};
 
 use crate::JournalFault;
@@ -86,6 +87,7 @@ impl PieceReader {
         ensures only { IfErr result (λ e. (e ≡ DiskFault false) ⊎ (e ≡ OutOfMemory)) }
         ensures cause { result ≡ Err (DiskFault false) →
             raised (D.device.fault_count disk.old) ≤ D.device.fault_count disk.new }
+        ensures told { TellsFaults D.device disk.old disk.new result }
     {
         if self.held(at).len() >= size {
             return Ok(());
@@ -112,6 +114,7 @@ impl PieceReader {
         ensures only { IfErr result (λ e. (e ≡ DiskFault false) ⊎ (e ≡ OutOfMemory)) }
         ensures cause { result ≡ Err (DiskFault false) →
             raised (D.device.fault_count disk.old) ≤ D.device.fault_count disk.new }
+        ensures told { TellsFaults D.device disk.old disk.new result }
     {
         self.hold(disk, at, 1)?;
         Ok(self.held(at)[0])
@@ -131,6 +134,7 @@ impl PieceReader {
         ensures only { IfErr result (λ e. (e ≡ DiskFault false) ⊎ (e ≡ OutOfMemory)) }
         ensures cause { result ≡ Err (DiskFault false) →
             raised (D.device.fault_count disk.old) ≤ D.device.fault_count disk.new }
+        ensures told { TellsFaults D.device disk.old disk.new result }
     {
         self.hold(disk, at, 4)?;
         Ok(number_of(&self.held(at)[..4]))
@@ -155,6 +159,7 @@ impl PieceReader {
         ensures only { IfErr result (λ e. (e ≡ DiskFault false) ⊎ (e ≡ OutOfMemory)) }
         ensures cause { result ≡ Err (DiskFault false) →
             raised (D.device.fault_count disk.old) ≤ D.device.fault_count disk.new }
+        ensures told { TellsFaults D.device disk.old disk.new result }
     {
         let size = size as usize;
         match self.part_held(at, size)? {

@@ -4,6 +4,7 @@ ghost use Rattle.std.specs.Prelude.{◌≡◌, ◌+◌, ◌<◌, ◌≤◌, ◌�
 ghost use Rattle.std.specs.Int.{w32, from_be_bytes, to_be_bytes};
 ghost use Rattle.arch_disk.specs.Image.{Image, AgreesBut, Torn, InFile, Becomes, overwritten};
 ghost use Rattle.arch_disk.specs.Disk.{AddsNoImage, IsDurable, LeavesOnly, OnlyReads, HasCause, CountsFailure, raised};
+ghost use Rattle.disk_journal.specs.Faults.{TellsFaults};
 ghost use Rattle.disk_journal.specs.declared.fault.JournalFault.TheVariants.{DiskFault, OutOfMemory};
 
 use crate::JournalFault;
@@ -124,6 +125,7 @@ pub fn octets_at<D: Disk>(
     ensures only { IfErr result (λ e. (e ≡ DiskFault false) ⊎ (e ≡ OutOfMemory)) }
     ensures cause { result ≡ Err (DiskFault false) →
         raised (D.device.fault_count disk.old) ≤ D.device.fault_count disk.new }
+    ensures told { TellsFaults D.device disk.old disk.new result }
 {
     let Ok(mut octets) = vec![in alloc; 0u8; size as usize] else {
         return Err(JournalFault::OutOfMemory);

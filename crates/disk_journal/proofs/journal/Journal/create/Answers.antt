@@ -5,6 +5,7 @@ use Rattle.disk_journal.specs.Format.{HoldsNone}
 use Rattle.disk_journal.specs.declared.fault.JournalFault.TheVariants.{DiskFault}
 use Rattle.disk_journal.proofs.Appending.{keeps_same}
 use Rattle.disk_journal.proofs.Calls.{others_on, handed_on, not_prepared}
+use Rattle.disk_journal.proofs.Told.{told_on, told_write}
 use Rattle.disk_journal.proofs.journal.Journal.create.Goals as goal
 
 pub append_first-requires-clause-kept : goal.append_first-requires-clause-kept
@@ -48,3 +49,14 @@ returns-clause-others g c =
     let device = g.D.Disk.device in
     others_on device c.args.disk.now c.prepare.new.disk c.append_first.new.disk c.args.file c.prepare.ensures.others
     (subst (λ (f : ℕ). LeavesOthers device f c.prepare.new.disk c.append_first.new.disk) c.reserve.ensures.same.file c.append_first.ensures.others)
+
+pub returns-in_err-prepare-clause-told : goal.returns-in_err-prepare-clause-told
+returns-in_err-prepare-clause-told g c =
+    told_on g.D.Disk.device c.from_residual-in_err-prepare.result c.in_err-prepare.field-0.0 c.args.disk.now c.prepare.new.disk c.from_residual-in_err-prepare.ensures.1 c.in_err-prepare.ensures.told.refused
+
+pub returns-in_err-append_first-clause-told : goal.returns-in_err-append_first-clause-told
+returns-in_err-append_first-clause-told g c =
+    let device = g.D.Disk.device in
+    let fault = c.in_err-append_first.field-0.0 in
+    told_on device c.from_residual-in_err-append_first.result fault c.args.disk.now c.append_first.new.disk c.from_residual-in_err-append_first.ensures.1
+    (told_write device fault c.args.disk.now c.append_first.new.disk c.in_err-append_first.ensures.only)

@@ -7,6 +7,7 @@ use Rattle.disk_journal.proofs.Bodies.{weaker}
 use Rattle.disk_journal.proofs.Calls.{records_are}
 use Rattle.disk_journal.proofs.Once.{exactly, undamaged, none_not_open}
 use Rattle.disk_journal.proofs.Opened.{opened, content_same}
+use Rattle.disk_journal.proofs.Told.{told_behind, told_on}
 use Rattle.disk_journal.proofs.journal.Journal.open.Goals as goal
 
 pub returns-clause-opened : goal.returns-clause-opened
@@ -47,3 +48,11 @@ returns-clause-decided g c transparent =
       damaged = λ at begins damaged. exactly device opening mid new transparent at c.finish_all.result (subst (λ (l : List ℕ). IsDamagedAt l at) (sym same) damaged) e.read e.refused;
       records = λ bodies begins has. undamaged device opening mid new transparent bodies c.finish_all.result (subst (λ (l : List ℕ). HasRecords l bodies) (sym same) has) e.refused;
     }
+
+pub returns-in_err-opening-clause-told : goal.returns-in_err-opening-clause-told
+returns-in_err-opening-clause-told g c =
+    told_on g.D.Disk.device c.from_residual.result c.in_err-opening.field-0.0 c.args.disk.now c.begin.new.disk c.from_residual.ensures.1 c.in_err-opening.ensures.told.refused
+
+pub returns-clause-told : goal.returns-clause-told
+returns-clause-told g c =
+    told_behind g.D.Disk.device c.finish_all.result c.args.disk.now c.begin.new.disk c.finish_all.new.disk c.in_ok-opening.ensures.told.done c.finish_all.ensures.told

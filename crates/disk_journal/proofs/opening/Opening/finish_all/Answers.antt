@@ -7,6 +7,7 @@ use Rattle.disk_journal.specs.Reading.{IsAt, IsWholeAt, file_read}
 use Rattle.disk_journal.specs.declared.journal.Extent.{Extent}
 use Rattle.disk_journal.proofs.Calls.{handed_on, not_whole}
 use Rattle.disk_journal.proofs.Opened.{content_same, cut_short}
+use Rattle.disk_journal.proofs.Told.{fault_behind, told_on}
 use Rattle.disk_journal.proofs.opening.Opening.finish_all.Goals as goal
 
 pub returns-in_err-extent-clause-refused : goal.returns-in_err-extent-clause-refused
@@ -29,6 +30,7 @@ pub records-preserved : goal.records-preserved
 records-preserved g c = record {
   file = c.in_ok-advance.ensures.file ∙ c.in_ok-extent.ensures.place.1 ∙ c.records.invariant.file;
   looked = looked_on g.D.Disk.device c.args.disk.now c.records.disk c.read_header.new.disk c.records.invariant.looked c.read_header.ensures.looked;
+  no_fault = c.in_ok-extent.ensures.told.done ∙ c.records.invariant.no_fault;
   so_far = λ transparent.
       let reads = g.D.Disk.device.reads in
       let here = c.records.self in
@@ -42,3 +44,10 @@ records-preserved g c = record {
       let next = subst (λ (n : ℕ). IsWholeAt content n c.in-Some.extent) (sym c.in_ok-extent.ensures.place.0) whole in
       (_, c.in_ok-advance.ensures.at content so_far.0 stays next);
 }
+
+pub returns-in_err-extent-clause-told : goal.returns-in_err-extent-clause-told
+returns-in_err-extent-clause-told g c =
+    let device = g.D.Disk.device in
+    let fault = c.in_err-extent.field-0.0 in
+    told_on device c.from_residual.result fault c.args.disk.now c.read_header.new.disk c.from_residual.ensures.1
+    (fault_behind device fault c.args.disk.now c.records.disk c.read_header.new.disk c.records.invariant.no_fault c.in_err-extent.ensures.told.refused)

@@ -2,6 +2,7 @@ use Rattle.std.proofs.Common.{ℕ, ◌∙◌, sym, subst}
 use Rattle.disk_journal.specs.Calls.{IsNextRefusal, content_read, read_so_far}
 use Rattle.disk_journal.specs.Reading.{IsWholeAt}
 use Rattle.disk_journal.proofs.Calls.{handed_on, no_header, stands_at_gate}
+use Rattle.disk_journal.proofs.Told.{told_on}
 use Rattle.disk_journal.proofs.opening.Opening.next.Goals as goal
 
 pub returns-in_err-read_header-clause-refused : goal.returns-in_err-read_header-clause-refused
@@ -26,3 +27,7 @@ returns-in_ok-advance-in-Some-clause-at_gate g c =
     let whole = rw c.in-Some.is at (header.some transparent) in
     c.in_ok-advance-in-Some.ensures.at content (read_so_far device self old) (header.stays transparent (read_so_far device self old) (c.requires.at_gate transparent))
     (subst (λ (n : ℕ). IsWholeAt content n c.in-Some.extent) (sym header.place.0) whole))
+
+pub returns-in_err-read_header-clause-told : goal.returns-in_err-read_header-clause-told
+returns-in_err-read_header-clause-told g c =
+    told_on g.D.Disk.device c.from_residual.result c.in_err-read_header.field-0.0 c.args.disk.now c.read_header.new.disk c.from_residual.ensures.1 c.in_err-read_header.ensures.told.refused

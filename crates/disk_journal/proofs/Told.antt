@@ -1,0 +1,31 @@
+-- What a run of calls tells of the faults of the disk.
+use Rattle.std.proofs.Common.{◌≡◌, sym, ◌∙◌, subst}
+use Rattle.std.specs.Prelude.{true, Result, Ok, Err, IsErrAnd}
+use Rattle.arch_disk.specs.Disk.{Device, NoFault}
+use Rattle.disk_journal.specs.Faults.{IsToldBy, TellsFaults}
+use Rattle.disk_journal.specs.declared.fault.JournalFault.{JournalFault}
+use Rattle.disk_journal.specs.declared.fault.JournalFault.TheVariants.{Exists, NoArchive, Damaged, NeedsReopen, Limit, DiskFault, OutOfMemory}
+
+module _ {D : Type 0} (device : Device D) where
+  -- behind calls of which none failed
+  pub fault_behind : (fault : JournalFault) (old mid new : D) → NoFault device old mid → IsToldBy device mid new fault → IsToldBy device old new fault
+  fault_behind Exists old mid new none told = told ∙ none
+  fault_behind NoArchive old mid new none told = told ∙ none
+  fault_behind (Damaged at) old mid new none told = told ∙ none
+  fault_behind (NeedsReopen faults) old mid new none told = told ∙ none
+  fault_behind Limit old mid new none told = told ∙ none
+  fault_behind (DiskFault wrote) old mid new none told = tt
+  fault_behind OutOfMemory old mid new none told = told ∙ none
+
+  pub told_behind : {T : Type 0} (result : Result T JournalFault) (old mid new : D) → NoFault device old mid → TellsFaults device mid new result → TellsFaults device old new result
+  told_behind (Ok x) old mid new none told = record { done = told.done ∙ none; refused = tt }
+  told_behind (Err fault) old mid new none told = record { done = tt; refused = fault_behind fault old mid new none told.refused }
+
+  -- a fault that is handed on
+  pub told_on : {T : Type 0} (result : Result T JournalFault) (fault : JournalFault) (old new : D) → IsErrAnd result (λ e. e ≡ fault) → IsToldBy device old new fault → TellsFaults device old new result
+  told_on (Ok x) fault old new is told = absurd is
+  told_on (Err e) fault old new is told = record { done = tt; refused = subst (IsToldBy device old new) (sym is) told }
+
+  -- a write that failed is told
+  pub told_write : (fault : JournalFault) (old new : D) → fault ≡ DiskFault true → IsToldBy device old new fault
+  told_write fault old new is = subst (IsToldBy device old new) (sym is) tt
