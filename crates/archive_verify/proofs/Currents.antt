@@ -13,13 +13,12 @@ use Rattle.interval_fills.proofs.Steps.{same_interval}
 use Rattle.interval_walks.specs.Turns.{IntervalsRise}
 use Rattle.param_segments.specs.Cells.{set_cells}
 use Rattle.param_segments.specs.Rows.{SetRow}
-use Rattle.store_fills.specs.Sound.{Filling}
-use Rattle.store_fills.specs.LastFills.{fill_over, fillings_in, base_of_slot, slots_in}
-use Rattle.store_fills.proofs.Bases.{base_there}
+use Rattle.store_fills.specs.Sound.{Filling, base_of_filling}
+use Rattle.store_fills.specs.LastFills.{fill_over, fillings_in}
 use Rattle.archive_store.specs.Entries.{FilledArchive}
 use Rattle.archive_store.specs.StoreView.{StoreView, filled_of}
 use Rattle.archive_store.specs.CurrentSets.{IsCurrentSet}
-use Rattle.archive_store.proofs.CurrentSets.{last_row}
+use Rattle.archive_store.proofs.CurrentSets.{based, last_row}
 use Rattle.refusals.specs.declared.refusal.Refusal.{Refusal}
 use Rattle.refusals.specs.declared.refusal.Refusal.TheVariants.{Mismatch}
 use Rattle.archive_verify.specs.declared.differences.CellDifference.{CellDifference}
@@ -39,16 +38,16 @@ one_fill filled i f g is other = some_is f g (sym is.there ∙ other.there)
 -- ---- of a store
 
 -- the set that stands for an interval is that of its current fill
-pub current_of : {D : Type 0} (store : StoreView D) (i : Interval) (set : List SetRow) → ((j : Interval) → base_in j store.fills ≡ base_of_slot (slots_in store.filled) j) → IsSome (last_in store.exponent i store.history) → (is : IsCurrentSet store i set) → IsCurrentFill (filled_of store) i (fill_over is.base set)
+pub current_of : {D : Type 0} (store : StoreView D) (i : Interval) (set : List SetRow) → ((j : Interval) → base_in j store.fills ≡ base_of_filling (fillings_in store.filled) j) → IsSome (last_in store.exponent i store.history) → (is : IsCurrentSet store i set) → IsCurrentFill (filled_of store) i (fill_over is.base set)
 current_of store i set bases some is = record {
   there = is.filled;
-  current = none_since store.exponent i is.base store.history store.fills (bases i ∙ base_there store.filled i (fill_over is.base set) is.filled) is.current (last_row store.exponent store.history i some);
+  current = none_since store.exponent i is.base store.history store.fills (based store.fills store.filled i (fill_over is.base set) bases is.filled) is.current (last_row store.exponent store.history i some);
 }
 
 -- where no set is told of an interval, no fill stands for it
-pub none_current : {D : Type 0} (store : StoreView D) (i : Interval) → ((j : Interval) → base_in j store.fills ≡ base_of_slot (slots_in store.filled) j) → IsLate store.exponent i store.history store.fills ⊎ (fillings_in store.filled i ≡ None) → HoldsWhereCurrent (filled_of store) i
+pub none_current : {D : Type 0} (store : StoreView D) (i : Interval) → ((j : Interval) → base_in j store.fills ≡ base_of_filling (fillings_in store.filled) j) → IsLate store.exponent i store.history store.fills ⊎ (fillings_in store.filled i ≡ None) → HoldsWhereCurrent (filled_of store) i
 none_current store i bases (inl late) f is =
-    absurd (punctual store.exponent i f.base store.history store.fills (bases i ∙ base_there store.filled i f is.there) is.current late)
+    absurd (punctual store.exponent i f.base store.history store.fills (based store.fills store.filled i f bases is.there) is.current late)
 none_current store i bases (inr none) f is = absurd (let both : None ≡ Some f = sym none ∙ is.there in cc)
 
 -- a difference of the current set from the one that an interval's rows give is a mismatch

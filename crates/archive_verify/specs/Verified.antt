@@ -10,6 +10,7 @@ use Rattle.mdb_items.specs.Database.{Database}
 use Rattle.container_extract.specs.Extraction.{cell_of}
 use Rattle.history_items.specs.Databases.{database_in}
 use Rattle.history_items.specs.Fills.{is_same}
+use Rattle.history_items.specs.Items.{rows_in}
 use Rattle.interval_fills.specs.Intervals.{NoneSince, rows_of_interval}
 use Rattle.interval_walks.specs.Counts.{intervals_in, late_intervals}
 use Rattle.param_segments.specs.Cells.{set_cells}
@@ -99,6 +100,6 @@ IsVerifyRefusal filled _ = ⊥
 
 -- how many rows a store has, in how many intervals rows of `tm` stand, and how many of these are late
 pub record IsCounted {D : Type 0} (store : StoreView D) (sound : Sound) : Type 0 where
-  pub rows : sound.rows ≡ length store.history
+  pub rows : sound.rows ≡ length (rows_in store.history)
   pub intervals : sound.intervals ≡ length (intervals_in store.exponent store.history)
   pub late : sound.late ≡ length (late_intervals store.exponent store.history store.fills)

@@ -47,8 +47,7 @@ fn interval_difference<D: Disk>(
     ensures some { IfOk result (λ o. IfSome o (IsIntervalMismatch (filled_of store.now) interval)) }
     ensures none { IfOk result (λ o. IfNone o (HoldsWhereCurrent (filled_of store.now) interval)) }
 {
-    // told of the store: its fill list has the base of each fill
-    store.front();
+    store.is_kept();
     let Some(stored) = store.segments(interval)? else {
         return Ok(None);
     };
@@ -136,7 +135,7 @@ pub fn verify<D: Disk>(alloc: Global, store: &mut Store<D>) -> Result<Sound, Ref
     // Whatever it answers, it has changed nothing.
     ensures same { store.new ≡ store.old }
 {
-    let rows = store.front();
+    let rows = store.row_count();
     let intervals = store.intervals(alloc)?;
     if let Some(difference) = first_difference_among(alloc, store, intervals.as_slice())? {
         return Err(mismatch_of(alloc, store.mdb(), difference)?);

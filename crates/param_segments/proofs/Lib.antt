@@ -16,6 +16,7 @@ pub mod NumberedSegments
 pub mod CellOrder
 pub mod SegmentCells
 pub mod Calibrated
+pub mod MergedCells
 pub mod Extracted
 pub mod Known
 pub mod Decoded

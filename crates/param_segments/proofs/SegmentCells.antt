@@ -8,11 +8,11 @@ use Rattle.std.specs.declared.cmp.Ordering.{Ordering}
 use Rattle.std.specs.declared.cmp.Ordering.TheVariants.{Less, Equal, Greater}
 use Rattle.std.proofs.lemmas.List.{length-map}
 use Rattle.arch_types.specs.declared.key.Key.{Key}
-use Rattle.arch_types.specs.Order.{key_cmp}
+use Rattle.arch_types.specs.Order.{key_cmp, order_by}
 use Rattle.std.proofs.lemmas.List.Sorted.{IsPermutation-sym}
 use Rattle.std.proofs.lemmas.Map.Keys.{sorted_head, sorted_tail}
 use Rattle.param_segments.proofs.Grouped.{rows_of_groups}
-use Rattle.param_segments.proofs.CellOrder.{Keeps, own_key, cells_same}
+use Rattle.param_segments.proofs.CellOrder.{Keeps, own_key, cells_in_order, cells_same}
 use Rattle.param_segments.proofs.Sorting.{sorted_is}
 use Rattle.container_extract.proofs.Positions.{position_cons}
 use Rattle.std.proofs.lemmas.List.Quantifiers.{position-Some}
@@ -140,9 +140,15 @@ flat_cells : {X : Type 0} (f : SetRow → Option RawCell) (h : X → List SetRow
 flat_cells f h [] = refl
 flat_cells f h (x ∷ xs) = ap (λ (ys : List RawCell). filter_map f (h x) ++ ys) (flat_cells f h xs) ∙ sym (join_cells f (h x) (flat_map h xs))
 
+by_groups : (q : ℕ) (ts : List SetRow) → flat_map (λ s. filter_map (raw_cell_of q) (rows_of_segment s)) (set_of ts) ≡ flat_map (λ g. filter_map (raw_cell_of q) (filter (is_of_group g) ts)) (groups_of ts)
+by_groups q ts = flat_cells (raw_cell_of q) rows_of_segment (set_of ts) ∙ ap (filter_map (raw_cell_of q)) (rows_of_groups ts (groups_of ts)) ∙ sym (flat_cells (raw_cell_of q) (λ g. filter (is_of_group g) ts) (groups_of ts))
+
 pub gathered_are : (q : ℕ) (ts : List SetRow) → AreSetRows ts → flat_map (segment_cells q) (set_of ts) ≡ flat_map (λ g. filter_map (raw_cell_of q) (filter (is_of_group g) ts)) (groups_of ts)
-gathered_are q ts are =
-    each_is_cells q (set_of ts) (set_is_segments ts are) ∙ flat_cells (raw_cell_of q) rows_of_segment (set_of ts) ∙ ap (filter_map (raw_cell_of q)) (rows_of_groups ts (groups_of ts)) ∙ sym (flat_cells (raw_cell_of q) (λ g. filter (is_of_group g) ts) (groups_of ts))
+gathered_are q ts are = each_is_cells q (set_of ts) (set_is_segments ts are) ∙ by_groups q ts
+
+-- the cells of the rows of each segment, put in the order of their keys, are those of the rows
+pub segments_make_cells : (q : ℕ) (ts : List SetRow) → AreSetRows ts → order_by is_cell_earlier (flat_map (λ s. filter_map (raw_cell_of q) (rows_of_segment s)) (set_of ts)) ≡ filter_map (raw_cell_of q) ts
+segments_make_cells q ts are = ap (order_by is_cell_earlier) (by_groups q ts) ∙ cells_in_order ts q are
 
 -- ---- sorted
 
@@ -166,7 +172,7 @@ nothing_rises : IsStrictlySortedBy key_cmp []
 unfolding IsStrictlySortedBy
 nothing_rises = tt
 
-cells_rise : (f : SetRow → Option RawCell) (ts : List SetRow) → Keeps f → IsStrictlySortedBy key_cmp (map (λ t. t.key) ts) → IsStrictlySortedBy key_cmp (cell_keys (filter_map f ts))
+pub cells_rise : (f : SetRow → Option RawCell) (ts : List SetRow) → Keeps f → IsStrictlySortedBy key_cmp (map (λ t. t.key) ts) → IsStrictlySortedBy key_cmp (cell_keys (filter_map f ts))
 cells_rise f [] keeps up = nothing_rises
 cells_rise f (t ∷ ts) keeps up =
     rise_cases f t (f t) (filter_map f ts) keeps refl (all_later f t.key ts keeps (sorted_head key_cmp t.key (map (λ t. t.key) ts) up)) (cells_rise f ts keeps (sorted_tail key_cmp t.key (map (λ t. t.key) ts) up))

@@ -31,6 +31,10 @@ set_cell db q row = option_map (set_cell_at db row.key) (raw_among q row.values)
 abbrev pub set_cells : Database → ℕ → List SetRow → List Cell
 set_cells db q rows = filter_map (set_cell db q) rows
 
+-- a cell's key is below another's
+abbrev pub is_cell_before : Cell → Cell → Bool
+is_cell_before a b = is_lt (key_cmp a.key b.key)
+
 -- ---- before they are calibrated
 
 -- a raw value at a key
@@ -40,6 +44,10 @@ raw_cell key v = record { key = key; raw = v.raw }
 -- the raw cell of a parameter in a row, where it has one
 abbrev pub raw_cell_of : ℕ → SetRow → Option RawCell
 raw_cell_of q row = option_map (raw_cell row.key) (raw_among q row.values)
+
+-- the raw cells of a parameter in rows
+abbrev pub set_raw_cells : ℕ → List SetRow → List RawCell
+set_raw_cells q rows = filter_map (raw_cell_of q) rows
 
 -- the raw value of a raw cell of a parameter
 abbrev pub raw_value_of_cell : ℕ → RawCell → RawValue

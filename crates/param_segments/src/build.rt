@@ -86,7 +86,7 @@ impl SegSet {
     {
         // the interval and its exponent stand in the contract alone: nothing that is built depends on them
         mdb.is_sound();
-        let mut builder = SetBuilder::new(alloc);
+        let mut builder = SetBuilder::with_capacity(alloc, rows.len());
         put_extracted::<Brand>(alloc, Blank::new(1), &mut builder, rows.as_slice(), mdb)?;
         builder.rows_are_sound();
         builder.set(alloc)

@@ -65,7 +65,7 @@ fn number_of(
     Ok(numbers.number(parameters))
 }
 
-/// Adds a group with its first row. Refused for want of memory, it leaves all as it was.
+/// Adds a group with its first row, and room for about so many. Refused for want of memory, it leaves all as it was.
 fn add_group(
     alloc: Global,
     numbers: &mut GroupNumbers,
@@ -73,6 +73,7 @@ fn add_group(
     parameters: &[u16],
     key: Key,
     values: &[RawValue],
+    rows: usize,
 ) -> Result<(), AllocError>
     requires parameters { parameters.now ≡ map (λ v. v.parameter) values.now }
     requires new { position (pointwise nat_eq parameters.now) numbers.old ≡ None }
@@ -81,7 +82,7 @@ fn add_group(
     ensures numbers { OnOk result (numbers.new ≡ numbers.old ++ parameters.now ∷ []) }
     ensures kept { OnErr result ((groups.new.items ≡ groups.old.items) × (numbers.new ≡ numbers.old)) }
 {
-    let group = Group::of_first(alloc, parameters, key, values)?;
+    let group = Group::of_first(alloc, parameters, key, values, rows)?;
     groups.reserve(1)?;
     numbers.add(Vec::from_slice(alloc, parameters)?)?;
     groups.push_reserved(group);
@@ -109,8 +110,9 @@ fn add_row(
     let guess = guesses.guess(values);
     match number_of(numbers, groups, guess, parameters, values)? {
         None => {
+            let rows = guesses.rows_of_group(groups.len());
             guesses.keep(values, groups.len());
-            add_group(alloc, numbers, groups, parameters, key, values)
+            add_group(alloc, numbers, groups, parameters, key, values, rows)
         }
         Some(number) => {
             guesses.keep(values, number);
@@ -170,10 +172,18 @@ impl SetBuilder {
     pub fn new(alloc: Global) -> SetBuilder
         ensures { result ≡ [] }
     {
+        SetBuilder::with_capacity(alloc, 0)
+    }
+
+    /// No row. A group makes room by how many may come: it takes some part of that room at its first row, and more where
+    /// it has more rows.
+    pub fn with_capacity(alloc: Global, rows: usize) -> SetBuilder
+        ensures { result ≡ [] }
+    {
         SetBuilder {
             numbers: GroupNumbers::new(alloc),
             groups: Vec::new(alloc),
-            guesses: GroupGuesses::new(),
+            guesses: GroupGuesses::new(rows),
             parameters: Vec::new(alloc),
         }
     }

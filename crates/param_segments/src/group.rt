@@ -176,20 +176,29 @@ fn put_start(out: &mut Vec<u32>, from: usize, start: usize) -> Result<(), AllocE
     Ok(())
 }
 
+/// The raw numbers for which a group makes room at its first row: those of so many rows, but no more than 64 KiB of them,
+/// since rows of many values may be few.
+fn first_room(rows: usize, width: usize) -> usize
+    ensures { width ≤ result }
+{
+    rows.saturating_mul(width).min(4096).max(width)
+}
+
 impl Group {
-    /// A group of its first row.
+    /// A group of its first row, with room for about so many.
     pub(crate) fn of_first(
         alloc: Global,
         parameters: &[u16],
         key: Key,
         values: &[RawValue],
+        rows: usize,
     ) -> Result<Group, AllocError>
         requires { parameters.now ≡ map (λ v. v.parameter) values.now }
         ensures { IfOk result (λ group. group_contents group ≡ first_contents (set_row key values.now)) }
     {
-        let mut keys = Vec::new(alloc);
+        let mut keys = Vec::with_capacity(alloc, rows.min(usize::from(MOST_ROWS)))?;
         keys.push(key)?;
-        let mut raws = Vec::with_capacity(alloc, values.len())?;
+        let mut raws = Vec::with_capacity(alloc, first_room(rows, values.len()))?;
         put_raws(&mut raws, values);
         Ok(Group {
             parameters: Vec::from_slice(alloc, parameters)?,

@@ -1,4 +1,4 @@
-//! Which group may have a row, guessed before its parameters are looked for.
+//! What is guessed of groups: which may have a row, before its parameters are looked for, and how many rows one may have.
 
 ghost use Rattle.std.specs.Prelude.{◌<◌};
 
@@ -12,6 +12,8 @@ const MARKS: usize = 16;
 #[derive(Drop)]
 pub struct GroupGuesses {
     numbers: [usize; MARKS],
+    /// How many rows may come.
+    rows: usize,
 }
 
 /// The mark of a row: by its last parameter, which most often is of the container that tells the row's group.
@@ -25,11 +27,17 @@ fn mark(values: &[RawValue]) -> usize
 }
 
 impl GroupGuesses {
-    /// The first group, for any row.
-    pub(crate) fn new() -> GroupGuesses {
+    /// The first group, for any of so many rows that may come.
+    pub(crate) fn new(rows: usize) -> GroupGuesses {
         GroupGuesses {
             numbers: [0; MARKS],
+            rows,
         }
+    }
+
+    /// How many rows a group may have, behind so many other groups.
+    pub(crate) fn rows_of_group(&self, others: usize) -> usize {
+        self.rows / others.max(1)
     }
 
     /// The number of the group that may have a row.

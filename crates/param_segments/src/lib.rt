@@ -49,5 +49,6 @@ mod set;
 
 pub use builder::SetBuilder;
 pub use plan::{Part, Parts, Plan};
+pub use raw_cell::{RawCell, RawCells};
 pub use segment_codec::NotASegment;
 pub use set::SegSet;

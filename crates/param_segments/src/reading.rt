@@ -44,7 +44,7 @@ fn rows_built(
     requires rising { IsStrictlySortedBy key_cmp (map (λ p. p.key) places.now) }
     ensures { IfOk result (λ built. built ≡ map (placed_row segments.now) places.now) }
 {
-    let mut builder = SetBuilder::new(alloc);
+    let mut builder = SetBuilder::with_capacity(alloc, places.len());
     let mut values = Vec::new(alloc);
     for place in places {
         let segment = numbered_segment(segments, place.segment);

@@ -1,11 +1,12 @@
 //! A segment set.
 
-ghost use Rattle.std.specs.Prelude.{◌≡◌, ◌+◌, ◌<◌, length, IfOk};
-ghost use Rattle.param_segments.specs.Cells.{AreValuesOf, set_cells};
+ghost use Rattle.std.specs.Prelude.{◌≡◌, ◌+◌, ◌<◌, ◌↔◌, length, IfOk, IsTrue};
+ghost use Rattle.param_segments.specs.Cells.{AreValuesOf, set_cells, set_raw_cells};
 ghost use Rattle.param_segments.specs.Groups.{set_of};
 ghost use Rattle.param_segments.specs.Octets.{IsSpelledSet, rows_of_numbered_segment, rows_in_octets, set_octets};
 
 use crate::cells::{calibrated_cells, raw_cells, raw_cells_in_segment};
+use crate::raw_cell::RawCells;
 use arch_types::cell::Cells;
 use arch_types::octets::Octets;
 use arch_types::steps::Steps;
@@ -96,12 +97,51 @@ impl SegSet {
         calibrated_cells(alloc, mdb, parameter, &raw)
     }
 
+    /// The raw numbers of a parameter at the keys of its rows, in the order of these: its cells before they are calibrated.
+    pub fn raw_cells(&self, alloc: Global, parameter: u16) -> Result<RawCells, AllocError>
+        ensures { IfOk result (λ cells. cells ≡ set_raw_cells parameter self.now) }
+    {
+        let raw = raw_cells(alloc, self.octets.as_slice(), &self.starts, parameter)?;
+        Ok(RawCells::from_vec(raw))
+    }
+
+    /// The raw cells of a parameter in the segment with a number, in the order of their keys, in one step.
+    pub fn raw_cells_in_segment<L: Ledger>(
+        &self,
+        alloc: Global,
+        segment: u32,
+        parameter: u16,
+        steps: &mut Steps<L>,
+    ) -> Result<RawCells, AllocError>
+        requires { segment < length (set_of self.now) }
+        ensures cells { IfOk result (λ cells.
+            cells ≡ set_raw_cells parameter (rows_of_numbered_segment self.now segment)) }
+        ensures step { steps.new ≡ steps.old + 1 }
+    {
+        steps.tick();
+        let raw = raw_cells_in_segment(
+            alloc,
+            self.octets.as_slice(),
+            &self.starts,
+            segment as usize,
+            parameter,
+        )?;
+        Ok(RawCells::from_vec(raw))
+    }
+
     /// Its one spelling, whose octets it shares.
     pub fn to_bytes(&self) -> Result<Octets, AllocError>
         ensures spelled { IfOk result (λ octets. octets ≡ set_octets self.now) }
         ensures value { IfOk result (λ octets. rows_in_octets octets ≡ self.now) }
     {
         self.octets.copy()
+    }
+
+    /// The other set has the same rows. Rows have one spelling, so the octets tell.
+    pub fn equals(&self, other: &SegSet) -> bool
+        ensures { IsTrue result ↔ (self.now ≡ other.now) }
+    {
+        self.octets.as_slice() == other.octets.as_slice()
     }
 
     /// An equal value, which shares the octets.

@@ -1,4 +1,4 @@
-use Rattle.std.proofs.Common.{◌≡◌, ◌∙◌, ℕ, ◌+◌, ◌<◌, ◌≤◌, length, Bool, true, false, nat_lt, refl, sym, subst, arith}
+use Rattle.std.proofs.Common.{◌≡◌, ◌∙◌, ℕ, ◌+◌, ◌<◌, ◌≤◌, length, Bool, true, false, nat_lt, ap, refl, sym, subst, arith}
 use Rattle.std.proofs.lemmas.Bool.Decides.{nat_tests}
 use Rattle.std.specs.Prelude.{List, IfNone}
 use Rattle.mdb_items.specs.Database.{Database}
@@ -6,6 +6,9 @@ use Rattle.param_segments.specs.Cells.{set_cells}
 use Rattle.param_segments.specs.Rows.{SetRow}
 use Rattle.archive_verify.proofs.Cells.{no_cells}
 use Rattle.archive_verify.proofs.compared_sets.set_difference.Goals as goal
+
+pub returns-then-equals-clause-none : goal.returns-then-equals-clause-none
+returns-then-equals-clause-none c = λ q. ap (set_cells c.args.mdb.now q) (c.equals.ensures.0 c.if-equals.true)
 
 -- what holds of the numbers below one, and of that one, holds of those below the next
 one_more : (P : ℕ → Type 0) (n : ℕ) → ((q : ℕ) → q < n → P q) → P n → (q : ℕ) → q < n + 1 → P q

@@ -44,7 +44,7 @@ returns-clause-some g c =
     let named = c.mdb-mdb.result.now in
     let same_db : named ≡ db = c.mdb-mdb.ensures in
     let current : IsCurrentSet store i set = subst (λ o. IfSome o (λ s. IsCurrentSet store i (arc_value s))) c.in-Some.is c.in_ok-stored.ensures.some in
-    let fill = current_of store i set c.front.ensures.bases c.requires current in
+    let fill = current_of store i set c.is_kept.ensures.bases c.requires current in
     let replayed = c.in_ok-replayed.replayed in
     let gives = gives_named db named c.in_ok-rows.rows (rows_of_interval store.exponent i store.history) replayed same_db c.in_ok-rows.ensures.rows c.in_ok-replayed.ensures.cells in
     let found = subst (λ (x : Database). IfOk c.set_difference.result (λ o. IfSome o (IsFirstSetDifference x set replayed))) same_db
@@ -61,7 +61,7 @@ returns-clause-none g c =
     let named = c.mdb-mdb.result.now in
     let same_db : named ≡ db = c.mdb-mdb.ensures in
     let current : IsCurrentSet store i set = subst (λ o. IfSome o (λ s. IsCurrentSet store i (arc_value s))) c.in-Some.is c.in_ok-stored.ensures.some in
-    let fill = current_of store i set c.front.ensures.bases c.requires current in
+    let fill = current_of store i set c.is_kept.ensures.bases c.requires current in
     let replayed = c.in_ok-replayed.replayed in
     let gives = gives_named db named c.in_ok-rows.rows (rows_of_interval store.exponent i store.history) replayed same_db c.in_ok-rows.ensures.rows c.in_ok-replayed.ensures.cells in
     let same = subst (λ (x : Database). IfOk c.set_difference.result (λ o. IfNone o ((q : ℕ) → set_cells x q set ≡ set_cells x q replayed))) same_db
@@ -73,4 +73,4 @@ pub returns-in_default-clause-none : goal.returns-in_default-clause-none
 returns-in_default-clause-none g c =
     let store = c.args.store.now in
     let i = c.args.interval in
-    none_current store i c.front.ensures.bases (subst (λ o. IfNone o (IsLate store.exponent i store.history store.fills ⊎ (fillings_in store.filled i ≡ None))) c.in_default.is c.in_ok-stored.ensures.none)
+    none_current store i c.is_kept.ensures.bases (subst (λ o. IfNone o (IsLate store.exponent i store.history store.fills ⊎ (fillings_in store.filled i ≡ None))) c.in_default.is c.in_ok-stored.ensures.none)

@@ -24,7 +24,7 @@ returns-clause-counted g c =
     let e = c.in_ok-intervals.ensures in
     let late = λ (i : Interval). is_late_in store.exponent i store.history store.fills in
     record {
-      rows = c.front-rows.ensures.front;
+      rows = c.row_count-rows.ensures;
       intervals = c.len.ensures ∙ c.in_ok-intervals.intervals.ok.0 ∙ as_many_intervals store.exponent store.history is e.rising e.rows e.cover;
       late = c.late_among.ensures ∙ ap (λ (l : List Interval). length (filter late l)) c.as_slice-2.ensures.value ∙ as_many_passed store.exponent store.history is e.rising e.rows e.cover late;
     }

@@ -2,7 +2,7 @@ use Rattle.std.proofs.Common.{◌∙◌, [], ap, map, sym}
 use Rattle.param_segments.specs.declared.group.Group.{Group}
 use Rattle.param_segments.specs.GroupContents.{group_contents}
 use Rattle.param_segments.proofs.Contents.{groups_are, groups_keep, no_rows}
-use Rattle.param_segments.proofs.builder.SetBuilder.new.Goals as goal
+use Rattle.param_segments.proofs.builder.SetBuilder.with_capacity.Goals as goal
 
 pub invariant_of-result : goal.invariant_of-result
 invariant_of-result c =
