@@ -153,10 +153,10 @@ module _ {D : Type 0} (device : Device D) where
   -- faults and failed writes are counted
   pub reopen_counted : (old new : StoreView D) (result : Result Unit Refusal) → OnOk result (IsStoreReopened device old new) → IfErr result (IsStoreReopenRefusal device old new)
       → CountsNeverFall device old.disk new.disk → CountsFailure device old.disk new.disk result × HasCause device old.disk new.disk result
-  reopen_counted old new (Ok x) ok err counts = (ok.no_failed_write, record { later = counts.faults; failed = tt })
+  reopen_counted old new (Ok x) ok err counts = (ok.no_failed_write, record { later = counts.faults; failed = tt; told = ok.no_fault })
   reopen_counted old new (Err e) ok err counts =
       let failed = subst (IsStoreReopenRefusal device old new) (reopen_failed old new e err) err in
-      (failed.wrote, record { later = counts.faults; failed = failed.rose })
+      (failed.wrote, record { later = counts.faults; failed = failed.rose; told = tt })
 
   -- ---- openings
 
@@ -191,7 +191,7 @@ module _ {D : Type 0} (device : Device D) where
       → (device.failed_writes after ≡ device.failed_writes before) ⊎ ((e ≡ DiskFault) × (device.failed_writes after ≡ raised (device.failed_writes before)))
   open_counted before after e is =
       open_cases before after (λ r. (device.failed_writes after ≡ device.failed_writes before) ⊎ ((r ≡ DiskFault) × (device.failed_writes after ≡ raised (device.failed_writes before)))) e is
-      (λ r. inl r.no_failed_write) (λ file at r. inl r.no_failed_write) (λ r. ⊎_elim (λ same. inl same) (λ rose. inr (refl, rose)) r.wrote_most) (λ r. inl r)
+      (λ r. inl r.no_failed_write) (λ file at r. inl r.no_failed_write) (λ r. ⊎_elim (λ same. inl same) (λ rose. inr (refl, rose)) r.wrote_most) (λ r. inl r.0)
 
   -- which was counted
   pub open_cause : (before after : D) (e : Refusal) → IsStoreOpenRefusal device before after e → e ≡ DiskFault → raised (device.fault_count before) ≤ device.fault_count after

@@ -1,6 +1,6 @@
 -- Which fills may come, and what one that came leaves.
 use Rattle.std.proofs.Common.{◌≡◌, ℕ, ◌≤◌, List, [], ◌∷◌, ◌++◌, length, Bool, true, false, true≢false, Option, Some, None, refl, sym, ◌∙◌, ap, subst}
-use Rattle.std.specs.Prelude.{if◌then◌else◌, ◌↔◌}
+use Rattle.std.specs.Prelude.{if◌then◌else◌}
 use Rattle.std.specs.Option.{is_some}
 use Rattle.std.proofs.lemmas.Option.{slice_get_within}
 use Rattle.intervals.specs.declared.interval.Interval.{Interval}
@@ -15,12 +15,12 @@ use Rattle.history_items.proofs.Late.{last_is_greatest}
 use Rattle.interval_fills.specs.Steps.{IsStoredBase}
 use Rattle.interval_fills.proofs.Steps.{same_interval}
 use Rattle.param_segments.specs.Extracted.{IsSetOf}
-use Rattle.store_fills.specs.LastFills.{PlacedFills, AreOwn, base_of_slot, slots_in, with_slot}
+use Rattle.param_segments.specs.Rows.{SetRow}
+use Rattle.store_fills.specs.LastFills.{PlacedFills, fill_over, fillings_in}
+use Rattle.store_fills.specs.Sound.{Filling, Fillings, base_of_filling, with_filling}
 use Rattle.store_fills.proofs.Bases.{base_with}
-use Rattle.store_fills.specs.declared.last_fills.LastFill.{LastFill}
-use Rattle.std.specs.Arc.{arc_value}
+use Rattle.mdb_items.specs.Database.{Database}
 use Rattle.history_items.specs.Databases.{database_in}
-use Rattle.archive_store.specs.CurrentSets.{IsOfHistory}
 use Rattle.archive_store.specs.declared.head.Head.{Head}
 use Rattle.archive_store.specs.Inside.{HoldsFills}
 use Rattle.archive_store.proofs.RowsAlone.{in_force_below}
@@ -53,60 +53,42 @@ module _ (exponent : ℕ) (items : List Item) (interval : Interval) (base : ℕ)
 some_is : {A : Type 0} (x y : A) → ◌≡◌ {A = Option A} (Some x) (Some y) → x ≡ y
 some_is x y e = cc
 
--- what holds of the fill that came, and of those before, holds of each
-each_after : (filled next : PlacedFills) (i : Interval) (slot : LastFill) (P : Interval → LastFill → Type 0) → slots_in next ≡ with_slot (slots_in filled) i slot → P i slot
-    → ((j : Interval) (s : LastFill) → slots_in filled j ≡ Some s → P j s) → (j : Interval) (s : LastFill) → slots_in next j ≡ Some s → P j s
-each_after filled next i slot P put here old j s there = go (is_same j i) refl (sym (ap (λ (g : Interval → Option LastFill). g j) put) ∙ there)
-  where
-    go : (b : Bool) → is_same j i ≡ b → (if b then Some slot else slots_in filled j) ≡ Some s → P j s
-    go true same is = subst (λ (k : Interval). P k s) (sym (same_interval j i same)) (subst (P i) (some_is slot s is) here)
-    go false other is = old j s is
-
-pub holds_done : (head : Head) (exponent : ℕ) (history : List Item) (fills more : List Fill) (filled next : PlacedFills) (i : Interval) (slot : LastFill) → HoldsFills head exponent history fills filled
-    → more ≡ fills ++ Done i slot.base ∷ [] → slots_in next ≡ with_slot (slots_in filled) i slot → IsSetOf slot.mdb slot.exponent i.0 (arc_value slot.set) → (slot.own ≡ true) ↔ IsOfHistory head exponent history slot
-    → HoldsFills head exponent history more next
-holds_done head exponent history fills more filled next i slot holds noted put is own = record {
-  bases = λ j. ap (base_in j) noted ∙ base_after_item j fills (Done i slot.base) ∙ ap (λ (o : Option ℕ). base_after j o (Done i slot.base)) (holds.bases j) ∙ sym (base_with (slots_in filled) i j slot)
-      ∙ ap (λ (slots : Interval → Option LastFill). base_of_slot slots j) (sym put);
-  fits = each_after filled next i slot (λ j s. IsSetOf s.mdb s.exponent j.0 (arc_value s.set)) put is holds.fits;
-  own = each_after filled next i slot (λ j s. (s.own ≡ true) ↔ IsOfHistory head exponent history s) put own holds.own;
+pub holds_done : (head : Head) (exponent : ℕ) (history : List Item) (fills more : List Fill) (filled next : PlacedFills) (i : Interval) (base : ℕ) (set : List SetRow) → HoldsFills head exponent history fills filled
+    → more ≡ fills ++ Done i base ∷ [] → fillings_in next ≡ with_filling (fillings_in filled) i (fill_over base set) → IsSetOf (database_in head.mdb (prefix base history)) exponent i.0 set → HoldsFills head exponent history more next
+holds_done head exponent history fills more filled next i base set holds noted put is = record {
+  bases = λ j. ap (base_in j) noted ∙ base_after_item j fills (Done i base) ∙ ap (λ (o : Option ℕ). base_after j o (Done i base)) (holds.bases j) ∙ sym (base_with (fillings_in filled) i j base set)
+      ∙ ap (λ (f : Fillings (List SetRow)). base_of_filling f j) (sym put);
+  fits = λ j f there. chosen j f (is_same j i) refl (sym (ap (λ (g : Fillings (List SetRow)). g j) put) ∙ there);
 }
-
--- none is passed over once one comes that is read
-pub own_done : (filled next : PlacedFills) (i : Interval) (slot : LastFill) → slots_in next ≡ with_slot (slots_in filled) i slot → slot.own ≡ true → AreOwn filled → AreOwn next
-own_done filled next i slot put own all = each_after filled next i slot (λ j s. s.own ≡ true) put own all
+  where
+    chosen : (j : Interval) (f : Filling (List SetRow)) (b : Bool) → is_same j i ≡ b → (if b then Some (fill_over base set) else fillings_in filled j) ≡ Some f → IsSetOf (database_in head.mdb (prefix f.base history)) exponent j.0 f.set
+    chosen j f true same there =
+        subst (λ (k : Interval). IsSetOf (database_in head.mdb (prefix f.base history)) exponent k.0 f.set) (sym (same_interval j i same))
+        (subst (λ (g : Filling (List SetRow)). IsSetOf (database_in head.mdb (prefix g.base history)) exponent i.0 g.set) (some_is (fill_over base set) f there) is)
+    chosen j f false other there = holds.fits j f there
 
 -- ---- a fill list that tells the same bases
 
 pub holds_same : (head : Head) (exponent : ℕ) (history : List Item) (fills more : List Fill) (filled : PlacedFills) → HoldsFills head exponent history fills filled → ((i : Interval) → base_in i more ≡ base_in i fills) → HoldsFills head exponent history more filled
-holds_same head exponent history fills more filled holds same = record { bases = λ i. same i ∙ holds.bases i; fits = holds.fits; own = holds.own }
+holds_same head exponent history fills more filled holds same = record { bases = λ i. same i ∙ holds.bases i; fits = holds.fits }
 
 -- ---- another history of rows alone
 
 pub holds_later : (head : Head) (exponent : ℕ) (history later : List Item) (fills : List Fill) (filled : PlacedFills) → databases_in history ≡ [] → databases_in later ≡ [] → HoldsFills head exponent history fills filled → HoldsFills head exponent later fills filled
 holds_later head exponent history later fills filled alone alone_later holds = record {
   bases = holds.bases;
-  fits = holds.fits;
-  own = λ i s there.
-      let same : database_in head.mdb (prefix s.base history) ≡ database_in head.mdb (prefix s.base later) = in_force_below head.mdb s.base history alone ∙ sym (in_force_below head.mdb s.base later alone_later) in
-      let own = holds.own i s there in
-      (λ is. ((own.0 is).0 ∙ same, (own.0 is).1), λ of. own.1 (of.0 ∙ sym same, of.1));
+  fits = λ i f there.
+      let same : database_in head.mdb (prefix f.base history) ≡ database_in head.mdb (prefix f.base later) = in_force_below head.mdb f.base history alone ∙ sym (in_force_below head.mdb f.base later alone_later) in
+      subst (λ (db : Database). IsSetOf db exponent i.0 f.set) same (holds.fits i f there);
 }
 
 -- ---- no fill
 
-no_slot : (s : LastFill) → ◌≡◌ {A = Option LastFill} None (Some s) → ⊥
-no_slot s e = cc
-
-none_there : (filled : PlacedFills) (i : Interval) (s : LastFill) → slots_in filled ≡ (λ i. None) → slots_in filled i ≡ Some s → ⊥
-none_there filled i s empty there = no_slot s (sym (ap (λ (g : Interval → Option LastFill). g i) empty) ∙ there)
-
-pub holds_none : (head : Head) (exponent : ℕ) (history : List Item) (fills : List Fill) (filled : PlacedFills) → fills ≡ [] → slots_in filled ≡ (λ i. None) → HoldsFills head exponent history fills filled
+pub holds_none : (head : Head) (exponent : ℕ) (history : List Item) (fills : List Fill) (filled : PlacedFills) → fills ≡ [] → fillings_in filled ≡ (λ i. None) → HoldsFills head exponent history fills filled
 holds_none head exponent history fills filled none empty = record {
-  bases = λ i. ap (base_in i) none ∙ sym (ap (λ (slots : Interval → Option LastFill). base_of_slot slots i) empty);
-  fits = λ i s there. absurd (none_there filled i s empty there);
-  own = λ i s there. absurd (none_there filled i s empty there);
+  bases = λ i. ap (base_in i) none ∙ sym (ap (λ (f : Fillings (List SetRow)). base_of_filling f i) empty);
+  fits = λ i f there. absurd (no_fill f (sym (ap (λ (g : Fillings (List SetRow)). g i) empty) ∙ there));
 }
-
-pub own_none : (filled : PlacedFills) → slots_in filled ≡ (λ i. None) → AreOwn filled
-own_none filled empty i s there = absurd (none_there filled i s empty there)
+  where
+    no_fill : (f : Filling (List SetRow)) → ◌≡◌ {A = Option (Filling (List SetRow))} None (Some f) → ⊥
+    no_fill f e = cc

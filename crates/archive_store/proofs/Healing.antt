@@ -66,7 +66,6 @@ module _ {D : Type 0} (device : Device D) where
         begins = k.begins;
         opening = k.opening;
         sound = k.sound;
-        own = k.own;
         archives = subst (λ (l : List (List Item)). ArchiveInvariant entry_octets Applies IsPlainLog device new opened next now (IsUnacknowledged now (unacknowledged_in (reopened fills))) (IsSinceArchive before (archive head exponent history) l))
             (sym (rows_of_faults-reopened fills))
             (one.kept_healed entry_octets Applies IsPlainLog plain_lower device disk new opened journal next now (IsUnacknowledged now (unacknowledged_in fills))
@@ -107,7 +106,6 @@ module _ {D : Type 0} (device : Device D) where
         begins = k.begins;
         opening = k.opening;
         sound = k.sound;
-        own = k.own;
         archives = one.kept_unhealed entry_octets Applies IsPlainLog plain_lower device disk new opened journal next now (IsUnacknowledged now (unacknowledged_in fills))
             (IsSinceArchive before (archive head exponent history) (rows_of_faults fills)) k.archives moments keeps elsewhere file same
             (λ transparent. found_whole before head exponent history (fillings_in filled) (rows_of_faults fills) k.begins (k.sound transparent))

@@ -1,5 +1,5 @@
 -- The intervals that have rows.
-use Rattle.std.proofs.Common.{◌≡◌, ℕ, pos, List, [], ◌∷◌, Option, Some, None, true, refl, arith, true≢false, sym, ◌∙◌}
+use Rattle.std.proofs.Common.{◌≡◌, ℕ, pos, List, [], ◌∷◌, Option, Some, None, true, refl, arith, true≢false, sym}
 use Rattle.std.specs.Prelude.{IsSome}
 use Rattle.std.specs.List.{AllByRecursion}
 use Rattle.std.proofs.lemmas.Int.{ints}
@@ -20,11 +20,10 @@ use Rattle.fill_tracker.specs.FillTracker.{AreMarksOf}
 use Rattle.param_segments.specs.Rows.{SetRow}
 use Rattle.store_fills.specs.LastFills.{PlacedFills, fillings_in}
 use Rattle.store_fills.specs.Sound.{Filling}
-use Rattle.store_fills.proofs.Bases.{base_there}
 use Rattle.archive_store.specs.declared.head.Head.{Head}
 use Rattle.archive_store.specs.Entries.{IsArchivedRow}
 use Rattle.archive_store.specs.Inside.{HoldsFills}
-use Rattle.archive_store.proofs.CurrentSets.{marked_last}
+use Rattle.archive_store.proofs.CurrentSets.{based, marked_last}
 use Rattle.archive_store.proofs.Times.{stands_in_clock}
 
 -- intervals that have marks have rows
@@ -48,7 +47,7 @@ filled_stands head exponent history fills marks filled i are holds some = go (la
   where
     not_filled : (f : Option (Filling (List SetRow))) → fillings_in filled i ≡ f → base_in i fills ≡ None → IsSome f → ⊥
     not_filled None is none there = true≢false (sym there)
-    not_filled (Some f) is none there = let based : base_in i fills ≡ Some f.base = holds.bases i ∙ base_there filled i f is in cc (based, none)
+    not_filled (Some f) is none there = let there : base_in i fills ≡ Some f.base = based fills filled i f holds.bases is in cc (there, none)
 
     go : (o : Option ℕ) → last_in exponent i history ≡ o → IsLastIn exponent i history o → HasRow exponent i history
     go None e never = absurd (not_filled (fillings_in filled i) refl (are.known i e).0 some)

@@ -97,7 +97,6 @@ module _ {D : Type 0} (device : Device D) where
     begins = k.begins;
     opening = k.opening;
     sound = k.sound;
-    own = k.own;
     archives = one.kept_same entry_octets Applies IsPlainLog plain_lower device disk opened journal next (filled_archive head exponent history (fillings_in filled)) _ _ k.archives same;
     pending_fault_is = k.pending_fault_is;
     journal_fault = λ faults is. k.journal_fault faults (sym (ap faults_of same.pending_fault) ∙ is);
@@ -141,7 +140,6 @@ module _ {D : Type 0} (device : Device D) where
         begins = begins;
         opening = k.opening;
         sound = sound;
-        own = k.own;
         archives = one.kept_ok entry_octets Applies IsPlainLog plain_lower device disk new opened journal next (filled_archive head exponent history fillings) (filled_archive head exponent whole fillings) (entries.Rows rows)
             (IsUnacknowledged (filled_archive head exponent history fillings) (unacknowledged_in fills)) (IsUnacknowledged (filled_archive head exponent whole fillings) (unacknowledged_in fills))
             (IsSinceArchive before (archive head exponent history) in_faults) (IsSinceArchive before (archive head exponent whole) in_faults) k.archives (λ transparent. (ok, refl)) file
@@ -186,7 +184,6 @@ module _ {D : Type 0} (device : Device D) where
         begins = k.begins;
         opening = k.opening;
         sound = k.sound;
-        own = k.own;
         archives = one.kept_err entry_octets Applies IsPlainLog plain_lower device disk new opened journal next (filled_archive head exponent history fillings) (filled_archive head exponent (history ++ items_of rows) fillings) (entries.Rows rows)
             (IsUnacknowledged (filled_archive head exponent history fillings) (unacknowledged_in fills)) (IsUnacknowledged (filled_archive head exponent history fillings) (unacknowledged_in more))
             (IsSinceArchive before (archive head exponent history) (rows_of_faults fills)) (IsSinceArchive before (archive head exponent history) (rows_of_faults more))

@@ -28,15 +28,16 @@ use Rattle.param_segments.specs.Extracted.{IsSetOf}
 use Rattle.param_segments.specs.Octets.{rows_in_octets, set_octets}
 use Rattle.param_segments.specs.Rows.{SetRow}
 use Rattle.store_fills.specs.Filled.{IsRightFill}
-use Rattle.store_fills.specs.LastFills.{PlacedFills, fill_over, fillings_in, AreOwn}
+use Rattle.store_fills.specs.LastFills.{PlacedFills, fill_over, fillings_in}
 use Rattle.store_fills.specs.Sound.{Fillings, with_filling}
 use Rattle.archive_store.specs.declared.head.Head.{Head}
 use Rattle.archive_store.specs.Entries.{FilledArchive, IsSoundArchive, archive, filled_archive, Applies}
 use Rattle.archive_store.specs.Images.{ArchiveInvariant, IsPlainLog}
-use Rattle.archive_store.specs.Inside.{StoreInvariant}
+use Rattle.archive_store.specs.Inside.{StoreInvariant, view_of}
 use Rattle.archive_store.specs.PlainLog.{IsSinceArchive}
 use Rattle.archive_store.specs.Unacknowledged.{IsFilledOnce, IsUnacknowledged}
 use Rattle.archive_store.specs.Stands.{StandsFilled}
+use Rattle.archive_store.specs.StoreView.{StoreView, filled_of}
 use Rattle.archive_store.proofs.Kept.{hand-append, healthy}
 use Rattle.archive_store.proofs.OneJournal as one
 use Rattle.archive_store.proofs.PendingFaults.{keeps_without_fault}
@@ -95,7 +96,7 @@ module _ {D : Type 0} (device : Device D) (disk new opened : D) (journal next : 
   after_sound transparent was = fill_sound head exponent history (fillings_in filled) i base set (k.sound transparent was) (right transparent)
 
   -- a fill was appended
-  pub fill_ok : (filled_after : PlacedFills) → (IsTrue device.is_transparent → fillings_in filled_after ≡ with_filling (fillings_in filled) i (fill_over base set)) → (IsTrue device.is_transparent → AreOwn filled_after)
+  pub fill_ok : (filled_after : PlacedFills) → fillings_in filled_after ≡ with_filling (fillings_in filled) i (fill_over base set)
       → file_of next ≡ file_of journal → unhealed_fault next ≡ None
       → (IsTrue device.is_transparent → (bodies : List (List ℕ)) (pending : List ℕ) → JournalHasOnDisk device journal bodies pending disk →
       JournalHasOnDisk device next (bodies ++ entry_octets (entries.Fill i base (set_octets set)) ∷ []) pending new)
@@ -104,17 +105,17 @@ module _ {D : Type 0} (device : Device D) (disk new opened : D) (journal next : 
       → device.fault_count disk ≤ device.fault_count new
       → device.failed_writes new ≡ device.failed_writes disk
       → StoreInvariant device new opened next head exponent history fills filled_after pending_fault
-  fill_ok filled_after put put_own file no_pending_fault keeps moments elsewhere later writes =
+  fill_ok filled_after put file no_pending_fault keeps moments elsewhere later writes =
       let in_faults = rows_of_faults fills in
       let o = unacknowledged_in fills in
       let there : FilledArchive = filled_archive head exponent history (fillings_in filled_after) in
-      let same : IsTrue device.is_transparent → after ≡ there = λ transparent. ap (filled_archive head exponent history) (sym (put transparent)) in
+      let same : after ≡ there = ap (filled_archive head exponent history) (sym put) in
       let done = one.kept_ok entry_octets Applies IsPlainLog plain_lower device disk new opened journal next now after (entries.Fill i base (set_octets set))
       (IsUnacknowledged now o) (IsUnacknowledged after o) (IsSinceArchive before (archive head exponent history) in_faults) (IsSinceArchive before (archive head exponent history) in_faults) k.archives
       applies file no_pending_fault keeps moments elsewhere (λ x f. f)
       (λ transparent. found_whole before head exponent history (fillings_in filled) in_faults k.begins (k.sound transparent))
       (λ transparent. found_whole before head exponent history (with_filling (fillings_in filled) i (fill_over base set)) in_faults k.begins (after_sound transparent)) in
-      let on = λ (transparent : IsTrue device.is_transparent). subst (λ (a : FilledArchive). ArchiveInvariant entry_octets Applies IsPlainLog device new opened next a (IsUnacknowledged a o) (IsSinceArchive before (archive head exponent history) in_faults)) (same transparent) done in record {
+      let on = λ (transparent : IsTrue device.is_transparent). subst (λ (a : FilledArchive). ArchiveInvariant entry_octets Applies IsPlainLog device new opened next a (IsUnacknowledged a o) (IsSinceArchive before (archive head exponent history) in_faults)) same done in record {
         faults = record {
           rising = Rising-later fills (above (device.fault_count opened)) (device.fault_count disk) (device.fault_count new) later k.faults.rising;
           later = omega (arith, k.faults.later, later);
@@ -125,8 +126,7 @@ module _ {D : Type 0} (device : Device D) (disk new opened : D) (journal next : 
         fillings = k.fillings;
         begins = k.begins;
         opening = k.opening;
-        sound = λ transparent was. subst IsSoundArchive (same transparent) (after_sound transparent was);
-        own = put_own;
+        sound = λ transparent was. subst IsSoundArchive same (after_sound transparent was);
         archives = record {
           images = λ transparent. (on transparent).images transparent;
           log = λ transparent. (on transparent).log transparent;
@@ -169,7 +169,6 @@ module _ {D : Type 0} (device : Device D) (disk new opened : D) (journal next : 
         begins = k.begins;
         opening = k.opening;
         sound = k.sound;
-        own = k.own;
         archives = one.kept_err entry_octets Applies IsPlainLog plain_lower device disk new opened journal next now after (entries.Fill i base (set_octets set))
             (IsUnacknowledged now (unacknowledged_in fills)) (IsUnacknowledged now (unacknowledged_in more))
             (IsSinceArchive before (archive head exponent history) (rows_of_faults fills)) (IsSinceArchive before (archive head exponent history) (rows_of_faults more))
@@ -205,6 +204,12 @@ module _ {D : Type 0} (device : Device D) (disk opened : D) (journal : Journal) 
         replays = e.replays;
       })
 
-  -- a call that doesn't ask the disk leaves these alone
-  pub filled_now : (other : FilledArchive) → LeavesOnly device disk disk (λ c. StandsFilled c (filled_archive head exponent history (fillings_in filled)) ⊎ StandsFilled c other)
-  filled_now other = started device disk _ (λ c left. inl (kept_now c left))
+-- a call that doesn't ask the disk leaves the archive as it was
+module _ {D : Type 0} (device : Device D) (disk opened : D) (journal : Journal) (head : Head) (exponent : ℕ) (history : List Item) (fills : List Fill) (filled : PlacedFills) (pending_fault : Option ℕ)
+    (k : StoreInvariant device disk opened journal head exponent history fills filled pending_fault) (now : StoreView D) (is : view_of disk opened journal head exponent history fills filled ≡ now) where
+  pub unharmed : (other : StoreView D → FilledArchive) (d : D) → now.disk ≡ d → pending_fault_of now.fills ≡ None → IsTrue device.is_transparent
+      → LeavesOnly device now.disk d (λ c. StandsFilled c (filled_of now) ⊎ StandsFilled c (other now))
+  unharmed other d same healed transparent =
+      let before = subst (λ (x : StoreView D). pending_fault_of x.fills ≡ None → LeavesOnly device x.disk x.disk (λ c. StandsFilled c (filled_of x) ⊎ StandsFilled c (other x))) is
+      (λ none. started device disk _ (λ c left. inl (kept_now device disk opened journal head exponent history fills filled pending_fault k none transparent c left))) in
+      subst (λ (e : D). LeavesOnly device now.disk e (λ c. StandsFilled c (filled_of now) ⊎ StandsFilled c (other now))) same (before healed)

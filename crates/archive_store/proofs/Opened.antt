@@ -23,7 +23,7 @@ use Rattle.intervals.specs.Interval.{format_1_exponent}
 use Rattle.field_codec.specs.Spelling.{entry_octets}
 use Rattle.archive_store.specs.declared.head.Head.{Head}
 use Rattle.param_segments.specs.Rows.{SetRow}
-use Rattle.store_fills.specs.LastFills.{PlacedFills, fillings_in, AreOwn}
+use Rattle.store_fills.specs.LastFills.{PlacedFills, fillings_in}
 use Rattle.store_fills.specs.Sound.{Filling, Fillings, no_fillings}
 use Rattle.archive_store.specs.Entries.{FilledArchive, IsSoundArchive, filled_archive, HasArchivedRows, Replays}
 use Rattle.archive_store.specs.Stands.{IsSoundImage, StandsFilled}
@@ -74,7 +74,6 @@ module _ {D : Type 0} (device : Device D) where
   without_fault (GateWritten faults) file bodies disk is has only = absurd (cc (is))
 
   pub kept_open : (disk opened : D) (journal : Journal) (head : Head) (exponent : ℕ) (history : List Item) (fills : List Fill) (filled : PlacedFills)
-      → AreOwn filled
       → databases_in history ≡ []
       → IsArchiveEntry (entries.Head head.tables head.mdb)
       → HasArchivedRows (Some (filled_archive head exponent history (fillings_in filled)))
@@ -85,7 +84,7 @@ module _ {D : Type 0} (device : Device D) where
       → IsDurable device 0 (device.reads opened 0) opened
       → OnlyReads device opened disk
       → StoreInvariant device disk opened journal head exponent history fills filled None
-  kept_open disk opened journal head exponent history fills filled own alone fits rows found done no_pending_fault file only looked = record {
+  kept_open disk opened journal head exponent history fills filled alone fits rows found done no_pending_fault file only looked = record {
     faults = record {
       rising = Rising-done fills (above (device.fault_count opened)) (device.fault_count disk) done;
       later = looked.later;
@@ -97,7 +96,6 @@ module _ {D : Type 0} (device : Device D) where
     begins = prefix_self history;
     opening = λ transparent. stands_found (device.reads opened) (device.reads opened 0) journal (filled_archive head exponent history (fillings_in filled)) refl (found transparent);
     sound = λ transparent was. was;
-    own = λ transparent. own;
     archives = record {
       images = λ transparent. record {
         now = λ c left. inl (stands transparent c (only c (looked.images c left)));
@@ -142,21 +140,19 @@ module _ {D : Type 0} (device : Device D) where
 
   -- an archive that was just made
   pub kept_made : (disk : D) (journal : Journal) (head : Head) (filled : PlacedFills)
-      → AreOwn filled
       → fillings_in filled ≡ no_fillings
       → IsArchiveEntry (entries.Head head.tables head.mdb)
       → unhealed_fault journal ≡ None
       → file_of journal ≡ 0
       → (IsTrue device.is_transparent → JournalHasOnDisk device journal (head_octets head ∷ []) [] disk)
       → StoreInvariant device disk disk journal head format_1_exponent [] [] filled None
-  kept_made disk journal head filled own empty fits no_pending_fault file keeps = record {
+  kept_made disk journal head filled empty fits no_pending_fault file keeps = record {
     faults = record { rising = tt; later = omega arith; writes_later = omega arith; wrote = λ faults is. absurd (cc (is)) };
     before = [];
     fillings = fillings_in filled;
     begins = prefix_self [];
     opening = λ transparent. stands (device.reads disk) (without_fault_state device journal.pending_fault journal.file (head_octets head ∷ []) [] disk no_pending_fault (keeps transparent).state).0;
     sound = λ transparent was. was;
-    own = λ transparent. own;
     archives = record {
       images = λ transparent. record {
         now = λ c left. inl (stands_over c (filled_archive head format_1_exponent [] (fillings_in filled)) (stands c (in_file c transparent left)));

@@ -3,6 +3,7 @@ use Rattle.std.proofs.Common.{◌≡◌, ℤ, ◌≤ℤ◌, ◌<ℤ◌, ◌≤�
 use Rattle.std.specs.Prelude.{ℕ, filter, int_lt, ◌&&◌, IsSome}
 use Rattle.std.specs.Arc.{arc_value}
 use Rattle.std.specs.List.{AllByRecursion}
+use Rattle.std.proofs.lemmas.Bool.{false_from_ne_true}
 use Rattle.std.proofs.lemmas.Int.{ints}
 use Rattle.intervals.specs.declared.interval.Interval.{Interval}
 use Rattle.arch_types.specs.declared.row.Row.{Row}
@@ -13,7 +14,8 @@ use Rattle.history_items.specs.declared.items.Item.{Item}
 use Rattle.history_items.specs.Fills.{base_in}
 use Rattle.history_items.specs.Items.{rows_in}
 use Rattle.history_items.specs.Databases.{database_in}
-use Rattle.history_items.specs.Late.{last_in}
+use Rattle.history_items.specs.Late.{is_late_in, last_in}
+use Rattle.history_items.proofs.Late.{late_by_last}
 use Rattle.interval_fills.specs.Intervals.{rows_of_interval}
 use Rattle.intervals.specs.Interval.{interval_end, interval_start}
 use Rattle.interval_walks.specs.Turns.{CoverRange, IntervalsRise, MeetsRange, meets_range, rows_in_turn}
@@ -24,13 +26,13 @@ use Rattle.param_segments.specs.declared.plan.Part.{Part}
 use Rattle.param_segments.specs.declared.plan.Part.TheVariants.{Rows, Set}
 use Rattle.param_segments.specs.declared.plan.Plan.{Plan}
 use Rattle.param_segments.specs.Plans.{ArePartsOver, HasValuesOf, part_interval, rows_of_parts}
-use Rattle.store_fills.specs.LastFills.{fillings_in, base_of_slot, fill_over, slots_in}
-use Rattle.archive_store.specs.LateFills.{is_late_by_fill}
+use Rattle.store_fills.specs.LastFills.{fillings_in}
+use Rattle.store_fills.specs.Sound.{base_of_filling}
 use Rattle.archive_store.specs.Entries.{IsArchivedRow, IsSoundArchive}
 use Rattle.archive_store.specs.Plans.{IsPlan, IsPlanOver, IsPlanPart, IsRangeInterval, interval_of_part, is_late_of_range, late_rows_of_range, plan_intervals}
 use Rattle.archive_store.specs.StoreView.{StoreView, filled_of}
 use Rattle.archive_store.proofs.Archived.{all_filtered, all_more, range_archived}
-use Rattle.archive_store.proofs.CurrentSets.{current_holds, last_row, marked_last, read_current, read_late}
+use Rattle.archive_store.proofs.CurrentSets.{current_holds, last_row, marked_last}
 
 -- ---- the intervals that are asked
 
@@ -75,7 +77,7 @@ module _ {D : Type 0} (store : StoreView D) where
       all_more (IsArchivedRow store.head store.history) rows (rows_of_parts parts) (subst (AllByRecursion (IsArchivedRow store.head store.history)) (sym all.0.1) here) (plan_archived archived parts all.1)
 
   -- each part is over the rows of its interval, where the fills are sound
-  parts_over : ((i : Interval) → base_in i store.fills ≡ base_of_slot (slots_in store.filled) i) → IsSoundArchive (filled_of store) → (parts : List Part) → AllByRecursion (IsPlanPart store) parts → AllByRecursion (λ i. IsSome (last_in store.exponent i store.history)) (plan_intervals parts)
+  parts_over : ((i : Interval) → base_in i store.fills ≡ base_of_filling (fillings_in store.filled) i) → IsSoundArchive (filled_of store) → (parts : List Part) → AllByRecursion (IsPlanPart store) parts → AllByRecursion (λ i. IsSome (last_in store.exponent i store.history)) (plan_intervals parts)
       → ArePartsOver (database_in store.head.mdb store.history) parts (rows_in_turn store.exponent (plan_intervals parts) store.history)
   parts_over bases sound [] all have = refl
   parts_over bases sound (Set interval set ∷ parts) all have = (
@@ -115,7 +117,7 @@ turns_in_range exponent is low high history rising cover = go (int_lt low high) 
         none_in_range low high empty (rows_in_turn exponent is history) ∙ sym (none_in_range low high empty (table_of 0 (rows_in history)))
 
 -- a plan is over the rows of its intervals, where the fills are sound
-pub planned_over : {D : Type 0} (store : StoreView D) (low high : ℤ) (plan : Plan) → ((i : Interval) → base_in i store.fills ≡ base_of_slot (slots_in store.filled) i) → IsSoundArchive (filled_of store) → IsPlan store low high plan
+pub planned_over : {D : Type 0} (store : StoreView D) (low high : ℤ) (plan : Plan) → ((i : Interval) → base_in i store.fills ≡ base_of_filling (fillings_in store.filled) i) → IsSoundArchive (filled_of store) → IsPlan store low high plan
     → IsPlanOver store.head store.history low high plan
 planned_over store low high plan bases sound planned = record {
   rows = rows_in_turn store.exponent (plan_intervals plan.parts) store.history;
@@ -150,9 +152,9 @@ meets_is exponent low high i meets =
     less_is : (a b : ℤ) → a <ℤ b → int_lt a b ≡ true
     less_is a b less = grind (arith, ints, less)
 
-module _ {D : Type 0} (store : StoreView D) (low high : ℤ) (bases : (i : Interval) → base_in i store.fills ≡ base_of_slot (slots_in store.filled) i) where
+module _ {D : Type 0} (store : StoreView D) (low high : ℤ) where
   abbrev test : Interval → Bool
-  test = is_late_of_range store.exponent store.history (fillings_in store.filled) low high
+  test = is_late_of_range store.exponent store.history store.fills low high
 
   -- the rows that parts leave are those of their intervals that are late
   rows_left : (parts : List Part) → AllByRecursion (IsPlanPart store) parts → AllByRecursion (IsRangeInterval store.exponent store.history low high) (plan_intervals parts)
@@ -160,17 +162,17 @@ module _ {D : Type 0} (store : StoreView D) (low high : ℤ) (bases : (i : Inter
   rows_left [] all asked = refl
   rows_left (Set interval set ∷ parts) all asked =
       let js = filter test (plan_intervals parts) in
-      let punctual : is_late_by_fill store.exponent store.history (fillings_in store.filled) interval ≡ false = read_current store.exponent store.history store.fills store.filled interval (fill_over all.0.base (arc_value set)) bases all.0.filled all.0.current in
+      let punctual : is_late_in store.exponent interval store.history store.fills ≡ false = false_from_ne_true (is_late_in store.exponent interval store.history store.fills) (λ late. all.0.current ((late_by_last store.exponent interval store.history store.fills).0 late)) in
       let fails : test interval ≡ false = ap (λ (b : Bool). b && meets_range store.exponent low high interval) punctual in
       rows_left parts all.1 asked.1 ∙ ap (λ (b : Bool). rows_in_turn store.exponent (cond b (interval ∷ js) js) store.history) (sym fails)
   rows_left (Rows interval rows ∷ parts) all asked =
       let js = filter test (plan_intervals parts) in
-      let late : is_late_by_fill store.exponent store.history (fillings_in store.filled) interval ≡ true = read_late store.exponent store.history store.fills store.filled interval bases asked.0.1 all.0.0 in
+      let late : is_late_in store.exponent interval store.history store.fills ≡ true = (late_by_last store.exponent interval store.history store.fills).1 all.0.0 in
       let passes : test interval ≡ true = ap (λ (b : Bool). b && meets_range store.exponent low high interval) late ∙ meets_is store.exponent low high interval asked.0.0 in
       ap (λ (l : List Row). l ++ rows_of_parts parts) all.0.1 ∙ ap (λ (l : List Row). rows_of_interval store.exponent interval store.history ++ l) (rows_left parts all.1 asked.1)
       ∙ ap (λ (b : Bool). rows_in_turn store.exponent (cond b (interval ∷ js) js) store.history) (sym passes)
 
-  pub few_left : (plan : Plan) → IsPlan store low high plan → length (rows_of_parts plan.parts) ≤ length (late_rows_of_range store.exponent store.history (fillings_in store.filled) low high)
+  pub few_left : (plan : Plan) → IsPlan store low high plan → length (rows_of_parts plan.parts) ≤ length (late_rows_of_range store.exponent store.history store.fills low high)
   few_left plan planned =
       let is = plan_intervals plan.parts in
       let left = ap length (rows_left plan.parts planned.each planned.meets) in

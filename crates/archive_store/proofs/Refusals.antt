@@ -1,11 +1,12 @@
 -- Which refusals are which.
-use Rattle.std.proofs.Common.{◌≡◌, inl, inr, ◌≤◌, ℕ, refl, subst, arith}
+use Rattle.std.proofs.Common.{◌≡◌, ◌∙◌, inl, inr, ℕ, refl, subst, arith}
 use Rattle.std.specs.Prelude.{true, false, IsTrue, Result, Ok, Err, IfErr, OnErr}
-use Rattle.arch_disk.specs.Disk.{Device}
+use Rattle.arch_disk.specs.Disk.{Device, NoFault}
 use Rattle.arch_disk.specs.Image.{Image}
 use Rattle.refusals.specs.declared.refusal.Refusal.{Refusal}
 use Rattle.refusals.specs.declared.refusal.Refusal.TheVariants as refused
 use Rattle.disk_journal.specs.Calls.{IsBeginRefusal, IsJournalCreateRefusal, IsNextRefusal, content_read, read_so_far}
+use Rattle.disk_journal.specs.Faults.{IsToldBy}
 use Rattle.disk_journal.specs.Reading.{IsCutShortAt, gate_of}
 use Rattle.disk_journal.specs.declared.opening.Opening.{Opening}
 use Rattle.disk_journal.specs.declared.fault.JournalFault.{JournalFault}
@@ -21,43 +22,47 @@ only_refusal (Err f) cause e P refused holds = let same : e ≡ f = cc (refused.
 
 module _ {D : Type 0} (device : Device D) where
   -- why the next record was not read is why no archive was,
-  pub next_refused : (opening : Opening) (old before after : D) (fault : JournalFault) → IsNextRefusal device opening before after fault → device.fault_count old ≤ device.fault_count before
+  pub next_refused : (opening : Opening) (old before after : D) (fault : JournalFault) → IsNextRefusal device opening before after fault → IsToldBy device before after fault → NoFault device old before
       → (IsTrue device.is_transparent → (at : ℕ) → (at ≡ gate_of opening) × IsCutShortAt (content_read device opening before) (read_so_far device opening before) → IsArchiveDamagedAt (device.reads old) at)
       → IsArchiveReadRefusal device old after (read_refusal fault)
-  next_refused opening old before after Exists refusal later cut = absurd refusal
-  next_refused opening old before after NoArchive refusal later cut = absurd refusal
-  next_refused opening old before after (Damaged at) refusal later cut = λ transparent. (refl, cut transparent at (refusal transparent))
-  next_refused opening old before after (NeedsReopen faults) refusal later cut = absurd refusal
-  next_refused opening old before after Limit refusal later cut = absurd refusal
-  next_refused opening old before after (DiskFault true) refusal later cut = absurd refusal
-  next_refused opening old before after (DiskFault false) refusal later cut = omega (arith, refusal, later)
-  next_refused opening old before after OutOfMemory refusal later cut = tt
+  next_refused opening old before after Exists refusal told none cut = absurd refusal
+  next_refused opening old before after NoArchive refusal told none cut = absurd refusal
+  next_refused opening old before after (Damaged at) refusal told none cut = (λ transparent. (refl, cut transparent at (refusal transparent)), told ∙ none)
+  next_refused opening old before after (NeedsReopen faults) refusal told none cut = absurd refusal
+  next_refused opening old before after Limit refusal told none cut = absurd refusal
+  next_refused opening old before after (DiskFault true) refusal told none cut = absurd refusal
+  next_refused opening old before after (DiskFault false) refusal told none cut = omega (arith, refusal, none)
+  next_refused opening old before after OutOfMemory refusal told none cut = told ∙ none
 
   -- why no archive was read is why none was opened,
-  pub read_refused : (old before after : D) (e : Refusal) → IsArchiveReadRefusal device before after e → device.reads before ≡ device.reads old → device.fault_count old ≤ device.fault_count before → device.failed_writes after ≡ device.failed_writes old
+  pub read_refused : (old before after : D) (e : Refusal) → IsArchiveReadRefusal device before after e → device.reads before ≡ device.reads old → NoFault device old before → device.failed_writes after ≡ device.failed_writes old
       → IsStoreOpenRefusal device old after e
-  read_refused old before after (refused.Damaged file at) refusal reads later writes = record { damaged = λ transparent. subst (λ (x : Image). (file ≡ 0) × IsArchiveDamagedAt x at) reads (refusal transparent); no_failed_write = writes }
-  read_refused old before after refused.DiskFault refusal reads later writes = record { rose = omega (arith, refusal, later); wrote_most = inl writes }
-  read_refused old before after refused.OutOfMemory refusal reads later writes = writes
-  read_refused old before after _ refusal reads later writes = absurd refusal
+  read_refused old before after (refused.Damaged file at) refusal reads none writes = record {
+    damaged = λ transparent. subst (λ (x : Image). (file ≡ 0) × IsArchiveDamagedAt x at) reads (refusal.0 transparent);
+    no_failed_write = writes;
+    no_fault = refusal.1 ∙ none;
+  }
+  read_refused old before after refused.DiskFault refusal reads none writes = record { rose = omega (arith, refusal, none); wrote_most = inl writes }
+  read_refused old before after refused.OutOfMemory refusal reads none writes = (writes, refusal ∙ none)
+  read_refused old before after _ refusal reads none writes = absurd refusal
 
   -- and so is why no reading began
-  pub begin_refused : (before after : D) (fault : JournalFault) → IsBeginRefusal device 0 before after fault → IsStoreOpenRefusal device before after (read_refusal fault)
-  begin_refused before after Exists refusal = absurd refusal
-  begin_refused before after NoArchive refusal = record { none = refusal.0; no_failed_write = refusal.1 }
-  begin_refused before after (Damaged at) refusal = absurd refusal
-  begin_refused before after (NeedsReopen faults) refusal = absurd refusal
-  begin_refused before after Limit refusal = absurd refusal
-  begin_refused before after (DiskFault true) refusal = record { rose = refusal.rose; wrote_most = inr refusal.writes }
-  begin_refused before after (DiskFault false) refusal = record { rose = refusal.rose; wrote_most = inl refusal.writes }
-  begin_refused before after OutOfMemory refusal = absurd refusal
+  pub begin_refused : (before after : D) (fault : JournalFault) → IsBeginRefusal device 0 before after fault → IsToldBy device before after fault → IsStoreOpenRefusal device before after (read_refusal fault)
+  begin_refused before after Exists refusal told = absurd refusal
+  begin_refused before after NoArchive refusal told = record { none = refusal.0; no_failed_write = refusal.1; no_fault = told }
+  begin_refused before after (Damaged at) refusal told = absurd refusal
+  begin_refused before after (NeedsReopen faults) refusal told = absurd refusal
+  begin_refused before after Limit refusal told = absurd refusal
+  begin_refused before after (DiskFault true) refusal told = record { rose = refusal.rose; wrote_most = inr refusal.writes }
+  begin_refused before after (DiskFault false) refusal told = record { rose = refusal.rose; wrote_most = inl refusal.writes }
+  begin_refused before after OutOfMemory refusal told = absurd refusal
 
   -- the refusals of a journal that is made are a creation's
-  pub making_refused : (before after : D) (fault : JournalFault) → IsJournalCreateRefusal device 0 before after fault → IsStoreCreateRefusal device before after (refusal_of_create fault)
-  making_refused before after Exists refusal = record { held = λ transparent. (refusal.0 transparent).0; reads = λ transparent. (refusal.0 transparent).1; no_failed_write = refusal.1 }
-  making_refused before after NoArchive refusal = absurd refusal
-  making_refused before after (Damaged at) refusal = absurd refusal
-  making_refused before after (NeedsReopen faults) refusal = absurd refusal
-  making_refused before after Limit refusal = absurd refusal
-  making_refused before after (DiskFault wrote) refusal = refusal.0
-  making_refused before after OutOfMemory refusal = refusal
+  pub making_refused : (before after : D) (fault : JournalFault) → IsJournalCreateRefusal device 0 before after fault → IsToldBy device before after fault → IsStoreCreateRefusal device before after (refusal_of_create fault)
+  making_refused before after Exists refusal told = record { held = λ transparent. (refusal.0 transparent).0; reads = λ transparent. (refusal.0 transparent).1; no_failed_write = refusal.1; no_fault = told }
+  making_refused before after NoArchive refusal told = absurd refusal
+  making_refused before after (Damaged at) refusal told = absurd refusal
+  making_refused before after (NeedsReopen faults) refusal told = absurd refusal
+  making_refused before after Limit refusal told = absurd refusal
+  making_refused before after (DiskFault wrote) refusal told = refusal.0
+  making_refused before after OutOfMemory refusal told = refusal

@@ -5,7 +5,7 @@ use Rattle.std.specs.List.{AllByRecursion, filter_map, cons_option}
 use mathlib.Core.List.{IsPrefix}
 use Rattle.std.proofs.Math.ListN.{get_or-map}
 use Rattle.std.proofs.Math.Seq.{take-append_seam}
-use Rattle.std.proofs.lemmas.List.{length-map, take-append-le}
+use Rattle.std.proofs.lemmas.List.{length-map, take-append-drop, take-append-le}
 use Rattle.std.proofs.lemmas.List.Elements.{recursion_from_All, All-from_recursion}
 use Rattle.arch_types.specs.declared.row.Row.{Row}
 use Rattle.arch_types.specs.History.{IsHistory, is_in_table}
@@ -16,16 +16,32 @@ use Rattle.partitions.specs.declared.partition.Partition.{Partition}
 use Rattle.partitions.specs.Bounds.{MayHold}
 use Rattle.replay_merge.specs.Cursor.{CursorView, rest_of}
 use Rattle.replay_merge.specs.Replay.{rows_asked, HoldsEachRow}
-use Rattle.replay_merge.specs.RowSource.{IsKeyedRow, IsRowSourceHistory}
+use Rattle.replay_merge.specs.RowSource.{AreRowSourceHistories, IsKeyedRow, IsRowSourceHistory}
 use Rattle.replay_merge.proofs.Bounds.{own_partition, pruned_is_enough}
 use Rattle.replay_merge.proofs.Opening.{rest_at_front}
+use Rattle.replay_merge.proofs.Pieces.{all_first}
 use Rattle.replay_merge.proofs.Sources.{each_tested}
+use Rattle.replay_merge.proofs.Tied.{first_rows}
 use Rattle.history_items.specs.declared.items.Item.{Item}
 use Rattle.history_items.specs.Items.{rows_in}
 use Rattle.history_items.proofs.ItemLists.{rows_in-append}
 use Rattle.archive_store.specs.declared.head.Head.{Head}
 use Rattle.archive_store.specs.Entries.{IsArchivedRow}
-use Rattle.archive_store.specs.Replays.{IsNamedPartition}
+use Rattle.archive_store.specs.Replays.{IsNamedPartition, rows_below}
+
+-- ---- the rows below a front
+
+-- they are the first rows of all
+first_of_rows : (front : ℕ) (history : List Item) → take (length (rows_below history front)) (rows_in history) ≡ rows_below history front
+first_of_rows front history =
+    let first = take front history in
+    let rest = drop front history in
+    ap (take (length (rows_in first))) (ap rows_in (sym (take-append-drop front history)) ∙ rows_in-append first rest) ∙ take-append_seam (rows_in first) (rows_in rest)
+
+-- at the end of a history they are its own, also once more came behind it
+pub below_its_end : (history later : List Item) (front : ℕ) → front ≡ length history → IsPrefix history later → rows_below later front ≡ rows_in history
+below_its_end history later front is begins =
+    ap rows_in (ap (λ (n : ℕ). take n later) is ∙ ap (take (length history)) (sym begins.1) ∙ take-append_seam history begins.0)
 
 -- ---- rows of a source
 
@@ -35,36 +51,37 @@ keyed_rows head history (row ∷ rows) all =
     let stored = all.0.stored in
     (record { packet = stored.packet; rectime = stored.rectime; key = stored.key }, keyed_rows head history rows all.1)
 
-pub source_history : (head : Head) (history : List Item) (rows : List Row) → IsHistory rows → AllByRecursion (IsArchivedRow head history) rows → IsRowSourceHistory rows
-source_history head history rows once all = record { once = once; each = keyed_rows head history rows all }
+-- the rows below each front are a history of such rows
+pub source_histories : (head : Head) (history : List Item) → IsHistory (rows_in history) → AllByRecursion (IsArchivedRow head history) (rows_in history) → AreRowSourceHistories (rows_below history)
+source_histories head history once all = λ front.
+    let rows = rows_in history in
+    let n = length (rows_below history front) in
+    subst IsRowSourceHistory (first_of_rows front history) (record { once = first_rows n rows once; each = all_first IsKeyedRow n rows (keyed_rows head history rows all) })
 
-pub in_tables : (head : Head) (history : List Item) (rows : List Row) → AllByRecursion (IsArchivedRow head history) rows → AllByRecursion (λ row. row.table < length head.tables) rows
+in_tables : (head : Head) (history : List Item) (rows : List Row) → AllByRecursion (IsArchivedRow head history) rows → AllByRecursion (λ row. row.table < length head.tables) rows
 in_tables head history [] all = tt
 in_tables head history (row ∷ rows) all = (all.0.placed.table, in_tables head history rows all.1)
 
--- ---- the first rows of a history that grew
+pub below_in_tables : (head : Head) (history : List Item) (front : ℕ) → AllByRecursion (IsArchivedRow head history) (rows_in history) → AllByRecursion (λ row. row.table < length head.tables) (rows_below history front)
+below_in_tables head history front all =
+    let P : Row → Type 0 = λ row. row.table < length head.tables in
+    subst (AllByRecursion P) (first_of_rows front history) (all_first P (length (rows_below history front)) (rows_in history) (in_tables head history (rows_in history) all))
 
-pub rows_begin : (history later : List Item) → IsPrefix history later → IsPrefix (rows_in history) (rows_in later)
-rows_begin history later begins = (rows_in begins.0, sym (rows_in-append history begins.0) ∙ ap rows_in begins.1)
-
-pub first_of_later : {X : Type 0} (history later : List X) (front : ℕ) → front ≡ length history → IsPrefix history later → take front later ≡ history
-first_of_later history later front is begins = ap (λ (n : ℕ). take n later) is ∙ ap (take (length history)) (sym begins.1) ∙ take-append_seam history begins.0
+-- ---- a history that grew
 
 -- what is left of a replay is the same over a history that grew behind its front
-pub rest_of_later : (c : CursorView) (history later : List Row) → c.front ≤ length history → IsPrefix history later → rest_of c later ≡ rest_of c history
-rest_of_later c history later within begins = rest_at_front c later history (ap (take c.front) (sym begins.1) ∙ take-append-le c.front history begins.0 within)
+pub rest_of_later : (c : CursorView) (history later : List Item) → c.front ≤ length history → IsPrefix history later → rest_of c (rows_below later) ≡ rest_of c (rows_below history)
+rest_of_later c history later within begins =
+    rest_at_front c (rows_below later) (rows_below history) (ap rows_in (ap (take c.front) (sym begins.1) ∙ take-append-le c.front history begins.0 within))
 
 -- ---- the partitions of a replay
 
--- the partitions that hold a row of the table and may hold one in the bounds hold each row that is asked, also once rows came behind the front
-pub hold_each : (bounds : Bounds) (table front : ℕ) (parts : List Partition) (history later : List Row) → front ≡ length history → IsPrefix history later
-    → ((p : Partition) → Contains parts p ↔ (Contains (partitions_of (filter (is_in_table table) history)) p × MayHold bounds p))
-    → HoldsEachRow parts (rows_asked table bounds.from bounds.to bounds.names (take front later))
-hold_each bounds table front parts history later is begins exactly =
-    let here = first_of_later history history front is ([], append-nil history) in
-    let there = first_of_later history later front is begins in
-    subst (λ (rows : List Row). HoldsEachRow parts (rows_asked table bounds.from bounds.to bounds.names rows)) (here ∙ sym there)
-    (pruned_is_enough bounds table front parts history (λ p noted may. (exactly p).1 (noted, may)))
+-- the partitions that hold a row of the table and may hold one in the bounds hold each row that is asked
+pub hold_each : (bounds : Bounds) (table : ℕ) (parts : List Partition) (rows : List Row)
+    → ((p : Partition) → Contains parts p ↔ (Contains (partitions_of (filter (is_in_table table) rows)) p × MayHold bounds p))
+    → HoldsEachRow parts (rows_asked table bounds.from bounds.to bounds.names rows)
+hold_each bounds table parts rows exactly =
+    pruned_is_enough bounds table parts rows rows (λ p noted may. (exactly p).1 (noted, may)) ([], append-nil rows)
 
 -- the packet names of partitions that hold a row of a store are those of its history
 pub each_named : (head : Head) (history : List Item) (table : ℕ) (whole : List Row) (bounds : Bounds) (parts : List Partition) → AllByRecursion (IsArchivedRow head history) whole

@@ -133,7 +133,6 @@ module _ {D : Type 0} (device : Device D) where
         begins = k.begins;
         opening = k.opening;
         sound = k.sound;
-        own = k.own;
         archives = subst (λ (o : Option Addition). ArchiveInvariant entry_octets Applies IsPlainLog device disk opened journal now (IsUnacknowledged now o) (IsSinceArchive before (archive head exponent history) (rows_of_faults new))) (sym same.unacknowledged)
             (subst (λ (l : List (List Item)). ArchiveInvariant entry_octets Applies IsPlainLog device disk opened journal now (IsUnacknowledged now (unacknowledged_in fills)) (IsSinceArchive before (archive head exponent history) l)) (sym same.rows) k.archives);
         pending_fault_is = k.pending_fault_is ∙ sym same.pending_fault;

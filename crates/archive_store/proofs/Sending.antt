@@ -2,6 +2,7 @@
 use denote.RattleType.{RattleType}
 use denote.Param.Send.{IsSend, IsSync, sendable}
 use Rattle.std.proofs.Crossing.{crosses}
+use Rattle.std.proofs.MapsCrossing as maps
 use Rattle.arch_disk.specs.declared.disk.Disk as disk
 use Rattle.arch_types.specs.contracts.row.Row as Row
 use Rattle.fill_tracker.specs.contracts.tracker.FillTracker as FillTracker
@@ -11,13 +12,14 @@ use Rattle.archive_store.specs.contracts.store.Store as Store
 use Rattle.late_marks.specs.contracts.marks.LateMarks as LateMarks
 use Rattle.mdb_items.specs.contracts.calibration.Calibration as Calibration
 use Rattle.mdb_items.specs.contracts.container.Container as Container
+use Rattle.mdb_lookups.specs.contracts.numbered_children.NumberedChildren as NumberedChildren
 use Rattle.mdb_model.specs.contracts.mdb.Inner as Inner
 use Rattle.mdb_model.specs.contracts.mdb.Mdb as Mdb
 use Rattle.mdb_items.specs.contracts.name.MdbName as MdbName
 use Rattle.mdb_items.specs.contracts.parameter.Parameter as Parameter
 use Rattle.param_segments.specs.contracts.set.SegSet as SegSet
 use Rattle.store_fills.specs.contracts.last_fills.LastFills as FilledSets
-use Rattle.store_fills.specs.contracts.last_fills.LastFill as FilledSlot
+use Rattle.store_fills.specs.contracts.last_fills.LastFill as OneFill
 
 -- ---- the mission database, which plans share
 name_send : IsSend MdbName.the_row
@@ -44,11 +46,17 @@ container_send = search (crosses, name_send, sendable) depth 60
 container_sync : IsSync Container.the_row
 container_sync = search (crosses, name_sync, sendable) depth 60
 
+numbered_send : IsSend NumberedChildren.the_row
+numbered_send = search (maps.crosses, crosses, sendable) depth 60
+
+numbered_sync : IsSync NumberedChildren.the_row
+numbered_sync = search (maps.crosses, crosses, sendable) depth 60
+
 inner_send : IsSend Inner.the_row
-inner_send = search (crosses, parameter_send, calibration_send, container_send, sendable) depth 60
+inner_send = search (crosses, parameter_send, calibration_send, container_send, numbered_send, sendable) depth 60
 
 inner_sync : IsSync Inner.the_row
-inner_sync = search (crosses, parameter_sync, calibration_sync, container_sync, sendable) depth 60
+inner_sync = search (crosses, parameter_sync, calibration_sync, container_sync, numbered_sync, sendable) depth 60
 
 mdb_send : IsSend Mdb.the_row
 mdb_send = search (crosses, inner_send, inner_sync, sendable) depth 60
@@ -76,11 +84,11 @@ set_send = search (crosses, sendable) depth 60
 set_sync : IsSync SegSet.the_row
 set_sync = search (crosses, sendable) depth 60
 
-slot_send : IsSend FilledSlot.the_row
-slot_send = search (crosses, mdb_send, mdb_sync, set_send, set_sync, sendable) depth 60
+last_send : IsSend OneFill.the_row
+last_send = search (crosses, set_send, set_sync, sendable) depth 60
 
 sets_send : IsSend FilledSets.the_row
-sets_send = search (crosses, slot_send, sendable) depth 60
+sets_send = search (crosses, last_send, sendable) depth 60
 
 -- ---- the store: it may go where its disk may
 pub store_send : (D : RattleType) (device : disk.Ghosts D.Denot) → IsSend D → IsSend (Store.the_row D device)

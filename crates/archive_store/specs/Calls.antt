@@ -2,7 +2,7 @@
 use Rattle.std.specs.Prelude.{◌≡◌, ◌≢◌, ◌≤◌, ◌⊎◌, ℕ, ◌+◌, ◌++◌, List, [], length, map, true, IsTrue, None, Some, Result, Ok, Err, IsErrAnd, MatchResult}
 use Rattle.std.specs.List.{AllByRecursion}
 use Rattle.arch_disk.specs.Image.{Image}
-use Rattle.arch_disk.specs.Disk.{Device, LeavesOnly, NoWriteFailed, raised}
+use Rattle.arch_disk.specs.Disk.{Device, LeavesOnly, NoFault, NoWriteFailed, raised}
 use Rattle.arch_types.specs.declared.inserted.Inserted.{Inserted}
 use Rattle.refusals.specs.declared.refusal.Refusal.{Refusal}
 use Rattle.refusals.specs.declared.refusal.Refusal.TheVariants.{NoArchive, Exists, Damaged, DiskFault, NeedsReopen, Limit, OutOfMemory}
@@ -20,7 +20,7 @@ use Rattle.intervals.specs.Interval.{format_1_exponent}
 use Rattle.field_codec.specs.Spelling.{entry_octets}
 use Rattle.disk_journal.specs.Calls.{BeginsOpen, IsJournalCreateFailed, IsJournalOpenFailed}
 use Rattle.disk_journal.specs.Format.{HasRecords, HoldsNone}
-use Rattle.store_fills.specs.LastFills.{AreOwn, fillings_in}
+use Rattle.store_fills.specs.LastFills.{fillings_in}
 use Rattle.store_fills.specs.Sound.{no_fillings}
 use Rattle.archive_store.specs.declared.head.Head.{Head}
 use Rattle.archive_store.specs.Entries.{Archive, FilledArchive, archive, dones_of, filled_archive}
@@ -73,6 +73,7 @@ pub record AreIngested {D : Type 0} (device : Device D) (old new : StoreView D) 
   pub one_record : fresh_of old.history rows ≢ [] → new.records ≡ old.records + 1
   pub no_call : fresh_of old.history rows ≡ [] → new ≡ old
   pub no_failed_write : NoWriteFailed device old.disk new.disk
+  pub no_fault : NoFault device old.disk new.disk
 
 -- some rows are new, and this is the first limit that is passed with them
 pub record PassesLimit {D : Type 0} (old : StoreView D) (rows : List Row) (which : Which) (number : ℕ) : Type 0 where
@@ -103,6 +104,7 @@ pub record AreAppended {D : Type 0} (device : Device D) (old new : StoreView D) 
   pub filled : new.filled ≡ old.filled
   pub records : new.records ≡ old.records + 1
   pub no_failed_write : NoWriteFailed device old.disk new.disk
+  pub no_fault : NoFault device old.disk new.disk
 
 -- why rows were not appended, and what that leaves
 abbrev pub IsRowsRefusal : {D : Type 0} → Device D → StoreView D → StoreView D → List Row → Refusal → Type 0
@@ -120,6 +122,7 @@ pub record IsStoreReopened {D : Type 0} (device : Device D) (old new : StoreView
   pub images : IsTrue device.is_transparent → IsKeptWithFills device new
   pub no_call : pending_fault_of old.fills ≡ None → new.disk ≡ old.disk
   pub no_failed_write : NoWriteFailed device old.disk new.disk
+  pub no_fault : NoFault device old.disk new.disk
 
 -- the disk failed again: all but the disk is as before
 pub record IsReopenFailed {D : Type 0} (device : Device D) (old new : StoreView D) : Type 0 where
@@ -156,28 +159,30 @@ pub record IsStoreOpened {D : Type 0} (device : Device D) (disk : D) (store : St
   pub dones : IsTrue device.is_transparent →
       (es : List Entry) × HasRecords (device.reads disk 0) (map entry_octets es) × (store.fills ≡ dones_of es)
   pub filled : IsTrue device.is_transparent → StandsFilled (device.reads disk) (filled_of store)
-  pub own : AreOwn store.filled
   pub opening : device.reads store.opened ≡ device.reads disk
   pub since : IsTrue device.is_transparent →
       LeavesOnly device store.opened store.disk (λ c. StandsFilled c (filled_of store))
   pub no_failed_write : NoWriteFailed device disk store.disk
+  pub no_fault : NoFault device disk store.disk
 
 -- the disk holds no archive
 pub record FindsNoArchive {D : Type 0} (device : Device D) (before after : D) : Type 0 where
   pub none : IsTrue device.is_transparent → HoldsNone (device.reads before 0)
   pub no_failed_write : NoWriteFailed device before after
+  pub no_fault : NoFault device before after
 
 -- the archive is damaged in file 0, at this gate
 pub record FindsDamage {D : Type 0} (device : Device D) (before after : D) (file at : ℕ) : Type 0 where
   pub damaged : IsTrue device.is_transparent → (file ≡ 0) × IsArchiveDamagedAt (device.reads before) at
   pub no_failed_write : NoWriteFailed device before after
+  pub no_fault : NoFault device before after
 
 -- why an archive is not opened: none is there, it is damaged at a gate of file 0, the disk failed, or memory is wanting
 abbrev pub IsStoreOpenRefusal : {D : Type 0} → Device D → D → D → Refusal → Type 0
 IsStoreOpenRefusal device before after NoArchive = FindsNoArchive device before after
 IsStoreOpenRefusal device before after (Damaged file at) = FindsDamage device before after file at
 IsStoreOpenRefusal device before after DiskFault = IsJournalOpenFailed device before after
-IsStoreOpenRefusal device before after OutOfMemory = NoWriteFailed device before after
+IsStoreOpenRefusal device before after OutOfMemory = NoWriteFailed device before after × NoFault device before after
 IsStoreOpenRefusal device before after _ = ⊥
 
 -- a refusal that may come whatever the disk holds
@@ -197,19 +202,20 @@ pub record IsStoreCreated {D : Type 0} (device : Device D) (disk : D) (head : He
   pub history : store.history ≡ []
   pub fills : store.fills ≡ []
   pub filled : fillings_in store.filled ≡ no_fillings
-  pub own : AreOwn store.filled
   pub sound : IsTrue device.is_transparent → IsSoundImage (device.reads store.opened)
   pub head_is : store.head ≡ head
   pub exponent : store.exponent ≡ format_1_exponent
   pub records : store.records ≡ 1
   pub opened : store.opened ≡ store.disk
   pub no_failed_write : NoWriteFailed device disk store.disk
+  pub no_fault : NoFault device disk store.disk
 
 -- file 0 begins with an open gate, and the disk reads as before
 pub record FindsArchive {D : Type 0} (device : Device D) (before after : D) : Type 0 where
   pub held : IsTrue device.is_transparent → BeginsOpen (device.reads before 0)
   pub reads : IsTrue device.is_transparent → device.reads after ≡ device.reads before
   pub no_failed_write : NoWriteFailed device before after
+  pub no_fault : NoFault device before after
 
 -- why no archive is made, and what that leaves
 abbrev pub IsStoreCreateRefusal : {D : Type 0} → Device D → D → D → Refusal → Type 0

@@ -1,21 +1,12 @@
 -- The sets that stand for intervals.
 use Rattle.std.specs.Prelude.{◌≡◌, ℕ, List, Some}
 use Rattle.intervals.specs.declared.interval.Interval.{Interval}
-use Rattle.history_items.specs.declared.items.Item.{Item}
-use Rattle.history_items.specs.Items.{prefix}
 use Rattle.history_items.specs.Databases.{database_in}
 use Rattle.history_items.specs.Late.{IsLate}
 use Rattle.param_segments.specs.Extracted.{IsSetOf}
 use Rattle.param_segments.specs.Rows.{SetRow}
-use Rattle.store_fills.specs.declared.last_fills.LastFill.{LastFill}
 use Rattle.store_fills.specs.LastFills.{fill_over, fillings_in}
-use Rattle.archive_store.specs.declared.head.Head.{Head}
 use Rattle.archive_store.specs.StoreView.{StoreView}
-
--- a fill is of the database in force below its base, by the exponent
-abbrev pub IsOfHistory : Head → ℕ → List Item → LastFill → Type 0
-IsOfHistory head exponent history fill =
-    (fill.mdb ≡ database_in head.mdb (prefix fill.base history)) × (fill.exponent ≡ exponent)
 
 -- a set stands for an interval: the interval isn't late, and the set is that of its last fill, of the interval and of the
 -- database in force

@@ -1,6 +1,5 @@
 -- What a store keeps of its fields.
-use Rattle.std.specs.Prelude.{◌≡◌, ◌↔◌, ℕ, true, IsTrue, List, [], Option, Some, length}
-use Rattle.std.specs.Arc.{arc_value}
+use Rattle.std.specs.Prelude.{◌≡◌, ℕ, IsTrue, List, [], Option, Some, length}
 use Rattle.std.specs.List.{AllByRecursion}
 use mathlib.Core.List.{IsPrefix}
 use Rattle.arch_disk.specs.Disk.{Device}
@@ -8,7 +7,8 @@ use Rattle.intervals.specs.declared.interval.Interval.{Interval}
 use Rattle.intervals.specs.Interval.{format_1_exponent}
 use Rattle.history_items.specs.declared.fills.Fill.{Fill}
 use Rattle.history_items.specs.declared.items.Item.{Item}
-use Rattle.history_items.specs.Items.{databases_in, rows_in}
+use Rattle.history_items.specs.Items.{databases_in, prefix, rows_in}
+use Rattle.history_items.specs.Databases.{database_in}
 use Rattle.history_items.specs.Fills.{base_in, pending_fault_of}
 use Rattle.disk_journal.specs.State.{unhealed_fault, count_of}
 use Rattle.disk_journal.specs.declared.journal.Journal.{Journal}
@@ -16,12 +16,10 @@ use Rattle.field_codec.specs.declared.entry.Entry.TheVariants as kinds
 use Rattle.field_codec.specs.Entries.{IsArchiveEntry}
 use Rattle.param_segments.specs.Extracted.{IsSetOf}
 use Rattle.param_segments.specs.Rows.{SetRow}
-use Rattle.store_fills.specs.declared.last_fills.LastFill.{LastFill}
-use Rattle.store_fills.specs.LastFills.{AreOwn, PlacedFills, base_of_slot, fillings_in, slots_in}
-use Rattle.store_fills.specs.Sound.{Fillings}
+use Rattle.store_fills.specs.LastFills.{PlacedFills, fillings_in}
+use Rattle.store_fills.specs.Sound.{Filling, Fillings, base_of_filling}
 use Rattle.archive_history.specs.History.{HistoryView}
 use Rattle.archive_store.specs.declared.head.Head.{Head}
-use Rattle.archive_store.specs.CurrentSets.{IsOfHistory}
 use Rattle.archive_store.specs.Entries.{IsArchivedRow, IsSoundArchive, filled_archive}
 use Rattle.archive_store.specs.PlainLog.{RowsInvariant}
 use Rattle.archive_store.specs.Stands.{StandsFilled}
@@ -54,7 +52,6 @@ pub record StoreInvariant {D : Type 0} (device : Device D) (disk opened : D) (jo
       StandsFilled (device.reads opened) (filled_archive head exponent before fillings)
   pub sound : IsTrue device.is_transparent → IsSoundArchive (filled_archive head exponent before fillings) →
       IsSoundArchive (filled_archive head exponent history (fillings_in filled))
-  pub own : IsTrue device.is_transparent → AreOwn filled
   pub archives : RowsInvariant device (view_of disk opened journal head exponent history fills filled) journal
       (filled_archive head exponent before fillings)
   pub pending_fault_is : pending_fault ≡ pending_fault_of fills
@@ -67,13 +64,10 @@ pub record StoreInvariant {D : Type 0} (device : Device D) (disk opened : D) (jo
 abbrev pub IsHistoryOf : Head → HistoryView → Type 0
 IsHistoryOf head history = (history.tables ≡ length head.tables) × (history.exponent ≡ format_1_exponent)
 
--- The fill list and the fills that are there tell one base of each interval. Each set is one of its interval, by its
--- exponent, and of its database; those of the database in force below their base and of the exponent of the intervals are
--- read, and no other.
+-- The fill list and the fills that are there tell one base of each interval, and each set is one of its interval and of
+-- the database that is in force below its base.
 pub record HoldsFills (head : Head) (exponent : ℕ) (history : List Item) (fills : List Fill) (filled : PlacedFills)
     : Type 0 where
-  pub bases : (i : Interval) → base_in i fills ≡ base_of_slot (slots_in filled) i
-  pub fits : (i : Interval) (slot : LastFill) → slots_in filled i ≡ Some slot →
-      IsSetOf slot.mdb slot.exponent i.0 (arc_value slot.set)
-  pub own : (i : Interval) (slot : LastFill) → slots_in filled i ≡ Some slot →
-      (slot.own ≡ true) ↔ IsOfHistory head exponent history slot
+  pub bases : (i : Interval) → base_in i fills ≡ base_of_filling (fillings_in filled) i
+  pub fits : (i : Interval) (f : Filling (List SetRow)) → fillings_in filled i ≡ Some f →
+      IsSetOf (database_in head.mdb (prefix f.base history)) exponent i.0 f.set

@@ -1,6 +1,6 @@
 -- What an install answers, and what each answer leaves.
 use Rattle.std.specs.Prelude.{◌≡◌, ◌<◌, ◌≤◌, ◌+◌, true, None, Some}
-use Rattle.arch_disk.specs.Disk.{Device, NoWriteFailed}
+use Rattle.arch_disk.specs.Disk.{Device, NoFault, NoWriteFailed}
 use Rattle.arch_types.specs.declared.inserted.Installed.{Installed}
 use Rattle.arch_types.specs.declared.inserted.Installed.TheVariants as became
 use Rattle.intervals.specs.declared.interval.Interval.{Interval}
@@ -13,11 +13,11 @@ use Rattle.history_items.specs.Fills.{pending_fault_of}
 use Rattle.history_items.specs.Items.{prefix}
 use Rattle.history_items.specs.Databases.{database_in}
 use Rattle.interval_fills.specs.Intervals.{NoneSince}
-use Rattle.interval_fills.specs.Steps.{InstallsFill, freed}
+use Rattle.interval_fills.specs.Steps.{InstallsFill, IsFillBase, freed}
 use Rattle.store_fills.specs.Built.{BuiltFill}
 use Rattle.store_fills.specs.Filled.{IsRightFill}
 use Rattle.store_fills.specs.LastFills.{fill_over, fillings_in}
-use Rattle.store_fills.specs.Sound.{with_filling, without_filling}
+use Rattle.store_fills.specs.Sound.{with_filling}
 use Rattle.archive_store.specs.Entries.{FilledArchive, filled_archive}
 use Rattle.archive_store.specs.StoreView.{StoreView, AddsFault}
 use Rattle.archive_store.specs.Tasks.{machine_state}
@@ -38,15 +38,16 @@ IsRightFor store done =
     IsOwnFill store done
     × IsRightFill store.exponent store.head.mdb store.history done.interval done.base done.set
 
--- it is there, in one record more; the interval has it, but for one of another database or exponent, which is passed over
+-- it is there, in one record more, and its interval's; its base is one that a fill may have, and it is the store's own
 pub record FillIsAppended {D : Type 0} (device : Device D) (old new : StoreView D) (done : BuiltFill) : Type 0 where
   pub step : InstallsFill old.exponent (machine_state old) done.interval done.base became.Done (machine_state new)
-  pub filled : IsOwnFill old done →
-      fillings_in new.filled ≡ with_filling (fillings_in old.filled) done.interval (fill_over done.base done.set)
-  pub passed : (IsOwnFill old done → ⊥) →
-      fillings_in new.filled ≡ without_filling (fillings_in old.filled) done.interval
+  pub may : IsFillBase old.exponent done.interval done.base old.history
+  pub own : IsOwnFill old done
+  pub filled : fillings_in new.filled
+      ≡ with_filling (fillings_in old.filled) done.interval (fill_over done.base done.set)
   pub records : new.records ≡ old.records + 1
   pub no_failed_write : NoWriteFailed device old.disk new.disk
+  pub no_fault : NoFault device old.disk new.disk
 
 -- a fill is given up: all but its flight stays
 abbrev pub IsAbandoned : {D : Type 0} → StoreView D → StoreView D → Interval → Type 0

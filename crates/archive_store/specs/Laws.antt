@@ -5,7 +5,6 @@ use Rattle.arch_disk.specs.Image.{Image}
 use Rattle.arch_types.specs.declared.row.Row.{Row}
 use Rattle.text_forms.specs.ClockTime.{IsClockTime}
 use Rattle.history_items.specs.declared.items.Item.{Item}
-use Rattle.history_items.specs.Items.{rows_in}
 use Rattle.history_items.specs.declared.fills.Fill.{Fill}
 use Rattle.history_items.specs.Fills.{pending_fault_of, unacknowledged_in}
 use Rattle.disk_journal.specs.Format.{HoldsNone}
@@ -17,6 +16,7 @@ use Rattle.archive_history.specs.declared.row_limit.RowLimit.{RowLimit}
 use Rattle.refusals.specs.Limits.{limit_of}
 use Rattle.archive_store.specs.Limits.{limit_of_history}
 use Rattle.archive_store.specs.Entries.{Archive, FilledArchive, IsArchivedRow}
+use Rattle.archive_store.specs.Replays.{rows_below}
 use Rattle.archive_store.specs.Stands.{StandsFilled, StandsFor, StandsInFile, IsArchiveDamagedAt, IsFileDamagedAt}
 use Rattle.archive_store.specs.StoreView.{IsNow}
 
@@ -74,8 +74,8 @@ NoneIsNone =
 -- what is left of a replay is the same over a history that grew behind its front: it gives none of the rows that came
 abbrev pub ReplaysKeepTheirFront : Type 0
 ReplaysKeepTheirFront =
-    (c : CursorView) (history later : List Item) → c.front ≤ length (rows_in history) → IsPrefix history later →
-    rest_of c (rows_in later) ≡ rest_of c (rows_in history)
+    (c : CursorView) (history later : List Item) → c.front ≤ length history → IsPrefix history later →
+    rest_of c (rows_below later) ≡ rest_of c (rows_below history)
 
 -- the time of a row that a store gives is a moment of the clock
 abbrev pub ArchivedRowsHaveClockTimes : Type 0

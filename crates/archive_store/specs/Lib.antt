@@ -1,3 +1,4 @@
+pub mod Appending
 pub mod Batches
 pub mod Calls
 pub mod Entries
@@ -18,4 +19,5 @@ pub mod CurrentSets
 pub mod Installs
 pub mod Unacknowledged
 pub mod AddedFills
+pub mod Keeping
 pub mod LateFills

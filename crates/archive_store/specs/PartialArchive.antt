@@ -1,7 +1,7 @@
 -- What a reading of an archive gives.
 use Rattle.std.specs.Prelude.{◌≡◌, ◌≤◌, IsTrue, List, [], ◌++◌, Option, Some, None, ℕ, map, length, option_map}
 use Rattle.std.specs.List.{AllByRecursion}
-use Rattle.arch_disk.specs.Disk.{Device, raised}
+use Rattle.arch_disk.specs.Disk.{Device, NoFault, raised}
 use Rattle.intervals.specs.declared.interval.Interval.{Interval}
 use Rattle.history_items.specs.declared.fills.Fill.{Fill}
 use Rattle.history_items.specs.Items.{databases_in}
@@ -22,7 +22,7 @@ use Rattle.mdb_items.specs.Database.{Database}
 use Rattle.param_segments.specs.Extracted.{IsSetOf}
 use Rattle.param_segments.specs.Octets.{rows_in_octets, set_octets}
 use Rattle.param_segments.specs.Rows.{SetRow}
-use Rattle.store_fills.specs.LastFills.{AreOwn, fillings_in}
+use Rattle.store_fills.specs.LastFills.{fillings_in}
 use Rattle.archive_store.specs.declared.head.Head.{Head}
 use Rattle.archive_store.specs.declared.reading.PartialArchive.{PartialArchive}
 use Rattle.archive_store.specs.declared.reading.ReadArchive.{ReadArchive}
@@ -61,7 +61,6 @@ HasMarks (Some made) =
     AllByRecursion IsDone made.tracker.fills
     × AreMarksOf made.history.exponent made.history.items made.tracker.fills made.tracker.marks
     × HoldsFills made.head made.history.exponent made.history.items made.tracker.fills made.sets.filled
-    × AreOwn made.sets.filled
     × (databases_in made.history.items ≡ [])
 
 -- octets hold this set of an interval of this exponent and of a database, or they are the spelling of none
@@ -120,8 +119,9 @@ pub record IsArchiveRead {D : Type 0} (device : Device D) (disk : D) (read : Rea
 -- why no archive was read: an open record passes the file's end or breaks a rule, a read failed, or memory is wanting
 abbrev pub IsArchiveReadRefusal : {D : Type 0} → Device D → D → D → Refusal → Type 0
 IsArchiveReadRefusal device before after (refused.Damaged file at) =
-    IsTrue device.is_transparent → (file ≡ 0) × IsArchiveDamagedAt (device.reads before) at
+    (IsTrue device.is_transparent → (file ≡ 0) × IsArchiveDamagedAt (device.reads before) at)
+    × NoFault device before after
 IsArchiveReadRefusal device before after refused.DiskFault =
     raised (device.fault_count before) ≤ device.fault_count after
-IsArchiveReadRefusal device before after refused.OutOfMemory = Unit {0}
+IsArchiveReadRefusal device before after refused.OutOfMemory = NoFault device before after
 IsArchiveReadRefusal device before after _ = ⊥

@@ -1,14 +1,15 @@
 -- What a plan holds.
-use Rattle.std.specs.Prelude.{◌≡◌, ◌⊎◌, ◌<ℤ◌, ℕ, ℤ, List, Bool, None, ◌&&◌, filter, length, IsSome, map}
+use Rattle.std.specs.Prelude.{◌≡◌, ◌<ℤ◌, ℕ, ℤ, List, Bool, ◌&&◌, filter, length, IsSome, map}
 use Rattle.std.specs.List.{AllByRecursion}
 use Rattle.std.specs.Arc.{arc_value}
 use Rattle.intervals.specs.declared.interval.Interval.{Interval}
 use Rattle.arch_types.specs.declared.row.Row.{Row}
 use Rattle.arch_types.specs.Table.{is_in_time_range, range_of, table_of}
+use Rattle.history_items.specs.declared.fills.Fill.{Fill}
 use Rattle.history_items.specs.declared.items.Item.{Item}
 use Rattle.history_items.specs.Items.{rows_in}
 use Rattle.history_items.specs.Databases.{database_in}
-use Rattle.history_items.specs.Late.{IsLate, last_in}
+use Rattle.history_items.specs.Late.{IsLate, is_late_in, last_in}
 use Rattle.interval_fills.specs.Intervals.{rows_of_interval}
 use Rattle.interval_walks.specs.Counts.{row_interval}
 use Rattle.interval_walks.specs.Turns.{CoverRange, IntervalsRise, MeetsRange, meets_range}
@@ -16,20 +17,16 @@ use Rattle.param_segments.specs.declared.plan.Part.{Part}
 use Rattle.param_segments.specs.declared.plan.Part.TheVariants.{Rows, Set}
 use Rattle.param_segments.specs.declared.plan.Plan.{Plan}
 use Rattle.param_segments.specs.Plans.{ArePartsOver, part_interval, rows_of_parts}
-use Rattle.param_segments.specs.Rows.{SetRow}
-use Rattle.store_fills.specs.LastFills.{fillings_in}
-use Rattle.store_fills.specs.Sound.{Fillings}
 use Rattle.archive_store.specs.declared.head.Head.{Head}
 use Rattle.archive_store.specs.CurrentSets.{IsCurrentSet}
 use Rattle.archive_store.specs.Entries.{IsArchivedRow}
-use Rattle.archive_store.specs.LateFills.{is_late_by_fill}
 use Rattle.archive_store.specs.StoreView.{StoreView}
 
--- what a plan has of an interval: the set that stands for it, or, where it is late or has none that is read, its rows
+-- what a plan has of an interval: the set that stands for it, or, where it is late, its rows
 abbrev pub IsPlanPart : {D : Type 0} → StoreView D → Part → Type 0
 IsPlanPart store (Set interval set) = IsCurrentSet store interval (arc_value set)
 IsPlanPart store (Rows interval rows) =
-    (IsLate store.exponent interval store.history store.fills ⊎ (fillings_in store.filled interval ≡ None))
+    IsLate store.exponent interval store.history store.fills
     × (rows ≡ rows_of_interval store.exponent interval store.history)
 
 -- the interval of a part
@@ -64,14 +61,13 @@ pub record IsPlanOver (head : Head) (history : List Item) (low high : ℤ) (plan
   pub over : ArePartsOver (database_in head.mdb history) plan.parts rows
   pub in_range : filter (is_in_time_range low high) rows ≡ range_of 0 low high (rows_in history)
 
--- whether an interval is late, by the fills that are read, and meets a range of times: only of such ones rows are left to
--- extract
-abbrev pub is_late_of_range : ℕ → List Item → Fillings (List SetRow) → ℤ → ℤ → Interval → Bool
-is_late_of_range exponent history fillings low high interval =
-    is_late_by_fill exponent history fillings interval && meets_range exponent low high interval
+-- whether an interval is late and meets a range of times: only of such ones rows are left to extract
+abbrev pub is_late_of_range : ℕ → List Item → List Fill → ℤ → ℤ → Interval → Bool
+is_late_of_range exponent history fills low high interval =
+    is_late_in exponent interval history fills && meets_range exponent low high interval
 
 -- the rows of `tm` in such intervals
-abbrev pub late_rows_of_range : ℕ → List Item → Fillings (List SetRow) → ℤ → ℤ → List Row
-late_rows_of_range exponent history fillings low high =
-    filter (λ row. is_late_of_range exponent history fillings low high (row_interval exponent row))
+abbrev pub late_rows_of_range : ℕ → List Item → List Fill → ℤ → ℤ → List Row
+late_rows_of_range exponent history fills low high =
+    filter (λ row. is_late_of_range exponent history fills low high (row_interval exponent row))
     (table_of 0 (rows_in history))

@@ -1,7 +1,6 @@
 //! The rows of a store as a source of replays.
 
 ghost use Rattle.std.specs.Prelude.{◌≡◌};
-ghost use Rattle.history_items.specs.Items.{rows_in};
 
 use crate::head::Head;
 use crate::store::Store;
@@ -23,13 +22,12 @@ pub struct HistorySource<'a> {
 
 impl<'a> Model for HistorySource<'a> {
     ghost use Rattle.std.specs.Prelude.{List};
-    ghost use Rattle.arch_types.specs.declared.row.Row.{Row};
-    ghost use Rattle.history_items.specs.Items.{rows_in};
+    ghost use Rattle.history_items.specs.declared.items.Item.{Item};
     ghost use Rattle.archive_store.specs.Replays.{IsStoredHistory};
 
-    ghost Value = { List Row };
+    ghost Value = { List Item };
 
-    ghost view = { λ s. rows_in s.history.now.items };
+    ghost view = { λ s. s.history.now.items };
 
     ghost invariant = { λ s. IsStoredHistory s.head.now s.history.now };
 }
@@ -37,7 +35,7 @@ impl<'a> Model for HistorySource<'a> {
 impl<'a> RowSource for HistorySource<'a> {
     ghost use Rattle.archive_store.specs.Replays.{memory_state};
 
-    ghost state = { λ rows. memory_state rows };
+    ghost state = { λ history. memory_state history };
 
     /// No rows of a table that the head doesn't have. Refused for want of memory alone.
     fn rows(
@@ -81,7 +79,7 @@ impl<D: Disk> Store<D> {
     /// The rows in memory, as a source: to read them changes nothing, makes no fault of the disk, and is refused for want of memory
     /// alone.
     pub fn source(&self) -> HistorySource<'_>
-        ensures { result ≡ rows_in self.now.history }
+        ensures { result ≡ self.now.history }
     {
         HistorySource {
             head: &self.head,

@@ -15,6 +15,7 @@ ghost use Rattle.history_items.specs.Items.{items_of, rows_in};
 ghost use Rattle.archive_history.specs.Limits.{IsWithin};
 ghost use Rattle.archive_store.specs.Limits.{IsLimit, limit_of_history};
 
+use crate::appending::append_entry;
 use crate::batch::{Batch, Ingested};
 use crate::classifying::{ClassifiedBatch, classify};
 use crate::store::Store;
@@ -25,7 +26,6 @@ use archive_history::row_limit::RowLimit;
 use disk_journal::{Frame, Journal};
 use field_codec::{put_rows, rows_entry_len};
 use fill_tracker::FillTracker;
-use history_items::fills::Addition;
 use refusals::{Refusal, Which};
 use std::alloc::{AllocError, Global};
 
@@ -120,18 +120,21 @@ impl<D: Disk> Store<D> {
         let Ok(frame) = prepared else {
             return Err(Refusal::OutOfMemory);
         };
-        match self.journal.append(&mut self.disk, &frame) {
-            Ok(_) => {
+        match append_entry(
+            &mut self.disk,
+            &mut self.journal,
+            &mut self.tracker,
+            &frame,
+            fresh,
+        ) {
+            Ok(fresh) => {
                 let first = self.history.len() as u64;
                 self.tracker
                     .touch(fresh.as_slice(), first, self.history.exponent());
                 let _ = self.history.add_all(fresh);
                 Ok(())
             }
-            Err(fault) => {
-                let count = self.disk.faults();
-                self.tracker
-                    .note_fault(count, fault.wrote(), Addition::Rows(fresh));
+            Err(count) => {
                 self.pending_fault = Some(count);
                 Err(Refusal::DiskFault)
             }

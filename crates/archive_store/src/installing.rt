@@ -8,13 +8,14 @@ ghost use Rattle.disk_journal.specs.State.{HasRoom, IsSame};
 ghost use Rattle.history_items.specs.Fills.{pending_fault_of};
 ghost use Rattle.history_items.specs.Late.{last_in};
 ghost use Rattle.interval_fills.specs.Intervals.{NoneSince};
+ghost use Rattle.interval_fills.specs.Steps.{IsFillBase};
 
+use crate::appending::{NewFill, append_entry};
 use crate::store::Store;
 use arch_disk::Disk;
 use arch_types::inserted::Installed;
 use disk_journal::Journal;
 use fill_tracker::FillTracker;
-use history_items::fills::Addition;
 use intervals::Interval;
 use refusals::{Refusal, Which};
 use std::alloc::AllocError;
@@ -37,13 +38,13 @@ fn prepare_fill(
 }
 
 impl<D: Disk> Store<D> {
-    ghost use Rattle.archive_store.specs.Installs.{FillIsAppended, IsFillRefusal, IsInstallRefusal, IsRightFor, IsStoreInstalled, filled_with};
+    ghost use Rattle.archive_store.specs.Installs.{FillIsAppended, IsFillRefusal, IsInstallRefusal, IsOwnFill, IsRightFor, IsStoreInstalled, filled_with};
     ghost use Rattle.archive_store.specs.Stands.{StandsFilled};
     ghost use Rattle.archive_store.specs.StoreView.{OnlyAppends, filled_of};
     ghost use Rattle.disk_journal.specs.Calls.{CountsNeverFall};
 
-    /// The position of an interval's last row, where that stands at or after a base.
-    fn later_row(&self, interval: Interval, base: u64) -> Option<u64>
+    /// The position of what changed an interval last, where that stands at or after a base.
+    fn later_change(&self, interval: Interval, base: u64) -> Option<u64>
         ensures later { IfSome result (λ p.
             (base ≤ p) × (last_in self.now.exponent interval self.now.history ≡ Some p)) }
         ensures none { IfNone result (NoneSince self.now.exponent interval base self.now.history) }
@@ -69,8 +70,27 @@ impl<D: Disk> Store<D> {
         self.tracker.last(interval).is_some()
     }
 
-    /// Appends a fill to the disk, and then it is the interval's. All memory is taken before the first device call. A fill
-    /// of an interval without rows is refused like want of memory; one of another database is kept, and passed over.
+    /// Whether a fill may stand in the archive, where nothing changed its interval since its base: the interval has a
+    /// row, the base is at most the front, and the fill is of the database in force and of the store's exponent.
+    fn may_stand(&self, done: &Filled) -> bool
+        requires { NoneSince self.now.exponent done.now.interval done.now.base self.now.history }
+        ensures based { IsTrue result →
+            IsFillBase self.now.exponent done.now.interval done.now.base self.now.history }
+        ensures own { IsTrue result → IsOwnFill self.now done.now }
+    {
+        if !self.has_row(done.interval()) {
+            return false;
+        }
+        let base = done.base();
+        let front = self.front();
+        if base > front {
+            return false;
+        }
+        done.is_of(self.mdb(), self.exponent())
+    }
+
+    /// Appends a fill to the disk, and then it is the interval's. All memory is taken before the first device call. One
+    /// that may not stand in the archive is refused like want of memory.
     fn append_fill(&mut self, done: Filled) -> Result<(), Refusal>
         requires healed { pending_fault_of self.old.fills ≡ None }
         requires records { self.old.records < limit_of limits.Records }
@@ -85,27 +105,29 @@ impl<D: Disk> Store<D> {
     {
         let interval = done.interval();
         let base = done.base();
-        if !self.has_row(interval) {
+        if !self.may_stand(&done) {
             return Err(Refusal::OutOfMemory);
         }
-        let own = done.is_of(&self.mdb, self.history.exponent());
         // It tells the proof that the marks have the interval's rows.
         let _row = self.tracker.last(interval);
         let prepared = prepare_fill(&mut self.journal, &mut self.tracker, &mut self.sets);
         let Ok(()) = prepared else {
             return Err(Refusal::OutOfMemory);
         };
-        let parts = done.into_parts(own);
-        match self.journal.append(&mut self.disk, &parts.0) {
+        let parts = done.into_parts();
+        match append_entry(
+            &mut self.disk,
+            &mut self.journal,
+            &mut self.tracker,
+            &parts.0,
+            NewFill { interval, base },
+        ) {
             Ok(_) => {
                 self.tracker.finish(interval, base);
                 self.sets.put(interval, parts.1);
                 Ok(())
             }
-            Err(fault) => {
-                let count = self.disk.faults();
-                self.tracker
-                    .note_fault(count, fault.wrote(), Addition::Fill { interval, base });
+            Err(count) => {
                 self.pending_fault = Some(count);
                 Err(Refusal::DiskFault)
             }
@@ -113,14 +135,14 @@ impl<D: Disk> Store<D> {
     }
 
     /// Installs a fill: its set is the interval's from now on. Where a row of the interval came at or after its base it is
-    /// given up, and so it is where the call is refused. A disk that tells nothing asks nothing of the fill: one of another
-    /// database or exponent is kept then, and passed over by who reads sets, and one of an interval without rows is refused
-    /// like want of memory.
+    /// given up, and so it is where the call is refused. A disk that tells nothing asks nothing of the fill: one of an
+    /// interval without rows, of a base above the front, or of another database or exponent is refused like want of
+    /// memory.
     pub fn install(&mut self, done: Filled) -> Result<Installed, Refusal>
         // Where the disk tells what it holds, the fill is of the store's database, and right for the history.
         requires { IsTrue D.device.is_transparent → IsRightFor self.old done }
 
-        // Ok: the fill stands in one record more; or it is stale, by the last row of its interval.
+        // Ok: the fill stands in one record more; or it is stale, by what changed its interval last.
         ensures installed { IfOk result (IsStoreInstalled D.device self.old self.new done) }
 
         // NeedsReopen comes exactly where a failed write is pending, then Stale, then the limit of records, then want of
@@ -143,7 +165,7 @@ impl<D: Disk> Store<D> {
             }
             None => {}
         }
-        if let Some(position) = self.later_row(interval, base) {
+        if let Some(position) = self.later_change(interval, base) {
             self.give_up(interval);
             return Ok(Installed::Stale { position });
         }

@@ -11,7 +11,7 @@
 //
 // The one idea of the proof is in the store's type: it keeps which archives a crash at any moment since the opening may have left, whatever archives and
 // entries are (`ArchiveInvariant` in specs/Images.antt; file 0 is its log, specs/PlainLog.antt), and how the faults stand to the disk's counts
-// (`FaultInvariant`), of the value alone. So `front` and `into_disk` hand both out (`CrashInvariant`), and each call proves one step:
+// (`FaultInvariant`), of the value alone. So `is_kept` and `into_disk` hand both out (`CrashInvariant`), and each call proves one step:
 // a record more, an unacknowledged record, a record taken back (proofs/Kept.antt, proofs/Healing.antt).
 //
 // Which intervals are late is read from marks that the type keeps beside history and fill list (`AreMarksOf` of
@@ -47,6 +47,7 @@
 //     }
 #![tactic(auto)]
 
+mod appending;
 mod batch;
 mod classifying;
 mod filling;
@@ -56,6 +57,7 @@ mod history_source;
 mod ingest;
 mod installing;
 mod interval_rows;
+mod keeping;
 pub mod laws;
 mod packets;
 mod reading;

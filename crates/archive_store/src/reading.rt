@@ -2,7 +2,7 @@
 
 ghost use Rattle.std.specs.Prelude.{◌≡◌, ◌↔◌, ◌++◌, [], ◌∷◌, None, Some, IsTrue, true, false, length, OnErr, OnOk, IfOk, IfErr, Err};
 ghost use Rattle.std.specs.List.{AllByRecursion};
-ghost use Rattle.arch_disk.specs.Disk.{OnlyReads};
+ghost use Rattle.arch_disk.specs.Disk.{NoFault, OnlyReads};
 ghost use Rattle.disk_journal.specs.Calls.{BeginsOpen};
 ghost use Rattle.disk_journal.specs.Reading.{IsAt, file_read, IsReadJournal};
 ghost use Rattle.refusals.specs.declared.refusal.Refusal.TheVariants.{Damaged};
@@ -12,8 +12,8 @@ ghost use Rattle.late_marks.specs.Marks.{has_rows};
 ghost use Rattle.fill_tracker.specs.FillTracker.{KeepsMarks};
 ghost use Rattle.history_items.specs.Items.{databases_in, items_of};
 ghost use Rattle.interval_fills.specs.Steps.{IsStoredBase};
-ghost use Rattle.store_fills.specs.LastFills.{slots_in, with_slot};
-ghost use Rattle.store_fills.specs.Sound.{no_fillings};
+ghost use Rattle.store_fills.specs.LastFills.{filling_of, fillings_in};
+ghost use Rattle.store_fills.specs.Sound.{no_fillings, with_filling};
 ghost use Rattle.field_codec.specs.declared.entry.Entry.{Entry as AnEntry};
 ghost use Rattle.field_codec.specs.declared.entry.Entry.TheVariants as entries;
 ghost use Rattle.field_codec.specs.Entries.{IsArchiveEntry};
@@ -133,19 +133,20 @@ fn may_fill(made: &PartialArchive, interval: Interval, base: u64) -> bool
 fn note_fill(
     made: &mut PartialArchive,
     interval: Interval,
-    slot: LastFill,
+    fill: LastFill,
 ) -> Result<(), AllocError>
     requires { has_rows made.old.tracker.marks interval ≡ true }
-    ensures fills { OnOk result (made.new.tracker.fills ≡ made.old.tracker.fills ++ noted.Done interval slot.base ∷ []) }
+    ensures fills { OnOk result
+        (made.new.tracker.fills ≡ made.old.tracker.fills ++ noted.Done interval fill.base ∷ []) }
     ensures marks { OnOk result (KeepsMarks made.old.tracker made.new.tracker) }
-    ensures sets { OnOk result (slots_in made.new.sets.filled
-        ≡ with_slot (slots_in made.old.sets.filled) interval slot) }
+    ensures sets { OnOk result (fillings_in made.new.sets.filled
+        ≡ with_filling (fillings_in made.old.sets.filled) interval (filling_of fill)) }
     ensures rest { (made.new.head ≡ made.old.head) × (made.new.history ≡ made.old.history) }
 {
     made.tracker.reserve()?;
     made.sets.reserve()?;
-    made.tracker.finish(interval, slot.base);
-    made.sets.put(interval, slot);
+    made.tracker.finish(interval, fill.base);
+    made.sets.put(interval, fill);
     Ok(())
 }
 
@@ -196,16 +197,9 @@ fn admit_fill(
     let Some(set) = found else {
         return Ok(false);
     };
-    let mdb = made.head.mdb.copy()?;
     let shared = Arc::new(alloc, set)?;
-    let slot = LastFill {
-        base,
-        exponent: made.history.exponent(),
-        mdb,
-        own: true,
-        set: shared,
-    };
-    note_fill(made, interval, slot)?;
+    let fill = LastFill { base, set: shared };
+    note_fill(made, interval, fill)?;
     Ok(true)
 }
 
@@ -327,6 +321,7 @@ pub(crate) fn read_archive<D: Disk>(
     // Refused: at the first record that passes the file's end or breaks a rule, for a read that failed, or want of memory.
     ensures refused { IfErr result (IsArchiveReadRefusal D.device disk.old disk.new) }
     ensures looked { OnlyReads D.device disk.old disk.new }
+    ensures no_fault { OnOk result (NoFault D.device disk.old disk.new) }
 {
     let mut opening = opening;
     let mut made = None;

@@ -5,10 +5,12 @@ ghost use Rattle.std.specs.List.{AllByRecursion, filter_map};
 ghost use mathlib.Core.List.{IsPrefix};
 ghost use Rattle.refusals.specs.declared.refusal.Refusal.TheVariants.{OutOfMemory};
 ghost use Rattle.history_items.specs.declared.items.Item.{Item};
+ghost use Rattle.history_items.specs.Databases.{names_of_database};
 ghost use Rattle.history_items.specs.Items.{rows_in};
 ghost use Rattle.archive_history.specs.PartitionedTable.{named_times_of};
 ghost use Rattle.archive_history.specs.History.{rows_in_table};
 ghost use Rattle.archive_store.specs.Finding.{IsReplayFound};
+ghost use Rattle.archive_store.specs.Replays.{rows_below};
 ghost use Rattle.histogram.specs.Times.{spans_of_times, times_of};
 ghost use Rattle.asks.specs.Names.{packet_name_number, packet_name_numbers};
 ghost use Rattle.replay_merge.specs.Cursor.{rest_of};
@@ -31,7 +33,7 @@ use std::alloc::{AllocError, Global};
 
 /// The numbers of those packet names that the database has.
 fn numbers_of(alloc: Global, head: &Head, names: &Names) -> Result<PnameList, AllocError>
-    ensures { IfOk result (λ numbers. numbers ≡ filter_map (packet_name_number head.now.mdb) names.now) }
+    ensures { IfOk result (λ numbers. numbers ≡ filter_map (packet_name_number (names_of_database head.now.mdb)) names.now) }
 {
     let mut numbers = PnameList::new(alloc);
     for name in names.as_slice() {
@@ -48,7 +50,7 @@ fn asked_numbers(
     head: &Head,
     names: &Option<Names>,
 ) -> Result<Option<PnameList>, AllocError>
-    ensures { IfOk result (λ numbers. numbers ≡ packet_name_numbers head.now.mdb names.now) }
+    ensures { IfOk result (λ numbers. numbers ≡ packet_name_numbers (names_of_database head.now.mdb) names.now) }
 {
     match names {
         Some(names) => Ok(Some(numbers_of(alloc, head, names)?)),
@@ -79,7 +81,8 @@ fn cursor_at_front(
     ensures table { IfOk result (λ c. c.table ≡ table) }
     ensures front { IfOk result (λ c. c.front ≡ length history.now.items) }
     ensures replay { IfOk result (λ c. (later : List Item) → IsPrefix history.now.items later →
-        rest_of c (rows_in later) ≡ replay_of head.now.mdb table request.now (rows_in history.now.items)) }
+        rest_of c (rows_below later)
+        ≡ replay_of (names_of_database head.now.mdb) table request.now (rows_in history.now.items)) }
 {
     let names = asked_numbers(alloc, head, &request.names)?;
     let bounds = bounds_of(request, names);
@@ -116,7 +119,7 @@ impl<D: Disk> Store<D> {
         limit: u64,
     ) -> Result<Rows, Refusal>
         ensures rows { IfOk result (λ rows.
-            rows ++ rest_of cursor.new (rows_in self.old.history) ≡ rest_of cursor.old (rows_in self.old.history)) }
+            rows ++ rest_of cursor.new (rows_below self.old.history) ≡ rest_of cursor.old (rows_below self.old.history)) }
         ensures end { IfOk result (EndsExactly limit cursor.old cursor.new) }
         ensures nearer { IfOk result (λ rows. (rows ≡ [] → ⊥) → steps_at_most cursor.new < steps_at_most cursor.old) }
         ensures few { IfOk result (λ rows. length rows ≤ limit) }

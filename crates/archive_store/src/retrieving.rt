@@ -8,7 +8,6 @@ ghost use Rattle.history_items.specs.Databases.{database_in, names_in};
 ghost use Rattle.history_items.specs.Late.{last_in};
 ghost use Rattle.interval_walks.specs.Turns.{CoverRange, IntervalsRise};
 ghost use Rattle.param_segments.specs.Plans.{HasValuesOf, part_interval, rows_of_parts};
-ghost use Rattle.store_fills.specs.LastFills.{fillings_in};
 ghost use Rattle.archive_store.specs.Plans.{IsPlan, IsPlanPart, IsRangeInterval, plan_intervals};
 ghost use Rattle.archive_store.specs.Stands.{IsSoundImage};
 
@@ -81,8 +80,7 @@ impl<D: Disk> Store<D> {
         )
     }
 
-    /// What a plan has of an interval that has rows of table `tm`: its set, where it isn't late and the set is read, else
-    /// its rows.
+    /// What a plan has of an interval that has rows of table `tm`: its set, where it isn't late, else its rows.
     fn part_of(&self, alloc: Global, interval: Interval) -> Result<Part, AllocError>
         requires { IsSome (last_in self.now.exponent interval self.now.history) }
         ensures part { IfOk result (IsPlanPart self.now) }
@@ -108,8 +106,9 @@ impl<D: Disk> Store<D> {
         ensures over { IsTrue D.device.is_transparent → IsSoundImage (D.device.reads self.now.opened) →
             IfOk result (IsPlanOver self.now.head self.now.history request.now.from request.now.to) }
         ensures steps { IfOk result (λ plan. length (rows_of_parts plan.parts) ≤ length (late_rows_of_range
-            self.now.exponent self.now.history (fillings_in self.now.filled) request.now.from request.now.to)) }
+            self.now.exponent self.now.history self.now.fills request.now.from request.now.to)) }
     {
+        self.is_kept();
         let intervals = self.range_intervals(alloc, request)?;
         let parts = parts_of(alloc, self, intervals.as_slice())?;
         Ok(Plan {
@@ -134,10 +133,9 @@ impl<D: Disk> Store<D> {
         ensures over { IsTrue D.device.is_transparent → IsSoundImage (D.device.reads self.old.opened) → IfOk result
             (IsPlanOver self.old.head self.old.history found.now.request.from found.now.request.to) }
 
-        // Rows are left to extract of late intervals that meet the range alone, by the fills that are read.
+        // Rows are left to extract of late intervals that meet the range alone.
         ensures steps { IfOk result (λ plan. length (rows_of_parts plan.parts) ≤ length (late_rows_of_range
-            self.old.exponent self.old.history (fillings_in self.old.filled)
-            found.now.request.from found.now.request.to)) }
+            self.old.exponent self.old.history self.old.fills found.now.request.from found.now.request.to)) }
         ensures same { self.new ≡ self.old }
     {
         let mdb = Arc::try_clone(&found.mdb)?;

@@ -8,7 +8,7 @@ ghost use Rattle.history_items.specs.Late.{IsLate};
 ghost use Rattle.fill_tracker.specs.FillTracker.{AreMarksOf};
 ghost use Rattle.interval_fills.specs.Intervals.{rows_of_interval};
 ghost use Rattle.store_fills.specs.Filled.{HoldsRows};
-ghost use Rattle.store_fills.specs.LastFills.{fillings_in, slots_in};
+ghost use Rattle.store_fills.specs.LastFills.{fillings_in, filling_of};
 ghost use Rattle.archive_store.specs.CurrentSets.{IsCurrentSet};
 ghost use Rattle.archive_store.specs.Stands.{IsSoundImage};
 
@@ -21,14 +21,13 @@ use std::alloc::{AllocError, Global};
 use std::sync::Arc;
 use store_fills::{LastFill, LastFills};
 
-/// The last fill of an interval that isn't late, where it was filled. One that isn't of the store's database and exponent
-/// is passed over.
+/// The last fill of an interval that isn't late, where it was filled.
 pub(crate) fn current_fill<'a>(
     tracker: &FillTracker,
     sets: &'a LastFills,
     interval: Interval,
 ) -> Option<&'a LastFill>
-    ensures filled { IfSome result (λ fill. (slots_in sets.now.filled interval ≡ Some fill.now) × IsTrue fill.now.own) }
+    ensures filled { IfSome result (λ fill. fillings_in sets.now.filled interval ≡ Some (filling_of fill.now)) }
     ensures current { IfSome result (λ fill. (exponent : ℕ) (history : List Item) →
         AreMarksOf exponent history tracker.now.fills tracker.now.marks →
         IsLate exponent interval history tracker.now.fills → ⊥) }
@@ -39,13 +38,7 @@ pub(crate) fn current_fill<'a>(
     if tracker.is_late(interval) {
         return None;
     }
-    let Some(fill) = sets.get(interval) else {
-        return None;
-    };
-    if fill.own {
-        return Some(fill);
-    }
-    None
+    sets.get(interval)
 }
 
 /// The set of a fill, shared. The one error is want of memory.

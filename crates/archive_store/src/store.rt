@@ -1,17 +1,13 @@
 //! The store.
 
-ghost use Rattle.std.specs.Prelude.{◌≡◌, ◌↔◌, [], IsTrue, length, IfOk, IfErr, None, Some};
+ghost use Rattle.std.specs.Prelude.{◌≡◌, [], IsTrue, length, IfOk, IfErr, None};
 ghost use Rattle.arch_disk.specs.Disk.{LeavesOnly};
 ghost use Rattle.disk_journal.specs.State.{IsUntouched};
 ghost use Rattle.field_codec.specs.declared.entry.Entry.TheVariants as entries;
 ghost use Rattle.field_codec.specs.Entries.{IsArchiveEntry};
 ghost use Rattle.field_codec.specs.Spelling.{entry_octets};
-ghost use Rattle.arch_types.specs.History.{IsHistory};
-ghost use Rattle.history_items.specs.Items.{rows_in};
 ghost use Rattle.history_items.specs.Databases.{database_in};
-ghost use Rattle.archive_history.specs.Limits.{IsWithin};
-ghost use Rattle.archive_store.specs.Entries.{IsArchivedRow};
-ghost use Rattle.std.specs.List.{AllByRecursion};
+ghost use Rattle.history_items.specs.Items.{databases_in, rows_in};
 ghost use Rattle.archive_store.specs.Inside.{IsHistoryOf};
 ghost use Rattle.archive_store.specs.PartialArchive.{refusal_of_create};
 ghost use Rattle.std.specs.Arc.{arc_value};
@@ -55,6 +51,7 @@ impl<D: Disk> Model for Store<D> {
     ghost use Rattle.std.specs.Arc.{arc_value};
     ghost use Rattle.fill_tracker.specs.FillTracker.{AreMarksOf};
     ghost use Rattle.history_items.specs.Databases.{database_in};
+    ghost use Rattle.history_items.specs.Items.{databases_in, rows_in};
     ghost use Rattle.archive_store.specs.StoreView.{StoreView};
     ghost use Rattle.archive_store.specs.Inside.{view_of, HoldsFills, StoreInvariant};
 
@@ -123,14 +120,7 @@ fn prepare_new(alloc: Global, head: Head) -> Result<NewArchive, AllocError>
 }
 
 impl<D: Disk> Store<D> {
-    ghost use Rattle.intervals.specs.declared.interval.Interval.{Interval as AnInterval};
-    ghost use Rattle.history_items.specs.Fills.{base_in, pending_fault_of};
-    ghost use Rattle.store_fills.specs.declared.last_fills.LastFill.{LastFill as LastFillOf};
-    ghost use Rattle.store_fills.specs.LastFills.{AreOwn, base_of_slot, slots_in};
-    ghost use Rattle.archive_store.specs.CurrentSets.{IsOfHistory};
-    ghost use Rattle.archive_store.specs.Entries.{IsSoundArchive};
-    ghost use Rattle.archive_store.specs.Stands.{IsSoundImage};
-    ghost use Rattle.archive_store.specs.StoreView.{CrashInvariant, FaultInvariant, IsKeptWithFills, filled_of};
+    ghost use Rattle.archive_store.specs.StoreView.{CrashInvariant, FaultInvariant};
     ghost use Rattle.disk_journal.specs.Calls.{BeginsOpen, CountsNeverFall};
     ghost use Rattle.archive_store.specs.Calls.{CrashLeavesHead, IsDecidedByImage, IsStoreCreated, IsStoreCreateRefusal, IsStoreOpened, IsStoreOpenRefusal, disk_of, opened_disk_of};
 
@@ -191,7 +181,7 @@ impl<D: Disk> Store<D> {
         ensures opened { IfOk result (IsStoreOpened D.device disk) }
 
         // Refused: no archive is there, it is damaged at a gate, the disk failed, or memory is wanting. A write failed
-        // only where the sync at the beginning did.
+        // only where the sync at the beginning did. A failed look at the disk is never passed over.
         ensures refused { IfErr result (λ e. IsStoreOpenRefusal D.device disk e.0 e.1) }
 
         // What the disk reads as decides which of these it is, but for a fault of the disk and want of memory.
@@ -256,29 +246,14 @@ impl<D: Disk> Store<D> {
 
     /// The length of the history.
     pub fn front(&self) -> u64
-        ensures front { result ≡ length self.now.history }
-        ensures history { IsHistory (rows_in self.now.history)
-            × IsWithin self.now.exponent (rows_in self.now.history) }
-        ensures rows { AllByRecursion (IsArchivedRow self.now.head self.now.history) (rows_in self.now.history) }
-        ensures images { IsTrue D.device.is_transparent → CrashInvariant D.device self.now }
-        ensures faults { FaultInvariant D.device self.now }
+        ensures { result ≡ length self.now.history }
+    {
+        self.history.len() as u64
+    }
 
-        // While no failed write is pending, each image of now stands for the history with its fills, and nothing more.
-        ensures kept { IsTrue D.device.is_transparent → pending_fault_of self.now.fills ≡ None →
-            IsKeptWithFills D.device self.now }
-
-        // Its fills are sound if those of the disk were when it was opened.
-        ensures sound { IsTrue D.device.is_transparent → IsSoundImage (D.device.reads self.now.opened) →
-            IsSoundArchive (filled_of self.now) }
-
-        // The fill list and the fills that are there tell one base of each interval.
-        ensures bases { (i : AnInterval) → base_in i self.now.fills ≡ base_of_slot (slots_in self.now.filled) i }
-
-        // A fill is read exactly where it is of the database in force below its base and of the store's exponent, as each
-        // is where the disk tells what it holds.
-        ensures own { (i : AnInterval) (slot : LastFillOf) → slots_in self.now.filled i ≡ Some slot →
-            IsTrue slot.own ↔ IsOfHistory self.now.head self.now.exponent self.now.history slot }
-        ensures all_own { IsTrue D.device.is_transparent → AreOwn self.now.filled }
+    /// How many rows the history has.
+    pub fn row_count(&self) -> u64
+        ensures { result ≡ length (rows_in self.now.history) }
     {
         self.history.len() as u64
     }
@@ -294,6 +269,9 @@ impl<D: Disk> Store<D> {
     pub fn head(&self) -> &Head
         ensures head { result.now ≡ self.now.head }
         ensures sound { IsArchiveEntry (entries.Head self.now.head.tables self.now.head.mdb) }
+
+        // Nothing adds a database to a history yet.
+        ensures alone { databases_in self.now.history ≡ [] }
     {
         &self.head
     }

@@ -2,5 +2,5 @@ pub mod Bases
 pub mod Built
 pub mod Faults
 pub mod RightFills
-pub mod SlotPlaces
+pub mod FillPlaces
 pub mod Soundness

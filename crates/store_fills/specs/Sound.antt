@@ -27,10 +27,6 @@ base_of_filling fillings interval = option_map (λ filling. filling.base) (filli
 abbrev pub with_filling : {S : Type 0} → Fillings S → Interval → Filling S → Fillings S
 with_filling fillings interval filling = λ other. if is_same other interval then Some filling else fillings other
 
--- none of an interval
-abbrev pub without_filling : {S : Type 0} → Fillings S → Interval → Fillings S
-without_filling fillings interval = λ other. if is_same other interval then None else fillings other
-
 -- `Holds` says that a set holds what rows give. Each interval's last fill holds what the interval's rows give, where none
 -- of them came at or after its base.
 pub record AreSound {S : Type 0} (exponent : ℕ) (Holds : S → List Row → Type 0) (history : List Item) (fillings : Fillings S)

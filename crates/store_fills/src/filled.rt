@@ -8,6 +8,7 @@ ghost use Rattle.field_codec.specs.Spelling.{entry_octets};
 ghost use Rattle.param_segments.specs.Extracted.{IsSetOf, extracted_rows};
 ghost use Rattle.param_segments.specs.Octets.{rows_in_octets, set_octets};
 ghost use Rattle.store_fills.specs.Filled.{HoldsRows};
+ghost use Rattle.store_fills.specs.LastFills.{fill_over, filling_of};
 ghost use Rattle.store_fills.specs.Built.{IsTaskRows};
 
 use crate::last_fills::LastFill;
@@ -22,8 +23,8 @@ use std::alloc::{AllocError, Global};
 use std::marker::Model;
 use std::sync::Arc;
 
-/// A fill that is built: its set, with the database and the exponent that it is of, and the record that stands for it on
-/// a disk, so that an install copies nothing.
+/// A fill that is built: its set, with the database and the exponent that it is of, by which an install knows its own,
+/// and the record that stands for it on a disk, so that an install copies nothing.
 #[derive(Drop)]
 pub struct Filled {
     interval: Interval,
@@ -137,22 +138,23 @@ impl Filled {
         self.exponent == exponent && self.mdb.equals(mdb)
     }
 
-    /// The record that is appended, and the fill that is kept, which is said to be the store's own or not.
-    pub fn into_parts(self, own: bool) -> (Frame, LastFill)
+    /// The record that is appended, and the fill that is kept.
+    pub fn into_parts(self) -> (Frame, LastFill)
         ensures frame { result.0 ≡ entry_octets (entries.Fill self.interval self.base (set_octets self.set)) }
         ensures fits { IsArchiveEntry (entries.Fill self.interval self.base (set_octets self.set)) }
-        ensures slot { (result.1.base ≡ self.base) × (result.1.own ≡ own) × (result.1.exponent ≡ self.exponent)
-            × (result.1.mdb ≡ self.mdb) × (arc_value result.1.set ≡ self.set) }
+        ensures fill { filling_of result.1 ≡ fill_over self.base self.set }
         ensures value { rows_in_octets (set_octets self.set) ≡ self.set }
         ensures inside { IsSetOf self.mdb self.exponent self.interval.0 self.set }
     {
-        let slot = LastFill {
-            base: self.base,
-            exponent: self.exponent,
-            mdb: self.mdb,
-            own,
-            set: self.set,
-        };
-        (self.frame, slot)
+        let Filled {
+            interval: _,
+            exponent: _,
+            base,
+            mdb: _,
+            set,
+            frame,
+        } = self;
+        let fill = LastFill { base, set };
+        (frame, fill)
     }
 }

@@ -1,24 +1,20 @@
 //! The last fills of intervals.
 
 ghost use Rattle.std.specs.Prelude.{◌≡◌, ◌≤◌, [], Some, None, OnOk, IfSome, IfNone};
-ghost use Rattle.store_fills.specs.LastFills.{slots_in, with_slot};
+ghost use Rattle.store_fills.specs.Sound.{with_filling};
+ghost use Rattle.store_fills.specs.LastFills.{fillings_in, filling_of};
 
 use block_map::index::Index;
-use intervals::{Exponent, Interval};
-use mdb_model::Mdb;
+use intervals::Interval;
 use param_segments::SegSet;
 use std::alloc::{AllocError, Global};
 use std::marker::Model;
 use std::sync::Arc;
 
-/// The last fill of an interval: its base and its set, with the exponent and the database that this is of.
+/// The last fill of an interval: its base and its set.
 #[derive(Drop)]
 pub struct LastFill {
     pub base: u64,
-    pub exponent: Exponent,
-    pub mdb: Mdb,
-    /// Whether exponent and database are those of the store. A fill of others is passed over.
-    pub own: bool,
     pub set: Arc<SegSet, Global>,
 }
 
@@ -27,7 +23,7 @@ pub struct LastFill {
 pub struct LastFills {
     /// Where the fill of an interval stands.
     places: Index<Interval, usize>,
-    slots: Vec<LastFill>,
+    fills: Vec<LastFill>,
 }
 
 impl Model for LastFills {
@@ -35,9 +31,9 @@ impl Model for LastFills {
 
     ghost Value = { LastFillsView };
 
-    ghost view = { λ s. last_fills_of s.places s.slots };
+    ghost view = { λ s. last_fills_of s.places s.fills };
 
-    ghost invariant = { λ s. ArePlaced s.places.entries s.slots.items };
+    ghost invariant = { λ s. ArePlaced s.places.entries s.fills.items };
 }
 
 impl LastFills {
@@ -47,7 +43,7 @@ impl LastFills {
     {
         LastFills {
             places: Index::new(alloc),
-            slots: Vec::new(alloc),
+            fills: Vec::new(alloc),
         }
     }
 
@@ -56,31 +52,31 @@ impl LastFills {
         ensures ok { OnOk result (1 ≤ self.new.room) }
         ensures same { self.new.filled ≡ self.old.filled }
     {
-        self.slots.reserve(1)?;
+        self.fills.reserve(1)?;
         self.places.reserve(1)
     }
 
     /// The fill of an interval is this one from now on. Takes no memory.
-    pub fn put(&mut self, interval: Interval, slot: LastFill)
+    pub fn put(&mut self, interval: Interval, fill: LastFill)
         requires { 1 ≤ self.old.room }
-        ensures { slots_in self.new.filled ≡ with_slot (slots_in self.old.filled) interval slot }
+        ensures { fillings_in self.new.filled ≡ with_filling (fillings_in self.old.filled) interval (filling_of fill) }
     {
         match self.places.get(interval) {
-            Some(at) => self.slots[at] = slot,
+            Some(at) => self.fills[at] = fill,
             None => {
-                let at = self.slots.len();
+                let at = self.fills.len();
                 self.places.insert(interval, at);
-                self.slots.push_reserved(slot);
+                self.fills.push_reserved(fill);
             }
         }
     }
 
-    /// The fill of an interval, of whatever database.
+    /// The fill of an interval.
     pub fn get(&self, interval: Interval) -> Option<&LastFill>
-        ensures some { IfSome result (λ fill. slots_in self.now.filled interval ≡ Some fill.now) }
-        ensures none { IfNone result (slots_in self.now.filled interval ≡ None) }
+        ensures some { IfSome result (λ fill. fillings_in self.now.filled interval ≡ Some (filling_of fill.now)) }
+        ensures none { IfNone result (fillings_in self.now.filled interval ≡ None) }
     {
         let at = self.places.get(interval)?;
-        Some(&self.slots[at])
+        Some(&self.fills[at])
     }
 }

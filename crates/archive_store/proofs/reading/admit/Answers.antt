@@ -13,7 +13,7 @@ use Rattle.archive_store.proofs.RowsAlone.{more_alone}
 use Rattle.archive_store.proofs.reading.admit.Goals as goal
 
 pub are_placed-requires : goal.are_placed-requires
-are_placed-requires c = c.requires.marks.4
+are_placed-requires c = c.requires.marks.3
 
 pub touch-requires-clause-small : goal.touch-requires-clause-small
 touch-requires-clause-small c = omega (arith, c.len-first.ensures.rows, c.len-first.ensures.within.few, c.requires.entry.few, ap length c.as_slice-3.ensures)
@@ -31,7 +31,7 @@ returns-clause-marks c all =
     let marks = subst (λ (e : ℕ). AreMarksOf e (items ++ items_of c.as_slice-3.result.now) c.touch.new.self.fills c.touch.new.self.marks) format (c.touch.ensures.marks items (omega (arith, c.len-first.ensures.len, ap length roomy)) before) in
     let touched = subst (λ (l : List Row). AreMarksOf made.history.exponent (items ++ items_of l) c.touch.new.self.fills c.touch.new.self.marks) c.as_slice-3.ensures marks in
     let added = c.add_all.ensures.items all ∙ ap (λ (l : List Item). l ++ items_of rows) roomy in
-    let alone = more_alone items rows c.requires.marks.4 in
+    let alone = more_alone items rows c.requires.marks.3 in
     let fills = c.touch.ensures.fills ∙ c.reserve_rows.ensures.fills in (
       subst (AllByRecursion IsDone) (sym fills) c.requires.marks.0,
       subst (λ (e : ℕ). AreMarksOf e c.add_all.new.self.items c.touch.new.self.fills c.touch.new.self.marks) (sym stays)
@@ -39,7 +39,6 @@ returns-clause-marks c all =
       subst (λ (e : ℕ). HoldsFills made.head e c.add_all.new.self.items c.touch.new.self.fills made.sets.filled) (sym stays)
           (subst (λ (l : List Item). HoldsFills made.head made.history.exponent l c.touch.new.self.fills made.sets.filled) (sym added)
           (subst (λ (l : List Fill). HoldsFills made.head made.history.exponent (items ++ items_of rows) l made.sets.filled) (sym fills)
-          (holds_later made.head made.history.exponent items (items ++ items_of rows) made.tracker.fills made.sets.filled c.requires.marks.4 alone c.requires.marks.2))),
-      c.requires.marks.3,
+          (holds_later made.head made.history.exponent items (items ++ items_of rows) made.tracker.fills made.sets.filled c.requires.marks.3 alone c.requires.marks.2))),
       subst (λ (l : List Item). databases_in l ≡ []) (sym added) alone,
     )

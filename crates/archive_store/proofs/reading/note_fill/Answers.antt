@@ -1,6 +1,7 @@
 use Rattle.std.proofs.Common.{◌≡◌, true, sym, ◌∙◌, ap, subst}
 use Rattle.late_marks.specs.Marks.{Marks, has_rows}
-use Rattle.store_fills.specs.LastFills.{PlacedFills, slots_in, with_slot}
+use Rattle.store_fills.specs.LastFills.{PlacedFills, filling_of, fillings_in}
+use Rattle.store_fills.specs.Sound.{with_filling}
 use Rattle.archive_store.proofs.KeptMarks.{keeps_roomier}
 use Rattle.archive_store.proofs.reading.note_fill.Goals as goal
 
@@ -11,4 +12,4 @@ pub returns-clause-marks : goal.returns-clause-marks
 returns-clause-marks c = keeps_roomier c.args.made.now.tracker c.reserve.new.self c.finish.new.self c.reserve.ensures.same c.finish.ensures.marks
 
 pub returns-clause-sets : goal.returns-clause-sets
-returns-clause-sets c = c.put.ensures ∙ ap (λ (f : PlacedFills). with_slot (slots_in f) c.args.interval c.args.slot) c.reserve-2.ensures.same
+returns-clause-sets c = c.put.ensures ∙ ap (λ (f : PlacedFills). with_filling (fillings_in f) c.args.interval (filling_of c.args.fill)) c.reserve-2.ensures.same

@@ -9,9 +9,9 @@ use Rattle.store_fills.specs.Faults.{IsDone}
 use Rattle.std.specs.List.{AllByRecursion}
 use Rattle.store_fills.specs.LastFills.{fillings_in}
 use Rattle.store_fills.specs.Sound.{Fillings}
-use Rattle.store_fills.proofs.Bases.{none_filled, none_placed}
+use Rattle.store_fills.proofs.Bases.{none_filled}
 use Rattle.archive_store.specs.Entries.{filled_archive}
-use Rattle.archive_store.proofs.Fillable.{holds_none, own_none}
+use Rattle.archive_store.proofs.Fillable.{holds_none}
 use Rattle.archive_store.proofs.reading.of_head.Goals as goal
 
 pub returns-clause-made : goal.returns-clause-made
@@ -28,7 +28,6 @@ returns-clause-marks c =
     let tracker = c.new-tracker.result in (
       subst (AllByRecursion IsDone) (sym c.new-tracker.ensures.fills) tt,
       subst (λ (l : List Item). AreMarksOf c.in_ok-history.history.exponent l tracker.fills tracker.marks) (sym empty) (c.new-tracker.ensures.marks c.in_ok-history.history.exponent),
-      holds_none c.args.head c.in_ok-history.history.exponent c.in_ok-history.history.items tracker.fills c.new-sets.result.filled c.new-tracker.ensures.fills (none_placed c.new-sets.result.filled c.new-sets.ensures),
-      own_none c.new-sets.result.filled (none_placed c.new-sets.result.filled c.new-sets.ensures),
+      holds_none c.args.head c.in_ok-history.history.exponent c.in_ok-history.history.items tracker.fills c.new-sets.result.filled c.new-tracker.ensures.fills (none_filled c.new-sets.result.filled c.new-sets.ensures),
       ap databases_in empty,
     )

@@ -75,13 +75,16 @@ returns-in-Ok-None-clause-refused g c =
     let same = same_file (reads c.entries.disk) (reads c.args.disk.now) (file_read old) inv.looked.reads_same inv.file in
     let x = rw c.in-Ok-None.field-0-is at c.in-Ok-None.ensures.next in
     only_refusal c.finished.result (c.entries.made ≡ None) (Damaged 0 0) (IsArchiveReadRefusal device c.args.disk.now c.next.new.disk) c.finished.ensures.none
-    (λ none transparent.
-    let s = inv.so_far transparent in
-    let bodies : List (List ℕ) = map entry_octets s.0 in
-    let are = read_are (content_read device old c.entries.disk) old bodies (subst (λ (l : List ℕ). IsAt old l bodies) (sym same) s.1) in
-    let has : HasRecords content bodies = these HasRecords _ content _ bodies same are (x.has transparent) in
-    let empty : s.0 ≡ [] = no_entries (archive_made c.entries.made) s.0 s.2 (ap archive_made none) in
-    absurd (opens_some content (c.requires.begun transparent).0.1 (subst (λ (es : List Entry). HasRecords content (map entry_octets es)) empty has)))
+    (λ none. (
+      λ transparent.
+          let s = inv.so_far transparent in
+          let bodies : List (List ℕ) = map entry_octets s.0 in
+          let are = read_are (content_read device old c.entries.disk) old bodies (subst (λ (l : List ℕ). IsAt old l bodies) (sym same) s.1) in
+          let has : HasRecords content bodies = these HasRecords _ content _ bodies same are (x.has transparent) in
+          let empty : s.0 ≡ [] = no_entries (archive_made c.entries.made) s.0 s.2 (ap archive_made none) in
+          absurd (opens_some content (c.requires.begun transparent).0.1 (subst (λ (es : List Entry). HasRecords content (map entry_octets es)) empty has)),
+      c.in-Ok-None.ensures.told.done ∙ inv.no_fault,
+    ))
 
 pub returns-in-Err-clause-refused : goal.returns-in-Err-clause-refused
 returns-in-Err-clause-refused g c =
@@ -91,7 +94,7 @@ returns-in-Err-clause-refused g c =
     let old = c.entries.opening in
     let same = same_file (reads c.entries.disk) (reads c.args.disk.now) (file_read old) inv.looked.reads_same inv.file in
     subst (IsArchiveReadRefusal device c.args.disk.now c.next.new.disk) (sym c.refusal_of.ensures)
-    (next_refused device old c.args.disk.now c.entries.disk c.next.new.disk c.in-Err.fault c.in-Err.ensures.refused inv.looked.later
+    (next_refused device old c.args.disk.now c.entries.disk c.next.new.disk c.in-Err.fault c.in-Err.ensures.refused c.in-Err.ensures.told.refused inv.no_fault
     (λ transparent at cut.
     let s = inv.so_far transparent in
     let bodies : List (List ℕ) = map entry_octets s.0 in
@@ -99,21 +102,24 @@ returns-in-Err-clause-refused g c =
     damaged_short (reads c.args.disk.now) at (archive_made c.entries.made) old s.0 (c.requires.begun transparent).0.0 s.1 s.2 cut.0 (these IsCutShortAt _ _ _ bodies same are cut.1)))
 
 pub returns-in-Ok-false-clause-refused : goal.returns-in-Ok-false-clause-refused
-returns-in-Ok-false-clause-refused g c transparent =
-    let device = g.D.Disk.device in
-    let reads = device.reads in
-    let inv = c.entries.invariant in
-    let old = c.entries.opening in
-    let new = c.next.new.self in
-    let s = inv.so_far transparent in
-    let bodies : List (List ℕ) = map entry_octets s.0 in
-    let body : List ℕ = c.in-Ok-Some.body in
-    let same = same_file (reads c.entries.disk) (reads c.args.disk.now) (file_read old) inv.looked.reads_same inv.file in
-    let are = read_are (content_read device old c.entries.disk) old bodies (subst (λ (l : List ℕ). IsAt old l bodies) (sym same) s.1) in
-    let x = rw c.in-Ok-Some.field-0-is at c.in-Ok-Some.ensures.next in
-    let y = c.in-Ok-false.ensures.no c.in-Ok-false.field-0-test in
-    let next : IsAt new (reads c.args.disk.now 0) (bodies ++ body ∷ []) = these (λ l so_far. IsAt new l (so_far ++ body ∷ [])) _ _ _ bodies same are (x.read transparent) in
-    (refl, damaged_wrong (reads c.args.disk.now) c.place-at.result (archive_made c.entries.made) old new s.0 body (c.requires.begun transparent).0.0 s.1 next s.2 c.place-at.ensures x.short y)
+returns-in-Ok-false-clause-refused g c = (
+  λ transparent.
+      let device = g.D.Disk.device in
+      let reads = device.reads in
+      let inv = c.entries.invariant in
+      let old = c.entries.opening in
+      let new = c.next.new.self in
+      let s = inv.so_far transparent in
+      let bodies : List (List ℕ) = map entry_octets s.0 in
+      let body : List ℕ = c.in-Ok-Some.body in
+      let same = same_file (reads c.entries.disk) (reads c.args.disk.now) (file_read old) inv.looked.reads_same inv.file in
+      let are = read_are (content_read device old c.entries.disk) old bodies (subst (λ (l : List ℕ). IsAt old l bodies) (sym same) s.1) in
+      let x = rw c.in-Ok-Some.field-0-is at c.in-Ok-Some.ensures.next in
+      let y = c.in-Ok-false.ensures.no c.in-Ok-false.field-0-test in
+      let next : IsAt new (reads c.args.disk.now 0) (bodies ++ body ∷ []) = these (λ l so_far. IsAt new l (so_far ++ body ∷ [])) _ _ _ bodies same are (x.read transparent) in
+      (refl, damaged_wrong (reads c.args.disk.now) c.place-at.result (archive_made c.entries.made) old new s.0 body (c.requires.begun transparent).0.0 s.1 next s.2 c.place-at.ensures x.short y),
+  c.in-Ok-Some.ensures.told.done ∙ c.entries.invariant.no_fault,
+)
 
 pub entries-preserved : goal.entries-preserved
 entries-preserved g c =
@@ -129,6 +135,7 @@ entries-preserved g c =
       marks = c.in-Ok-true.ensures.marks c.in-Ok-true.field-0-test;
       rows = subst HasArchivedRows (sym y.3) (applied_archived (archive_made c.entries.made) y.0 y.2 inv.rows y.4);
       looked = looked_on device c.args.disk.now c.entries.disk c.next.new.disk inv.looked c.next.ensures.looked;
+      no_fault = c.in-Ok-Some.ensures.told.done ∙ inv.no_fault;
       so_far = λ transparent.
           let s = inv.so_far transparent in
           let bodies : List (List ℕ) = map entry_octets s.0 in

@@ -13,8 +13,8 @@ use Rattle.archive_store.specs.declared.head.Head.{Head}
 use Rattle.archive_store.specs.Inside.{StoreInvariant}
 use Rattle.archive_store.specs.Calls.{IsStoreCreateRefusal}
 use Rattle.archive_store.specs.Stands.{IsSoundImage}
-use Rattle.store_fills.proofs.Bases.{none_filled, none_placed}
-use Rattle.archive_store.proofs.Fillable.{holds_none, own_none}
+use Rattle.store_fills.proofs.Bases.{none_filled}
+use Rattle.archive_store.proofs.Fillable.{holds_none}
 use Rattle.archive_store.proofs.Opened.{kept_made, made_sound, making}
 use Rattle.archive_store.proofs.Refusals.{making_refused}
 use Rattle.archive_store.proofs.store.Store.create.Goals as goal
@@ -27,7 +27,7 @@ invariant_of-result g c =
     let f = c.in-Ok.new_archive in
     let e = c.in-Ok.ensures in
     let keeps = λ (transparent : IsTrue device.is_transparent). subst (λ (b : List ℕ). JournalHasOnDisk device j (b ∷ []) [] disk) e.0 (c.in-Ok-create.ensures.created.records transparent) in
-    let done = kept_made device disk j c.args.head c.new-sets.result.filled (own_none c.new-sets.result.filled (none_placed c.new-sets.result.filled c.new-sets.ensures)) (none_filled c.new-sets.result.filled c.new-sets.ensures) c.requires.head c.in-Ok-create.ensures.created.no_pending_fault c.in-Ok-create.ensures.created.in_file keeps in (
+    let done = kept_made device disk j c.args.head c.new-sets.result.filled (none_filled c.new-sets.result.filled c.new-sets.ensures) c.requires.head c.in-Ok-create.ensures.created.no_pending_fault c.in-Ok-create.ensures.created.in_file keeps in (
       subst (λ o. StoreInvariant device disk o j f.head f.history.exponent f.history.items c.new-tracker.result.fills c.new-sets.result.filled None) (sym c.of-opened.ensures)
           (subst (λ (l : List Fill). StoreInvariant device disk disk j f.head f.history.exponent f.history.items l c.new-sets.result.filled None) (sym c.new-tracker.ensures.fills)
           (subst (λ (n : ℕ). StoreInvariant device disk disk j f.head n f.history.items [] c.new-sets.result.filled None) (sym e.3.1)
@@ -36,7 +36,7 @@ invariant_of-result g c =
       subst (λ (h : Head). f.history.tables ≡ length h.tables) (sym e.1) e.3.0,
       subst (λ (l : List Item). arc_value f.mdb ≡ database_in f.head.mdb l) (sym e.4) (subst (λ (h : Head). arc_value f.mdb ≡ h.mdb) (sym e.1) e.2),
       subst (λ (l : List Item). AreMarksOf f.history.exponent l c.new-tracker.result.fills c.new-tracker.result.marks) (sym e.4) (c.new-tracker.ensures.marks f.history.exponent),
-      holds_none f.head f.history.exponent f.history.items c.new-tracker.result.fills c.new-sets.result.filled c.new-tracker.ensures.fills (none_placed c.new-sets.result.filled c.new-sets.ensures),
+      holds_none f.head f.history.exponent f.history.items c.new-tracker.result.fills c.new-sets.result.filled c.new-tracker.ensures.fills (none_filled c.new-sets.result.filled c.new-sets.ensures),
     )
 
 pub returns-in-Ok-create-clause-crash : goal.returns-in-Ok-create-clause-crash
@@ -61,7 +61,7 @@ returns-in_default-clause-crash g c transparent none = started g.D.Disk.device c
 
 pub returns-clause-refused : goal.returns-clause-refused
 returns-clause-refused g c =
-    subst (IsStoreCreateRefusal g.D.Disk.device c.args.disk c.create.new.disk) (sym c.refusal_of_create.ensures) (making_refused g.D.Disk.device c.args.disk c.create.new.disk c.in-Err.fault c.in-Err.ensures.refused)
+    subst (IsStoreCreateRefusal g.D.Disk.device c.args.disk c.create.new.disk) (sym c.refusal_of_create.ensures) (making_refused g.D.Disk.device c.args.disk c.create.new.disk c.in-Err.fault c.in-Err.ensures.refused c.in-Err.ensures.told.refused)
 
 pub returns-in-Ok-create-clause-created : goal.returns-in-Ok-create-clause-created
 returns-in-Ok-create-clause-created g c =
@@ -75,7 +75,6 @@ returns-in-Ok-create-clause-created g c =
       history = e.4;
       fills = c.new-tracker.ensures.fills;
       filled = none_filled c.new-sets.result.filled c.new-sets.ensures;
-      own = own_none c.new-sets.result.filled (none_placed c.new-sets.result.filled c.new-sets.ensures);
       sound = λ transparent. subst (λ (d : g.row.D.Denot). IsSoundImage (device.reads d)) (sym c.of-opened.ensures)
           (made_sound device disk j c.args.head c.requires.head created.no_pending_fault created.in_file
           (subst (λ (b : List ℕ). JournalHasOnDisk device j (b ∷ []) [] disk) e.0 (created.records transparent)));
@@ -84,4 +83,5 @@ returns-in-Ok-create-clause-created g c =
       records = created.count;
       opened = c.of-opened.ensures;
       no_failed_write = created.no_failed_write;
+      no_fault = c.in-Ok-create.ensures.told.done;
     }

@@ -14,19 +14,31 @@ use Rattle.archive_store.specs.Entries.{archive, filled_archive, AreAdmitted}
 use Rattle.archive_history.specs.Limits.{IsWithin}
 use Rattle.archive_store.specs.Limits.{IsLimit}
 use Rattle.archive_store.specs.StoreView.{StoreView, filled_of}
-use Rattle.archive_store.specs.Inside.{view_of}
 use Rattle.archive_store.specs.Stands.{StandsFilled}
 use Rattle.archive_store.proofs.Batching.{admitted, sortable}
 use Rattle.archive_store.proofs.Calls.{passed_on, rows_refused}
 use Rattle.archive_store.proofs.Ingesting.{added, nothing_added, none_new, below_none, below_some}
-use Rattle.archive_store.proofs.KeptFills.{filled_now}
+use Rattle.archive_store.proofs.KeptFills.{unharmed}
 use Rattle.archive_store.proofs.RowsAlone.{few_names}
+use Rattle.archive_store.proofs.store.Store.ingest.Given.{Over}
+use Rattle.archive_store.proofs.store.Store.ingest.Goals.{Else-len-eq0}
 use Rattle.archive_store.proofs.store.Store.ingest.Goals as goal
 
 pub classify-requires : goal.classify-requires
 classify-requires g c =
     sortable c.self.inside.head c.self.inside.history.items c.args.batch.now c.self.inside.history.tables c.self.invariant.1
     (subst (λ (x : StoreView g.row.D.Denot). IsBatch x.head x.history c.args.batch.now) (sym c.self.view_is) c.requires)
+
+-- some rows are new
+module _ (g : Over) (c : Else-len-eq0 g) where
+  healed : pending_fault_of c.args.self.now.fills ≡ None
+  healed = subst (λ (x : StoreView g.row.D.Denot). pending_fault_of x.fills ≡ None) c.self.view_is (sym c.self.invariant.0.pending_fault_is ∙ c.in-None.is)
+
+  fresh : c.in-Ok.classified.fresh ≡ fresh_of c.args.self.now.history (batch_rows c.args.batch.now)
+  fresh = subst (λ (x : StoreView g.row.D.Denot). c.in-Ok.classified.fresh ≡ fresh_of x.history (batch_rows c.args.batch.now)) c.self.view_is c.in-Ok.ensures.fresh
+
+  some_new : fresh_of c.args.self.now.history (batch_rows c.args.batch.now) ≢ []
+  some_new none = absurd (omega (arith, ap length fresh, ap length none, c.len.ensures, c.if-len-eq0.false))
 
 pub append-requires-clause-admitted : goal.append-requires-clause-admitted
 append-requires-clause-admitted g c =
@@ -46,41 +58,32 @@ append-requires-clause-admitted g c =
 
 pub returns-in_err-append-clause-crash : goal.returns-in_err-append-clause-crash
 returns-in_err-append-clause-crash g c no_failed_write transparent =
+    let at = (goal.at.returns-in_err-append-clause-crash g c).Else-len-eq0 in
     let rows = batch_rows c.args.batch.now in
     let now = c.args.self.now in
-    let fresh = subst (λ (x : StoreView g.row.D.Denot). c.in-Ok.classified.fresh ≡ fresh_of x.history rows) c.self.view_is c.in-Ok.ensures.fresh in
-    subst (λ (l : List Item). LeavesOnly g.D.Disk.device now.disk c.append.new.self.disk (λ c'. StandsFilled c' (filled_of now) ⊎ StandsFilled c' (filled_archive now.head now.exponent l (fillings_in now.filled)))) (added now.history rows c.in-Ok.classified.fresh fresh) (c.append.ensures.crash transparent)
+    subst (λ (l : List Item). LeavesOnly g.D.Disk.device now.disk c.append.new.self.disk (λ c'. StandsFilled c' (filled_of now) ⊎ StandsFilled c' (filled_archive now.head now.exponent l (fillings_in now.filled)))) (added now.history rows c.in-Ok.classified.fresh (fresh g at)) (c.append.ensures.crash transparent)
 
 pub returns-clause-crash : goal.returns-clause-crash
 returns-clause-crash g c no_failed_write transparent =
+    let at = (goal.at.returns-clause-crash g c).Else-len-eq0 in
     let rows = batch_rows c.args.batch.now in
     let now = c.args.self.now in
-    let fresh = subst (λ (x : StoreView g.row.D.Denot). c.in-Ok.classified.fresh ≡ fresh_of x.history rows) c.self.view_is c.in-Ok.ensures.fresh in
-    subst (λ (l : List Item). LeavesOnly g.D.Disk.device now.disk c.append.new.self.disk (λ c'. StandsFilled c' (filled_of now) ⊎ StandsFilled c' (filled_archive now.head now.exponent l (fillings_in now.filled)))) (added now.history rows c.in-Ok.classified.fresh fresh) (c.append.ensures.crash transparent)
+    subst (λ (l : List Item). LeavesOnly g.D.Disk.device now.disk c.append.new.self.disk (λ c'. StandsFilled c' (filled_of now) ⊎ StandsFilled c' (filled_archive now.head now.exponent l (fillings_in now.filled)))) (added now.history rows c.in-Ok.classified.fresh (fresh g at)) (c.append.ensures.crash transparent)
 
 pub returns-in_default-clause-crash : goal.returns-in_default-clause-crash
 returns-in_default-clause-crash g c no_failed_write transparent =
-    let device = g.D.Disk.device in
     let s = c.self.inside in
-    subst (λ (x : StoreView g.row.D.Denot). pending_fault_of x.fills ≡ None → LeavesOnly device x.disk x.disk (λ c'. StandsFilled c' (filled_of x) ⊎ StandsFilled c' (archive_with x (batch_rows c.args.batch.now)))) c.self.view_is
-    (λ none. filled_now device s.disk s.opened.value s.journal s.head s.history.exponent s.history.items s.tracker.fills s.sets.filled s.pending_fault c.self.invariant.0 none transparent
-    (archive_with (view_of s.disk s.opened.value s.journal s.head s.history.exponent s.history.items s.tracker.fills s.sets.filled) (batch_rows c.args.batch.now))) no_failed_write
+    unharmed g.D.Disk.device s.disk s.opened.value s.journal s.head s.history.exponent s.history.items s.tracker.fills s.sets.filled s.pending_fault c.self.invariant.0 c.args.self.now c.self.view_is (λ x. archive_with x (batch_rows c.args.batch.now)) c.args.self.now.disk refl no_failed_write transparent
 
 pub returns-then-len-eq0-clause-crash : goal.returns-then-len-eq0-clause-crash
 returns-then-len-eq0-clause-crash g c no_failed_write transparent =
-    let device = g.D.Disk.device in
     let s = c.self.inside in
-    subst (λ (x : StoreView g.row.D.Denot). pending_fault_of x.fills ≡ None → LeavesOnly device x.disk x.disk (λ c'. StandsFilled c' (filled_of x) ⊎ StandsFilled c' (archive_with x (batch_rows c.args.batch.now)))) c.self.view_is
-    (λ none. filled_now device s.disk s.opened.value s.journal s.head s.history.exponent s.history.items s.tracker.fills s.sets.filled s.pending_fault c.self.invariant.0 none transparent
-    (archive_with (view_of s.disk s.opened.value s.journal s.head s.history.exponent s.history.items s.tracker.fills s.sets.filled) (batch_rows c.args.batch.now))) no_failed_write
+    unharmed g.D.Disk.device s.disk s.opened.value s.journal s.head s.history.exponent s.history.items s.tracker.fills s.sets.filled s.pending_fault c.self.invariant.0 c.args.self.now c.self.view_is (λ x. archive_with x (batch_rows c.args.batch.now)) c.args.self.now.disk refl no_failed_write transparent
 
 pub returns-in-Some-limit_passed-clause-crash : goal.returns-in-Some-limit_passed-clause-crash
 returns-in-Some-limit_passed-clause-crash g c no_failed_write transparent =
-    let device = g.D.Disk.device in
     let s = c.self.inside in
-    subst (λ (x : StoreView g.row.D.Denot). pending_fault_of x.fills ≡ None → LeavesOnly device x.disk x.disk (λ c'. StandsFilled c' (filled_of x) ⊎ StandsFilled c' (archive_with x (batch_rows c.args.batch.now)))) c.self.view_is
-    (λ none. filled_now device s.disk s.opened.value s.journal s.head s.history.exponent s.history.items s.tracker.fills s.sets.filled s.pending_fault c.self.invariant.0 none transparent
-    (archive_with (view_of s.disk s.opened.value s.journal s.head s.history.exponent s.history.items s.tracker.fills s.sets.filled) (batch_rows c.args.batch.now))) no_failed_write
+    unharmed g.D.Disk.device s.disk s.opened.value s.journal s.head s.history.exponent s.history.items s.tracker.fills s.sets.filled s.pending_fault c.self.invariant.0 c.args.self.now c.self.view_is (λ x. archive_with x (batch_rows c.args.batch.now)) c.args.self.now.disk refl no_failed_write transparent
 
 pub returns-then-len-eq0-clause-ingested : goal.returns-then-len-eq0-clause-ingested
 returns-then-len-eq0-clause-ingested g c =
@@ -100,56 +103,52 @@ returns-then-len-eq0-clause-ingested g c =
       one_record = λ some. absurd (some (none_new items rows classified.fresh c.in-Ok.ensures.fresh zero));
       no_call = λ none. refl;
       no_failed_write = refl;
+      no_fault = refl;
     })
 
 pub returns-in-Some-limit_passed-clause-refused : goal.returns-in-Some-limit_passed-clause-refused
 returns-in-Some-limit_passed-clause-refused g c =
+    let at = (goal.at.returns-in-Some-limit_passed-clause-refused g c).Else-len-eq0 in
     let rows = batch_rows c.args.batch.now in
     let now = c.args.self.now in
-    let fresh : c.in-Ok.classified.fresh ≡ fresh_of now.history rows = subst (λ (x : StoreView g.row.D.Denot). c.in-Ok.classified.fresh ≡ fresh_of x.history rows) c.self.view_is c.in-Ok.ensures.fresh in
-    let healed = subst (λ (x : StoreView g.row.D.Denot). pending_fault_of x.fills ≡ None) c.self.view_is (sym c.self.invariant.0.pending_fault_is ∙ c.in-None.is) in
-    let some_new : fresh_of now.history rows ≢ [] = λ none. absurd (omega (arith, ap length fresh, ap length none, c.len.ensures, c.if-len-eq0.false)) in
     let which = c.in-Some-limit_passed.which in (
       record {
-        healed = healed;
-        some_new = some_new;
+        healed = healed g at;
+        some_new = some_new g at;
         number_is = c.limit.ensures;
-        first = subst (IsLimit now.exponent which now.records) (added now.history rows c.as_slice.result.now (c.as_slice.ensures ∙ fresh)) c.in-Some-limit_passed.ensures.first;
+        first = subst (IsLimit now.exponent which now.records) (added now.history rows c.as_slice.result.now (c.as_slice.ensures ∙ fresh g at)) c.in-Some-limit_passed.ensures.first;
       },
       refl,
     )
 
 pub returns-in_err-append-clause-refused : goal.returns-in_err-append-clause-refused
 returns-in_err-append-clause-refused g c =
+    let at = (goal.at.returns-in_err-append-clause-refused g c).Else-len-eq0 in
     let device = g.D.Disk.device in
     let rows = batch_rows c.args.batch.now in
     let now = c.args.self.now in
     let none = c.in_default-limit_passed.ensures.none in
-    let fresh : c.in-Ok.classified.fresh ≡ fresh_of now.history rows = subst (λ (x : StoreView g.row.D.Denot). c.in-Ok.classified.fresh ≡ fresh_of x.history rows) c.self.view_is c.in-Ok.ensures.fresh in
-    let healed = subst (λ (x : StoreView g.row.D.Denot). pending_fault_of x.fills ≡ None) c.self.view_is (sym c.self.invariant.0.pending_fault_is ∙ c.in-None.is) in
-    let some_new : fresh_of now.history rows ≢ [] = λ none. absurd (omega (arith, ap length fresh, ap length none, c.len.ensures, c.if-len-eq0.false)) in
-    let below = below_some now.exponent now.records now.history rows c.as_slice.result.now (c.as_slice.ensures ∙ fresh) none.0 none.1 in
+    let below = below_some now.exponent now.records now.history rows c.as_slice.result.now (c.as_slice.ensures ∙ fresh g at) none.0 none.1 in
     passed_on c.from_residual.result c.in_err-append.field-0.0 (IsIngestRefusal device now c.append.new.self rows) c.from_residual.ensures.1
-    (rows_refused device now c.append.new.self rows c.in-Ok.classified.fresh c.in_err-append.field-0.0 fresh healed some_new below c.in_err-append.ensures.refused)
+    (rows_refused device now c.append.new.self rows c.in-Ok.classified.fresh c.in_err-append.field-0.0 (fresh g at) (healed g at) (some_new g at) below c.in_err-append.ensures.refused)
 
 pub returns-clause-ingested : goal.returns-clause-ingested
 returns-clause-ingested g c =
+    let at = (goal.at.returns-clause-ingested g c).Else-len-eq0 in
     let rows = batch_rows c.args.batch.now in
     let now = c.args.self.now in
     let none = c.in_default-limit_passed.ensures.none in
-    let fresh : c.in-Ok.classified.fresh ≡ fresh_of now.history rows = subst (λ (x : StoreView g.row.D.Denot). c.in-Ok.classified.fresh ≡ fresh_of x.history rows) c.self.view_is c.in-Ok.ensures.fresh in
-    let healed = subst (λ (x : StoreView g.row.D.Denot). pending_fault_of x.fills ≡ None) c.self.view_is (sym c.self.invariant.0.pending_fault_is ∙ c.in-None.is) in
-    let some_new : fresh_of now.history rows ≢ [] = λ none. absurd (omega (arith, ap length fresh, ap length none, c.len.ensures, c.if-len-eq0.false)) in
     let outcomes = subst (λ (x : StoreView g.row.D.Denot). c.in-Ok.classified.outcomes ≡ outcomes_of x.history rows) c.self.view_is c.in-Ok.ensures.outcomes in
     let appended = c.in_ok-append.ensures.appended in
     record {
-      healed = healed;
-      below = below_some now.exponent now.records now.history rows c.as_slice.result.now (c.as_slice.ensures ∙ fresh) none.0 none.1;
+      healed = healed g at;
+      below = below_some now.exponent now.records now.history rows c.as_slice.result.now (c.as_slice.ensures ∙ fresh g at) none.0 none.1;
       outcomes_are = outcomes;
-      history = appended.history ∙ added now.history rows c.in-Ok.classified.fresh fresh;
+      history = appended.history ∙ added now.history rows c.in-Ok.classified.fresh (fresh g at);
       fills = appended.fills;
       filled = appended.filled;
       one_record = λ some. appended.records;
-      no_call = λ nothing. absurd (some_new nothing);
+      no_call = λ nothing. absurd (some_new g at nothing);
       no_failed_write = appended.no_failed_write;
+      no_fault = appended.no_fault;
     }

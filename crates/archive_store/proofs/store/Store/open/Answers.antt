@@ -18,25 +18,25 @@ use Rattle.archive_store.proofs.store.Store.open.Goals as goal
 pub returns-in-Err-clause-refused : goal.returns-in-Err-clause-refused
 returns-in-Err-clause-refused g c =
     let device = g.D.Disk.device in
-    subst (IsStoreOpenRefusal device c.args.disk c.begin.new.disk) (sym c.refusal_of.ensures) (begin_refused device c.args.disk c.begin.new.disk c.in-Err.fault c.in-Err.ensures.refused)
+    subst (IsStoreOpenRefusal device c.args.disk c.begin.new.disk) (sym c.refusal_of.ensures) (begin_refused device c.args.disk c.begin.new.disk c.in-Err.fault c.in-Err.ensures.refused c.in-Err.ensures.told.refused)
 
 pub returns-in-Err-clause-decided : goal.returns-in-Err-clause-decided
 returns-in-Err-clause-decided g c transparent =
     let device = g.D.Disk.device in
     decided_refused device c.args.disk c.begin.new.disk c.refusal_of.result transparent
-    (subst (IsStoreOpenRefusal device c.args.disk c.begin.new.disk) (sym c.refusal_of.ensures) (begin_refused device c.args.disk c.begin.new.disk c.in-Err.fault c.in-Err.ensures.refused))
+    (subst (IsStoreOpenRefusal device c.args.disk c.begin.new.disk) (sym c.refusal_of.ensures) (begin_refused device c.args.disk c.begin.new.disk c.in-Err.fault c.in-Err.ensures.refused c.in-Err.ensures.told.refused))
 
 pub returns-in-Err-read_archive-clause-refused : goal.returns-in-Err-read_archive-clause-refused
 returns-in-Err-read_archive-clause-refused g c =
     let begun = c.begin.ensures in
-    read_refused g.D.Disk.device c.args.disk c.begin.new.disk c.read_archive.new.disk c.in-Err-read_archive.refusal c.in-Err-read_archive.ensures.refused begun.untouched.reads_same begun.counts.faults
+    read_refused g.D.Disk.device c.args.disk c.begin.new.disk c.read_archive.new.disk c.in-Err-read_archive.refusal c.in-Err-read_archive.ensures.refused begun.untouched.reads_same c.in-Ok.ensures.told.done
     (c.read_archive.ensures.looked.no_write ∙ c.in-Ok.ensures.begun.no_failed_write)
 
 pub returns-in-Err-read_archive-clause-decided : goal.returns-in-Err-read_archive-clause-decided
 returns-in-Err-read_archive-clause-decided g c transparent =
     let begun = c.begin.ensures in
     decided_refused g.D.Disk.device c.args.disk c.read_archive.new.disk c.in-Err-read_archive.refusal transparent
-    (read_refused g.D.Disk.device c.args.disk c.begin.new.disk c.read_archive.new.disk c.in-Err-read_archive.refusal c.in-Err-read_archive.ensures.refused begun.untouched.reads_same begun.counts.faults
+    (read_refused g.D.Disk.device c.args.disk c.begin.new.disk c.read_archive.new.disk c.in-Err-read_archive.refusal c.in-Err-read_archive.ensures.refused begun.untouched.reads_same c.in-Ok.ensures.told.done
     (c.read_archive.ensures.looked.no_write ∙ c.in-Ok.ensures.begun.no_failed_write))
 
 pub invariant_of-result : goal.invariant_of-result
@@ -46,10 +46,10 @@ invariant_of-result g c =
     let mid = c.begin.new.disk in
     let f = c.in-Ok-read_archive.found in
     let r = c.in-Ok-read_archive.ensures.read in
-    let done = kept_open device disk mid f.journal f.made.head f.made.history.exponent f.made.history.items f.made.tracker.fills f.made.sets.filled r.marks.3 r.marks.4 r.tables.1 r.rows r.archive_is r.marks.0 r.no_pending_fault r.in_file c.in-Ok.ensures.begun.durable c.read_archive.ensures.looked in (
+    let done = kept_open device disk mid f.journal f.made.head f.made.history.exponent f.made.history.items f.made.tracker.fills f.made.sets.filled r.marks.3 r.tables.1 r.rows r.archive_is r.marks.0 r.no_pending_fault r.in_file c.in-Ok.ensures.begun.durable c.read_archive.ensures.looked in (
       subst (λ o. StoreInvariant device disk o f.journal f.made.head f.made.history.exponent f.made.history.items f.made.tracker.fills f.made.sets.filled None) (sym c.of-opened.ensures) done,
       r.tables.0.0,
-      c.in-Ok-shared.ensures ∙ sym (in_force f.made.head.mdb f.made.history.items r.marks.4),
+      c.in-Ok-shared.ensures ∙ sym (in_force f.made.head.mdb f.made.history.items r.marks.3),
       r.marks.1,
       r.marks.2,
     )
@@ -69,11 +69,11 @@ returns-clause-opened g c =
       fills = c.in-Ok-read_archive.ensures.read.marks.0;
       dones = λ transparent. let f = found transparent in (f.entries, subst (λ (x : Image). HasRecords (x 0) (map entry_octets f.entries)) same f.has, c.in-Ok-read_archive.ensures.read.dones transparent);
       filled = stands;
-      own = c.in-Ok-read_archive.ensures.read.marks.3;
       opening = ap device.reads c.of-opened.ensures ∙ same;
       since = λ transparent. subst (λ o. LeavesOnly device o c.read_archive.new.disk (λ (x : Image). StandsFilled x (filled_made made))) (sym c.of-opened.ensures)
           (stands_since device c.read_archive.new.disk c.begin.new.disk c.in-Ok-read_archive.found.journal (filled_made made) (found transparent) c.in-Ok.ensures.begun.durable c.read_archive.ensures.looked);
       no_failed_write = c.read_archive.ensures.looked.no_write ∙ c.in-Ok.ensures.begun.no_failed_write;
+      no_fault = c.in-Ok-read_archive.ensures.no_fault ∙ c.in-Ok.ensures.told.done;
     }
 
 pub returns-clause-decided : goal.returns-clause-decided

@@ -23,24 +23,24 @@ returns-clause-planned g c =
     let asked = c.in_ok-intervals.ensures in
     let same : plan_intervals parts ≡ c.in_ok-intervals.intervals.items = c.in_ok-parts.ensures.intervals ∙ c.as_slice.ensures.value in
     record {
-      front = c.front.ensures.front;
+      front = c.front.ensures;
       mdb = c.requires;
       exponent = c.exponent.ensures;
       each = c.in_ok-parts.ensures.each;
       rising = subst IntervalsRise (sym same) asked.rising;
       meets = subst (AllByRecursion (IsRangeInterval store.exponent store.history request.from request.to)) (sym same) asked.meets;
       cover = λ less. subst (λ (l : List Interval). CoverRange store.exponent l request.from request.to store.history) (sym same) (asked.cover less);
-      archived = plan_archived store c.front.ensures.rows parts c.in_ok-parts.ensures.each;
+      archived = plan_archived store c.is_kept.ensures.rows parts c.in_ok-parts.ensures.each;
     }
 
 pub returns-clause-steps : goal.returns-clause-steps
 returns-clause-steps g c =
     let store = c.args.self.now in
     let request = c.args.request.now in
-    few_left store request.from request.to c.front.ensures.bases _ (returns-clause-planned g c)
+    few_left store request.from request.to _ (returns-clause-planned g c)
 
 pub returns-clause-over : goal.returns-clause-over
 returns-clause-over g c transparent image =
     let store = c.args.self.now in
     let request = c.args.request.now in
-    planned_over store request.from request.to _ c.front.ensures.bases (c.front.ensures.sound transparent image) (returns-clause-planned g c)
+    planned_over store request.from request.to _ c.is_kept.ensures.bases (c.is_kept.ensures.sound transparent image) (returns-clause-planned g c)

@@ -78,6 +78,7 @@ returns-in-Ok-clause-reopened g c =
       images = λ transparent image left. kept_now device c.heal.new.disk s.opened.value c.heal.new.self s.head s.history.exponent s.history.items (reopened s.tracker.fills) s.sets.filled None done (pending_fault_of-reopened s.tracker.fills) transparent image left;
       no_call = λ none. c.in-Ok.ensures.healed.no_call (healthy (unhealed_fault s.journal) (pending_fault_of s.tracker.fills) k.journal_fault (ap (λ (x : StoreView g.row.D.Denot). pending_fault_of x.fills) c.self.view_is ∙ none)) ∙ ap (λ (x : StoreView g.row.D.Denot). x.disk) c.self.view_is;
       no_failed_write = c.in-Ok.ensures.healed.no_failed_write ∙ ap (λ (x : StoreView g.row.D.Denot). device.failed_writes x.disk) c.self.view_is;
+      no_fault = c.in-Ok.ensures.told.done ∙ ap (λ (x : StoreView g.row.D.Denot). device.fault_count x.disk) c.self.view_is;
     }
 
 pub returns-in-Err-clause-refused : goal.returns-in-Err-clause-refused

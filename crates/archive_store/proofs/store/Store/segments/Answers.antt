@@ -11,7 +11,7 @@ use Rattle.archive_store.specs.CurrentSets.{IsCurrentSet}
 use Rattle.archive_store.specs.Inside.{view_of}
 use Rattle.archive_store.specs.Stands.{IsSoundImage}
 use Rattle.archive_store.specs.StoreView.{StoreView}
-use Rattle.archive_store.proofs.CurrentSets.{current_holds, current_is, own_read}
+use Rattle.archive_store.proofs.CurrentSets.{current_holds, current_is}
 use Rattle.archive_store.proofs.IntervalRows.{filled_stands}
 use Rattle.archive_store.proofs.PlainLog.{sound_of}
 use Rattle.archive_store.proofs.store.Store.segments.Goals as goal
@@ -22,9 +22,8 @@ returns-clause-some g c =
     let i = c.args.interval in
     let fill = c.in-Some.fill.now in
     let store : StoreView g.row.D.Denot = view_of s.disk s.opened.value s.journal s.head s.history.exponent s.history.items s.tracker.fills s.sets.filled in
-    let read = own_read s.sets.filled i fill c.in-Some.ensures.filled.0 c.in-Some.ensures.filled.1 in
-    let row = filled_stands s.head s.history.exponent s.history.items s.tracker.fills s.tracker.marks s.sets.filled i c.self.invariant.3 c.self.invariant.4 (ap is_some read) in
-    let current = current_is store i fill c.self.invariant.4 c.in-Some.ensures.filled.0 c.in-Some.ensures.filled.1 (c.in-Some.ensures.current s.history.exponent s.history.items c.self.invariant.3) row in
+    let row = filled_stands s.head s.history.exponent s.history.items s.tracker.fills s.tracker.marks s.sets.filled i c.self.invariant.3 c.self.invariant.4 (ap is_some c.in-Some.ensures.filled) in
+    let current = current_is store i fill.base (arc_value fill.set) c.self.invariant.4 c.in-Some.ensures.filled (c.in-Some.ensures.current s.history.exponent s.history.items c.self.invariant.3) row in
     subst (λ (x : StoreView g.row.D.Denot). IsCurrentSet x i (arc_value c.in_ok-set.set)) c.self.view_is (subst (IsCurrentSet store i) (sym c.in_ok-set.ensures) current)
 
 pub returns-in_default-clause-none : goal.returns-in_default-clause-none
@@ -40,8 +39,7 @@ returns-clause-holds g c transparent image =
     let fill = c.in-Some.fill.now in
     let opened = subst (λ (x : StoreView g.row.D.Denot). IsSoundImage (device.reads x.opened)) (sym c.self.view_is) image in
     let sound = sound_of device s.disk s.opened.value s.journal s.head s.history.exponent s.history.items s.tracker.fills s.sets.filled s.pending_fault c.self.invariant.0 transparent opened in
-    let read = own_read s.sets.filled i fill c.in-Some.ensures.filled.0 c.in-Some.ensures.filled.1 in
-    let row = filled_stands s.head s.history.exponent s.history.items s.tracker.fills s.tracker.marks s.sets.filled i c.self.invariant.3 c.self.invariant.4 (ap is_some read) in
-    let holds = current_holds s.head s.history.exponent s.history.items s.tracker.fills s.sets.filled i fill.base (arc_value fill.set) c.self.invariant.4.bases read (c.in-Some.ensures.current s.history.exponent s.history.items c.self.invariant.3) row sound in
+    let row = filled_stands s.head s.history.exponent s.history.items s.tracker.fills s.tracker.marks s.sets.filled i c.self.invariant.3 c.self.invariant.4 (ap is_some c.in-Some.ensures.filled) in
+    let holds = current_holds s.head s.history.exponent s.history.items s.tracker.fills s.sets.filled i fill.base (arc_value fill.set) c.self.invariant.4.bases c.in-Some.ensures.filled (c.in-Some.ensures.current s.history.exponent s.history.items c.self.invariant.3) row sound in
     subst (λ (x : StoreView g.row.D.Denot). HoldsRows (database_in x.head.mdb x.history) (arc_value c.in_ok-set.set) (rows_of_interval x.exponent i x.history)) c.self.view_is
     (subst (λ (set : List SetRow). HoldsRows (database_in s.head.mdb s.history.items) set (rows_of_interval s.history.exponent i s.history.items)) (sym c.in_ok-set.ensures) holds)

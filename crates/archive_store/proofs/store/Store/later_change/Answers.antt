@@ -4,7 +4,7 @@ use Rattle.history_items.specs.Late.{last_in}
 use Rattle.interval_fills.specs.Intervals.{NoneSince}
 use Rattle.archive_store.specs.StoreView.{StoreView}
 use Rattle.archive_store.proofs.Installs.{never_since, none_since_last}
-use Rattle.archive_store.proofs.store.Store.later_row.Goals as goal
+use Rattle.archive_store.proofs.store.Store.later_change.Goals as goal
 
 -- what holds whatever came, holds at None
 at_none : {T : Type 0} (o : Option T) (P : Type 0) → P → IfNone o P
