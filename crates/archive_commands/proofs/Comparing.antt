@@ -1,5 +1,5 @@
 -- How the plan of `verify` goes.
-use Rattle.std.proofs.Common.{◌≡◌, ◌∙◌, inl, inr, ℕ, false, List, length, Option, Some, None, refl, sym, ap}
+use Rattle.std.proofs.Common.{◌≡◌, ◌∙◌, inl, inr, ℕ, List, Option, Some, None, refl, sym, ap}
 use Rattle.std.specs.Prelude.{IsTrue, map, slice_get}
 use Rattle.arch_disk.specs.Disk.{Device}
 use Rattle.refusals.specs.declared.refusal.Refusal.{Refusal}
@@ -15,13 +15,12 @@ use Rattle.archive_verify.specs.declared.verified.Sound.{Sound}
 use Rattle.archive_verify.specs.Verified.{IsCounted, IsVerifyRefusal, database_of}
 use Rattle.archive_verify.proofs.Counting.{late_by_bases}
 use Rattle.archive_verify.proofs.Currents.{mismatch_unsound, one_mismatch}
-use Rattle.command_plans.specs.Plan.{OfMemory, Stopped, Interrupted, EachEnd, IsDetermined}
+use Rattle.command_plans.specs.Plan.{EachEnd, IsDetermined}
 use Rattle.command_plans.proofs.Plans.{determined, each_end}
-use Rattle.command_runs.specs.Command.{HasDiskOutcome, Opened, Effects, Ran, archive_opened, opening_plan}
-use Rattle.command_runs.specs.Report.{read_only}
-use Rattle.archive_commands.specs.Verify.{IsCompared, after_comparing, compare_plan, sound_line, verify_line, verify_plan}
-use Rattle.archive_commands.specs.VerifyReplying.{IsVerifyReply}
-use Rattle.command_runs.proofs.Commands.{no_text, ran_printed}
+use Rattle.command_runs.specs.Checking.{IsCheckRefusal}
+use Rattle.command_runs.specs.Command.{opening_plan}
+use Rattle.archive_commands.specs.Verify.{IsCompared, compare_plan, sound_line, verify_line, verify_plan}
+use Rattle.command_runs.proofs.Checking.{check_determined, check_reads}
 use Rattle.command_runs.proofs.Openings.{opening_reads, opens_determined}
 use Rattle.command_runs.proofs.OverInputs.{HasRead}
 
@@ -47,28 +46,26 @@ compared_once filled (Some (Mismatch i n k s r)) None is other = absurd (mismatc
 compared_once filled (Some a) None none other = absurd none
 compared_once filled (Some a) (Some b) is other = ap Some (one_named filled a b is other)
 
+-- why verifying was refused
+pub check_refused : (filled : FilledArchive) (refusal : Refusal) → IsVerifyRefusal filled refusal → IsCheckRefusal (IsCompared filled) refusal
+check_refused filled OutOfMemory is = inl refl
+check_refused filled (Mismatch i n k s r) is = inr is
+check_refused filled other is = absurd is
+
 -- ---- the plan
-
-after_determined : (filled : FilledArchive) (found : Option Refusal) → IsDetermined (after_comparing filled found)
-after_determined filled None = tt
-after_determined filled (Some refusal) = tt
-
-after_reads : (filled : FilledArchive) (found : Option Refusal) → EachEnd (HasRead 0) (after_comparing filled found)
-after_reads filled None = ((refl, refl), (refl, refl))
-after_reads filled (Some refusal) = (refl, refl)
 
 module _ {D : Type 0} (device : Device D) (disk : D) where
   -- one answer is due
   pub verify_determined : IsTrue device.is_transparent → IsDetermined (verify_plan device disk)
   verify_determined known = determined (opening_plan 0 device disk) compare_plan (opens_determined 0 device disk known)
-      (λ filled. (compared_once filled, λ found was. after_determined filled found))
+      (λ filled. check_determined 0 filled (IsCompared filled) (verify_line filled) (compared_once filled))
 
   -- nothing is asked of the inputs
   pub verify_reads : EachEnd (HasRead 0) (verify_plan device disk)
   verify_reads = (
     (refl, refl),
     each_end (HasRead 0) (opening_plan 0 device disk) compare_plan (opening_reads 0 device disk)
-        (λ filled. ((refl, refl), λ found was. after_reads filled found)),
+        (λ filled. check_reads 0 filled (IsCompared filled) (verify_line filled)),
   )
 
 -- ---- an archive was opened
@@ -78,26 +75,3 @@ pub counted_line : {D : Type 0} (store : StoreView D) (sound : Sound) → IsCoun
     → sound_line sound.rows sound.intervals sound.late ≡ verify_line (filled_of store)
 counted_line store sound counted bases =
     rw (counted.rows, counted.intervals, counted.late, late_by_bases (filled_of store) store.fills bases) refl
-
-module _ {D : Type 0} (device : Device D) (e : Effects D) (filled : FilledArchive) (disk : HasDiskOutcome device e.disk e.disk' false (Opened filled)) where
-  -- it wasn't found sound
-  ran_unsound : (refusal : Refusal) → IsVerifyRefusal filled refusal → e.report ≡ read_only (Some refusal) (length filled.plain.history) → e.output' ≡ e.output → Ran device (compare_plan filled) e
-  ran_unsound OutOfMemory is report silent = record {
-    way = Interrupted (archive_opened 0 filled) OfMemory;
-    allows = inl refl;
-    did = record { report = report; printed = rw silent (no_text e.output.written); output = record { counted = rw silent refl }; disk = disk };
-  }
-  ran_unsound (Mismatch i n k s r) is report silent = record {
-    way = Stopped (archive_opened 0 filled) (Some (Mismatch i n k s r));
-    allows = inr (Some (Mismatch i n k s r), is, refl);
-    did = record { report = report; printed = rw silent (no_text e.output.written); output = record { counted = rw silent refl }; disk = disk };
-  }
-  ran_unsound other is report silent = absurd is
-
-  -- or it was
-  pub ran_compared : (refusal : Option Refusal) → IsVerifyReply filled refusal e.output e.output' → e.report ≡ read_only refusal (length filled.plain.history) → Ran device (compare_plan filled) e
-  ran_compared None (inr refused) report = absurd refused.0
-  ran_compared (Some refusal) (inr refused) report = ran_unsound refusal refused.0 report refused.1
-  ran_compared refusal (inl found) report =
-      let printed = ran_printed device e (archive_opened 0 filled) (verify_line filled) refusal refl refl found.printed report disk in
-      record { way = printed.way; allows = inr (None, found.sound, printed.allows); did = printed.did }

@@ -118,7 +118,7 @@ module _ {D : Type 0} (sources : ℕ) (device : Device D) (e : Effects D) (head 
       report = report;
       printed = rw silent (no_text e.output.written);
       output = record { counted = rw silent refl };
-      disk = (only_sought device e.disk e.disk' counts refused.no_failed_write, λ known. left_alone device e.disk e.disk' (kept known (refused.held known)));
+      disk = (only_sought device e.disk e.disk' refused.no_fault refused.no_failed_write, λ known. left_alone device e.disk e.disk' (kept known (refused.held known)));
     };
   }
   ran_unmade DiskFault refused kept crash counts report silent = record {

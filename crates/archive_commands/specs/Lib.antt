@@ -1,4 +1,3 @@
 pub mod Create
 pub mod Recover
 pub mod Verify
-pub mod VerifyReplying

@@ -1,6 +1,7 @@
 -- The command `recover`.
 use Rattle.std.specs.Prelude.{ℕ, zero, suc, List, ◌++◌, length, codes, decimal}
 use Rattle.arch_disk.specs.Disk.{Device}
+use Rattle.history_items.specs.Items.{rows_in}
 use Rattle.archive_store.specs.Entries.{FilledArchive}
 use Rattle.command_plans.specs.Plan.{OfMemory, CommandPlan, May, and_then}
 use Rattle.command_runs.specs.Command.{Progress, Extended, archive_opened, nothing_done, opening_plan, printing_plan}
@@ -10,7 +11,7 @@ use Rattle.archive_store.specs.LateFills.{late_in_archive}
 -- how many rows an archive has, and how many of its intervals were late and are filled
 abbrev pub recover_line : FilledArchive → List ℕ
 recover_line filled =
-    codes "recovered rows " ++ decimal (length filled.plain.history) ++ codes " filled "
+    codes "recovered rows " ++ decimal (length (rows_in filled.plain.history)) ++ codes " filled "
     ++ decimal (length (late_in_archive filled)) ++ codes "\n"
 
 -- an archive some of whose intervals are late was opened, and may have got fills: its rows are those that there were

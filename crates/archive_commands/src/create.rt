@@ -138,7 +138,6 @@ fn head_of(alloc: Global, sheets: &RawMdb, text: &[u8]) -> Result<Head, Refusal>
         Ok(mdb) => mdb,
         Err(fault) => return Err(refusal_of_sheets(fault)),
     };
-    // This tells the proof that the database keeps the rules.
     mdb.is_sound();
     match tables_of(alloc, text) {
         Ok(tables) => Ok(Head { tables, mdb }),

@@ -3,18 +3,18 @@
 ghost use Rattle.std.specs.Prelude.{◌≡◌, ◌++◌, [], IsTrue, codes, decimal};
 ghost use Rattle.command_plans.specs.Plan.{IsDue};
 ghost use Rattle.command_runs.specs.Command.{Ran, effects_of};
-ghost use Rattle.command_runs.specs.Report.{disk_of_work, report_of_work, status_at};
+ghost use Rattle.command_runs.specs.Report.{status_at};
 ghost use Rattle.archive_commands.specs.Recover.{recover_plan};
 
 use arch_disk::Disk;
 use archive_store::Store;
+use command_runs::archive_work::{ArchiveWork, with_archive};
 use command_runs::finishing::finish;
 use command_runs::healing::heal;
 use command_runs::report::{Ended, Report};
 use line_buffer::LineBuffer;
 use load_session::fill_late;
 use outer_traits::sink::Sink;
-use refusals::Refusal;
 use std::alloc::Global;
 
 /// Opens the archive of a disk, fills each late interval, and prints how many rows there are and how many intervals it
@@ -35,30 +35,39 @@ pub fn recover<D: Disk, K: Sink>(alloc: Global, disk: D, sink: &mut K) -> Ended<
     // The number of the refusal, and 0 exactly where there's none.
     ensures status { result.status ≡ status_at result.report.refusal }
 {
-    Ended::of_work(work(alloc, disk, sink))
+    Ended::of_work(with_archive(alloc, disk, sink, Recovering))
 }
 
-/// Does the command.
-fn work<D: Disk, K: Sink>(alloc: Global, disk: D, sink: &mut K) -> Result<(D, Report), (D, Refusal)>
-    ensures { Ran D.device (recover_plan D.device disk) (effects_of disk (disk_of_work result)
-        (K.state sink.old) (K.state sink.new) (report_of_work result)) }
-{
-    let Ok(mut line_buffer) = LineBuffer::new(alloc) else {
-        return Err((disk, Refusal::OutOfMemory));
-    };
-    let mut store = Store::open(alloc, disk)?;
-    let rows = store.front();
-    let filled = fill_late(alloc, &mut store);
-    heal(&mut store);
-    // It tells the proof which fills a crash leaves now.
-    store.front();
-    match filled {
-        Ok(filled) => {
-            put_recovered(&mut line_buffer, rows, filled);
-            let refusal = finish(line_buffer, sink);
-            Ok((store.into_disk(), Report::read_only(refusal, rows)))
+/// The filling of late intervals, as a work with an archive.
+#[derive(Drop)]
+struct Recovering;
+
+impl ArchiveWork for Recovering {
+    ghost use Rattle.archive_commands.specs.Recover.{recovering_plan};
+
+    ghost plan = { λ job records found. recovering_plan records found };
+
+    fn work<D: Disk, K: Sink>(
+        self,
+        alloc: Global,
+        store: &mut Store<D>,
+        line_buffer: LineBuffer,
+        sink: &mut K,
+    ) -> Report {
+        let mut line_buffer = line_buffer;
+        store.is_kept();
+        let front = store.front();
+        let rows = store.row_count();
+        let filled = fill_late(alloc, store);
+        heal(store);
+        match filled {
+            Ok(filled) => {
+                put_recovered(&mut line_buffer, rows, filled);
+                let refusal = finish(line_buffer, sink);
+                Report::read_only(refusal, front)
+            }
+            Err(refusal) => Report::read_only(Some(refusal), front),
         }
-        Err(refusal) => Ok((store.into_disk(), Report::read_only(Some(refusal), rows))),
     }
 }
 

@@ -1,17 +1,17 @@
 //! The command `verify`: whether what is stored of an archive's intervals is what their rows give.
 
 ghost use Rattle.std.specs.Prelude.{◌≡◌, [], IsTrue};
-ghost use Rattle.store_fills.specs.LastFills.{AreOwn};
 ghost use Rattle.archive_store.specs.StoreView.{filled_of};
 ghost use Rattle.command_plans.specs.Plan.{IsDue};
 ghost use Rattle.command_runs.specs.Command.{Ran, effects_of};
-ghost use Rattle.command_runs.specs.Report.{disk_of_work, report_of_work, status_at};
-ghost use Rattle.archive_commands.specs.VerifyReplying.{IsVerifyReply};
-ghost use Rattle.archive_commands.specs.Verify.{sound_line, verify_plan};
+ghost use Rattle.command_runs.specs.Report.{status_at};
+ghost use Rattle.command_runs.specs.Checking.{IsCheckReply};
+ghost use Rattle.archive_commands.specs.Verify.{IsCompared, sound_line, verify_line, verify_plan};
 
 use arch_disk::Disk;
 use archive_store::Store;
 use archive_verify::Sound;
+use command_runs::archive_work::{ArchiveWork, with_archive};
 use command_runs::finishing::finish;
 use command_runs::report::{Ended, Report};
 use line_buffer::LineBuffer;
@@ -36,21 +36,29 @@ pub fn verify<D: Disk, K: Sink>(alloc: Global, disk: D, sink: &mut K) -> Ended<D
     // The number of the refusal, and 0 exactly where there's none.
     ensures status { result.status ≡ status_at result.report.refusal }
 {
-    Ended::of_work(work(alloc, disk, sink))
+    Ended::of_work(with_archive(alloc, disk, sink, Verifying))
 }
 
-/// Does the command.
-fn work<D: Disk, K: Sink>(alloc: Global, disk: D, sink: &mut K) -> Result<(D, Report), (D, Refusal)>
-    ensures { Ran D.device (verify_plan D.device disk) (effects_of disk (disk_of_work result)
-        (K.state sink.old) (K.state sink.new) (report_of_work result)) }
-{
-    let Ok(line_buffer) = LineBuffer::new(alloc) else {
-        return Err((disk, Refusal::OutOfMemory));
-    };
-    let mut store = Store::open(alloc, disk)?;
-    let rows = store.front();
-    let refusal = compare(alloc, &mut store, line_buffer, sink);
-    Ok((store.into_disk(), Report::read_only(refusal, rows)))
+/// The comparing of what is stored, as a work with an archive.
+#[derive(Drop)]
+struct Verifying;
+
+impl ArchiveWork for Verifying {
+    ghost use Rattle.archive_commands.specs.Verify.{compare_plan};
+
+    ghost plan = { λ job records found. compare_plan found };
+
+    fn work<D: Disk, K: Sink>(
+        self,
+        alloc: Global,
+        store: &mut Store<D>,
+        line_buffer: LineBuffer,
+        sink: &mut K,
+    ) -> Report {
+        let front = store.front();
+        let refusal = compare(alloc, store, line_buffer, sink);
+        Report::read_only(refusal, front)
+    }
 }
 
 /// Compares, and prints the line of an archive that was found sound, or says why it wasn't.
@@ -60,13 +68,12 @@ fn compare<D: Disk, K: Sink>(
     line_buffer: LineBuffer,
     sink: &mut K,
 ) -> Option<Refusal>
-    requires line { line_buffer ≡ [] }
-    requires own { AreOwn store.old.filled }
-    ensures reply { IsVerifyReply (filled_of store.old) result (K.state sink.old) (K.state sink.new) }
+    requires { line_buffer ≡ [] }
+    ensures reply { IsCheckReply (IsCompared (filled_of store.old)) (verify_line (filled_of store.old)) result
+        (K.state sink.old) (K.state sink.new) }
     ensures same { store.new ≡ store.old }
 {
-    // It tells the proof that the fill list has the bases of the fills that are there.
-    let _bases = store.front();
+    store.is_kept();
     match archive_verify::verify(alloc, store) {
         Ok(sound) => {
             let mut line_buffer = line_buffer;

@@ -11,10 +11,10 @@ abbrev pub Counted : Bool → ℕ → ℕ → Type 0
 Counted true before now = (before ≤ now) × HasRisen before now
 Counted false before now = Stays before now
 
--- a disk's count of faults has risen where a call failed, and never falls
+-- a disk's count of faults has risen where a call failed, and else is what it was before
 abbrev pub RoseIf : Bool → ℕ → ℕ → Type 0
 RoseIf true before now = raised before ≤ now
-RoseIf false before now = before ≤ now
+RoseIf false before now = Stays before now
 
 -- so many times one more, up to the counter's last value
 abbrev pub raised_by : ℕ → ℕ → ℕ
@@ -44,7 +44,7 @@ pub record UsedOutput (old new : OutputState) (failed : Bool) : Type 0 where
 
 -- ---- a disk
 
--- What a call did to a disk's counts: that of faults rose where the call answers that the disk failed, and never falls; of its writes at least `fewest`
+-- What a call did to a disk's counts: that of faults rose where the call answers that the disk failed, and nowhere else; of its writes at least `fewest`
 -- failed, and at most `most`.
 pub record UsedDisk {D : Type 0} (device : Device D) (old new : D) (failed : Bool) (fewest most : ℕ) : Type 0 where
   pub faults : RoseIf failed (device.fault_count old) (device.fault_count new)

@@ -1,7 +1,7 @@
 -- How the parts of plans go.
 use Rattle.std.proofs.Common.{◌≡◌, inl, inr, ℕ, true, false, List, [], Option, Some, None, refl, sym, ap, append-nil, arith}
 use Rattle.std.specs.Prelude.{IsTrue}
-use Rattle.arch_disk.specs.Disk.{Device, LeavesOnly}
+use Rattle.arch_disk.specs.Disk.{Device, LeavesOnly, NoFault}
 use Rattle.refusals.specs.declared.refusal.Refusal.{Refusal}
 use Rattle.refusals.specs.declared.refusal.Refusal.TheVariants.{NoArchive, Damaged, DiskFault, OutOfMemory, WriteFault}
 use Rattle.archive_store.specs.Calls.{IsStoreOpenRefusal}
@@ -72,8 +72,8 @@ module _ {D : Type 0} (device : Device D) (e : Effects D) where
 
 module _ {D : Type 0} (device : Device D) where
   -- an archive was looked for, and no call failed,
-  pub only_sought : (old new : D) → CountsNeverFall device old new → device.failed_writes new ≡ device.failed_writes old → UsedDisk device old new false 0 0
-  only_sought old new counts same = record { faults = counts.faults; writes = (0, omega arith, omega arith, same) }
+  pub only_sought : (old new : D) → NoFault device old new → device.failed_writes new ≡ device.failed_writes old → UsedDisk device old new false 0 0
+  only_sought old new told same = record { faults = told; writes = (0, omega arith, omega arith, same) }
 
   -- or one did
   seeking_failed_once : (old new : D) → IsJournalOpenFailed device old new → UsedDisk device old new true 0 1
@@ -94,7 +94,7 @@ module _ {D : Type 0} (device : Device D) (e : Effects D) (f : FilledArchive →
       report = report;
       printed = rw silent (no_text e.output.written);
       output = record { counted = rw silent refl };
-      disk = (only_sought device e.disk e.disk' counts refused.no_failed_write, λ known. record { reads = reads; images = images });
+      disk = (only_sought device e.disk e.disk' refused.no_fault refused.no_failed_write, λ known. record { reads = reads; images = images });
     };
   }
   ran_unopened (Damaged file at) refused reads images counts report silent = record {
@@ -104,7 +104,7 @@ module _ {D : Type 0} (device : Device D) (e : Effects D) (f : FilledArchive →
       report = report;
       printed = rw silent (no_text e.output.written);
       output = record { counted = rw silent refl };
-      disk = (only_sought device e.disk e.disk' counts refused.no_failed_write, λ known. record { reads = reads; images = images });
+      disk = (only_sought device e.disk e.disk' refused.no_fault refused.no_failed_write, λ known. record { reads = reads; images = images });
     };
   }
   ran_unopened DiskFault refused reads images counts report silent = record {
@@ -124,7 +124,7 @@ module _ {D : Type 0} (device : Device D) (e : Effects D) (f : FilledArchive →
       report = report;
       printed = rw silent (no_text e.output.written);
       output = record { counted = rw silent refl };
-      disk = (only_sought device e.disk e.disk' counts refused, λ known. record { reads = reads; images = images });
+      disk = (only_sought device e.disk e.disk' refused.1 refused.0, λ known. record { reads = reads; images = images });
     };
   }
   ran_unopened other refused reads images counts report silent = absurd refused

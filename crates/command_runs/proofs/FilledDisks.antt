@@ -6,7 +6,7 @@ use Rattle.std.specs.Option.{option_map_or}
 use Rattle.std.proofs.Math.Path.{fun_ext}
 use Rattle.arch_disk.specs.Image.{Image}
 use mathlib.Core.List.{IsPrefix}
-use Rattle.arch_disk.specs.Disk.{Device, LeavesOnly, raised}
+use Rattle.arch_disk.specs.Disk.{Device, LeavesOnly, raised, NoFault}
 use Rattle.intervals.specs.declared.interval.Interval.{Interval}
 use Rattle.history_items.specs.declared.fills.Addition.TheVariants as additions
 use Rattle.history_items.specs.declared.fills.Fill.{Fill}
@@ -39,7 +39,7 @@ use Rattle.command_runs.proofs.Healed.{more_faults, taken_back}
 use Rattle.command_plans.specs.Ledger.{UsedDisk, UsedWithoutFailedWrite}
 use Rattle.command_runs.specs.Command.{AllFilled, Extended, ExtensionFailed, FillingFailed, HasDiskOutcome}
 use Rattle.command_runs.specs.Durable.{FailedAtMostOnce, IsDurableAs, IsDurableWithFills}
-use Rattle.archive_store.specs.AddedFills.{AddsWholeFills}
+use Rattle.archive_store.specs.AddedFills.{AddsRightFills}
 use Rattle.command_runs.specs.Extension.{KeepsFills, batch_left}
 use Rattle.command_runs.specs.ReadOnly.{IsOpenedThen}
 use Rattle.command_runs.proofs.During.{IsOpened, failed_images, left, load_images}
@@ -95,7 +95,7 @@ module _ {D : Type 0} (device : Device D) (disk : D) (old new : StoreView D) (he
     (opened : IsTrue device.is_transparent → IsOpened device disk old) (first : device.fault_count disk ≤ device.fault_count old.opened)
     (keeps : IsTrue device.is_transparent → CrashInvariant device new) (faults : FaultInvariant device new)
     (kept : IsTrue device.is_transparent → pending_fault_of new.fills ≡ None → IsKeptWithFills device new)
-    (adds : AddsWholeFills old.head old.exponent new.history (fillings_in old.filled) (fillings_in new.filled)) where
+    (adds : AddsRightFills old.head old.exponent new.history (fillings_in old.filled) (fillings_in new.filled)) where
   -- the fills stand, where no failed write is pending
   pub with_fills : IsTrue device.is_transparent → pending_fault_of new.fills ≡ None → IsDurableWithFills device new.disk (filled_archive old.head old.exponent new.history (fillings_in new.filled))
   with_fills known healed =
@@ -116,14 +116,12 @@ module _ {D : Type 0} (device : Device D) (disk : D) (old new : StoreView D) (he
   images_still : faults_in new.fills ≡ [] → IsTrue device.is_transparent → IsOpenedThen device disk new.disk (IsDuring (archive_of old) new.history [])
   images_still none = images (rows_of_faults-in new.fills ∙ ap rows_of_faults none)
 
-  used_still : device.failed_writes new.disk ≡ device.failed_writes disk → UsedWithoutFailedWrite device disk new.disk false
-  used_still writes =
-      let later = faults.later in
-      record { faults = omega (arith, first, ap device.fault_count opening, later); writes = (0, omega arith, omega arith, writes) }
+  used_still : NoFault device disk new.disk → device.failed_writes new.disk ≡ device.failed_writes disk → UsedWithoutFailedWrite device disk new.disk false
+  used_still told writes = record { faults = told; writes = (0, omega arith, omega arith, writes) }
 
-  pub still_extended : faults_in new.fills ≡ [] → device.failed_writes new.disk ≡ device.failed_writes disk → HasDiskOutcome device disk new.disk false (Extended (filled_of old) new.history)
-  still_extended none writes =
-      (used_still writes, λ known. record { stands = (opened known).stands; images = images_still none known; kept = keeps_fills known (no_failed_write none) })
+  pub still_extended : faults_in new.fills ≡ [] → NoFault device disk new.disk → device.failed_writes new.disk ≡ device.failed_writes disk → HasDiskOutcome device disk new.disk false (Extended (filled_of old) new.history)
+  still_extended none told writes =
+      (used_still told writes, λ known. record { stands = (opened known).stands; images = images_still none known; kept = keeps_fills known (no_failed_write none) })
 
   -- a failed write was taken back, unless a call failed again
   pub taken_back_once : (wrote : Bool) → (wrote ≡ false) ⊎ (raised (raised (device.fault_count new.opened)) ≤ device.fault_count new.disk) → FailedAtMostOnce device disk new.disk → wrote ≡ false
@@ -202,9 +200,9 @@ module _ {D : Type 0} (device : Device D) (disk : D) (old new : StoreView D) (he
     none_by_fills : IsTrue device.is_transparent → late_in_archive (filled_archive old.head old.exponent new.history (fillings_in new.filled)) ≡ []
     none_by_fills known = sym (late_as_filled (filled_archive old.head old.exponent new.history (fillings_in new.filled)) new.fills (bases known)) ∙ none_late old.exponent new.history new.fills (subst (λ (e : ℕ). (i : Interval) → IsLate e i new.history new.fills → ⊥) exponent none)
 
-    pub all_are_filled : faults_in new.fills ≡ [] → device.failed_writes new.disk ≡ device.failed_writes disk → HasDiskOutcome device disk new.disk false (AllFilled (filled_of old) new.history)
-    all_are_filled no_fault writes = (
-      used_still writes,
+    pub all_are_filled : faults_in new.fills ≡ [] → NoFault device disk new.disk → device.failed_writes new.disk ≡ device.failed_writes disk → HasDiskOutcome device disk new.disk false (AllFilled (filled_of old) new.history)
+    all_are_filled no_fault told writes = (
+      used_still told writes,
       λ known. record {
         extended = record {
           stands = (opened known).stands;
@@ -235,16 +233,16 @@ module _ {D : Type 0} (device : Device D) (disk : D) (old between mid new : Stor
   new_rows = ap (λ (s : StoreView D). s.history) healed.left ∙ filled_on.rows
 
   -- what was added to the fills since the opening
-  pub new_fills : AddsWholeFills old.head old.exponent new.history (fillings_in old.filled) (fillings_in new.filled)
+  pub new_fills : AddsRightFills old.head old.exponent new.history (fillings_in old.filled) (fillings_in new.filled)
   new_fills =
-      subst (λ (h : Head). AddsWholeFills h old.exponent new.history (fillings_in old.filled) (fillings_in new.filled)) head
-      (subst (λ (e : ℕ). AddsWholeFills between.head e new.history (fillings_in old.filled) (fillings_in new.filled)) exponent
-      (subst (λ (h : List Item). AddsWholeFills between.head between.exponent h (fillings_in old.filled) (fillings_in new.filled)) (sym new_rows)
-      (subst (λ (f : PlacedFills). AddsWholeFills between.head between.exponent between.history (fillings_in f) (fillings_in new.filled)) filled
-      (subst (λ (f : PlacedFills). AddsWholeFills between.head between.exponent between.history (fillings_in between.filled) (fillings_in f)) (sym (ap (λ (s : StoreView D). s.filled) healed.left)) filled_on.sets))))
+      subst (λ (h : Head). AddsRightFills h old.exponent new.history (fillings_in old.filled) (fillings_in new.filled)) head
+      (subst (λ (e : ℕ). AddsRightFills between.head e new.history (fillings_in old.filled) (fillings_in new.filled)) exponent
+      (subst (λ (h : List Item). AddsRightFills between.head between.exponent h (fillings_in old.filled) (fillings_in new.filled)) (sym new_rows)
+      (subst (λ (f : PlacedFills). AddsRightFills between.head between.exponent between.history (fillings_in f) (fillings_in new.filled)) filled
+      (subst (λ (f : PlacedFills). AddsRightFills between.head between.exponent between.history (fillings_in between.filled) (fillings_in f)) (sym (ap (λ (s : StoreView D). s.filled) healed.left)) filled_on.sets))))
 
   -- no call of the disk had failed before the fills
-  module _ (no_fault : faults_in between.fills ≡ []) (writes : device.failed_writes between.disk ≡ device.failed_writes disk) where
+  module _ (no_fault : faults_in between.fills ≡ []) (told : NoFault device disk between.disk) (writes : device.failed_writes between.disk ≡ device.failed_writes disk) where
     pub untouched : IsUnfailed device between mid → new ≡ mid
     untouched unfailed = healed.same (pending_fault_of-in mid.fills ∙ ap pending_fault_of (unfailed.same_faults ∙ no_fault))
 
@@ -254,11 +252,14 @@ module _ {D : Type 0} (device : Device D) (disk : D) (old between mid new : Stor
     same_writes : IsUnfailed device between mid → device.failed_writes new.disk ≡ device.failed_writes disk
     same_writes unfailed = ap (λ (s : StoreView D). device.failed_writes s.disk) (untouched unfailed) ∙ unfailed.no_failed_write ∙ writes
 
+    same_count : IsUnfailed device between mid → NoFault device disk new.disk
+    same_count unfailed = ap (λ (s : StoreView D). device.fault_count s.disk) (untouched unfailed) ∙ unfailed.no_fault ∙ told
+
     -- and none failed at a fill,
     pub unfailed_disk : IsUnfailed device between mid → HasDiskOutcome device disk new.disk false (Extended (filled_of old) between.history)
     unfailed_disk unfailed =
         subst (λ (h : List Item). HasDiskOutcome device disk new.disk false (Extended (filled_of old) h)) new_rows
-        (still_extended device disk old new new_head new_exponent new_opening opened first keeps faults kept new_fills (no_faults unfailed) (same_writes unfailed))
+        (still_extended device disk old new new_head new_exponent new_opening opened first keeps faults kept new_fills (no_faults unfailed) (same_count unfailed) (same_writes unfailed))
 
     -- or one did,
     pub failed_disk : IsFillFailed device between mid → HasDiskOutcome device disk new.disk true (FillingFailed (filled_of old) between.history)
@@ -274,7 +275,7 @@ module _ {D : Type 0} (device : Device D) (disk : D) (old between mid new : Stor
     filled_disk late done bases =
         let none = subst (λ (s : StoreView D). (i : Interval) → IsLate s.exponent i s.history s.fills → ⊥) (sym (untouched done.unfailed)) done.none_late in
         subst (λ (h : List Item). HasDiskOutcome device disk new.disk false (AllFilled (filled_of old) h)) new_rows
-        (all_are_filled device disk old new new_head new_exponent new_opening opened first keeps faults kept new_fills none bases (no_faults done.unfailed) (same_writes done.unfailed))
+        (all_are_filled device disk old new new_head new_exponent new_opening opened first keeps faults kept new_fills none bases (no_faults done.unfailed) (same_count done.unfailed) (same_writes done.unfailed))
 
   -- the disk had failed at the rows of a batch, so no fill came
   module _ (rows : List Row) (count : ℕ) (fault : faults_in between.fills ≡ Fault count true (additions.Rows rows) ∷ []) (wrote : device.failed_writes between.disk ≡ raised (device.failed_writes disk)) where

@@ -1,3 +1,4 @@
+pub mod Checking
 pub mod Commands
 pub mod DumpRest
 pub mod During

@@ -1,6 +1,5 @@
 -- The disk of a call that asks an archive.
 use Rattle.std.proofs.Common.{◌≡◌, ◌∙◌, true, false, List, [], ◌∷◌, ◌++◌, length, sym, ap, subst, arith}
-use Rattle.std.specs.Prelude.{IsTrue}
 use Rattle.std.specs.List.{AllByRecursion}
 use Rattle.std.proofs.lemmas.List.{nil_from_length}
 use Rattle.arch_disk.specs.Disk.{Device, LeavesOnly}
@@ -13,12 +12,12 @@ use Rattle.store_fills.specs.Faults.{IsDone, faults_in}
 use Rattle.store_fills.proofs.Faults.{faults_in-done, pending_fault_of-in}
 use Rattle.history_items.specs.Fills.{pending_fault_of}
 use Rattle.command_runs.specs.Healing.{IsHealed}
-use Rattle.archive_store.specs.Calls.{IsStoreOpened}
-use Rattle.archive_store.specs.StoreView.{StoreView, filled_of, CrashInvariant, FaultInvariant}
+use Rattle.archive_store.specs.Keeping.{IsKept}
+use Rattle.archive_store.specs.StoreView.{StoreView, filled_of, CrashInvariant}
 use Rattle.archive_store.specs.Stands.{IsSoundImage, StandsFilled}
-use Rattle.disk_journal.specs.Calls.{CountsNeverFall}
 use Rattle.command_runs.specs.Command.{HasDiskOutcome, Opened}
 use Rattle.load_session.specs.Filling.{IsFillFailed}
+use Rattle.command_runs.specs.Opened.{IsOpenedOn}
 use Rattle.command_runs.specs.ReadOnly.{IsReadOnly}
 use Rattle.archive_store.specs.LateFills.{late_in_archive}
 
@@ -34,15 +33,11 @@ read_only_store device disk s stands same opening handed_in since keeps = record
 }
 
 -- what became of a disk whose archive was opened, and left as it was
-pub opened_outcome : {D : Type 0} (device : Device D) (disk : D) (s : StoreView D) → IsStoreOpened device disk s → device.reads s.disk ≡ device.reads disk →
-    LeavesOnly device disk s.opened (device.images disk) → CountsNeverFall device disk s.opened → (IsTrue device.is_transparent → CrashInvariant device s) → FaultInvariant device s →
-    HasDiskOutcome device disk s.disk false (Opened (filled_of s))
-opened_outcome device disk s opened reads handed_in counts keeps faults =
-    let first = counts.faults in
-    let later = faults.later in (
-      record { faults = omega (arith, first, later); writes = (0, omega arith, omega arith, opened.no_failed_write) },
-      λ known. read_only_store device disk s (opened.filled known) reads opened.opening handed_in (opened.since known) (keeps known),
-    )
+pub opened_outcome : {D : Type 0} (device : Device D) (disk : D) (s : StoreView D) → IsOpenedOn device disk s → IsKept device s → HasDiskOutcome device disk s.disk false (Opened (filled_of s))
+opened_outcome device disk s on kept = (
+  record { faults = on.opened.no_fault; writes = (0, omega arith, omega arith, on.opened.no_failed_write) },
+  λ known. read_only_store device disk s (on.opened.filled known) on.reads on.opened.opening on.crash (on.opened.since known) (kept.images known),
+)
 
 -- ---- filling where no interval is late
 
@@ -54,13 +49,12 @@ unchanged_by {D = D} device s mid new no_fault unchanged healed none =
     healed.same (ap (λ (x : StoreView D). pending_fault_of x.fills) same ∙ pending_fault_of-in s.fills ∙ ap pending_fault_of no_fault) ∙ same
 
 -- it left the archive as it was
-pub still_opened : {D : Type 0} (device : Device D) (disk : D) (s new : StoreView D) → IsStoreOpened device disk s → device.reads s.disk ≡ device.reads disk →
-    LeavesOnly device disk s.opened (device.images disk) → CountsNeverFall device disk s.opened → (IsTrue device.is_transparent → CrashInvariant device s) → FaultInvariant device s →
+pub still_opened : {D : Type 0} (device : Device D) (disk : D) (s new : StoreView D) → IsOpenedOn device disk s → IsKept device s →
     length (late_intervals s.exponent s.history s.fills) ≡ length (late_in_archive (filled_of s)) → (late_intervals s.exponent s.history s.fills ≡ [] → new ≡ s) → length (late_in_archive (filled_of s)) ≡ 0 →
     HasDiskOutcome device disk new.disk false (Opened (filled_of s))
-still_opened {D = D} device disk s new opened reads handed_in counts keeps faults as_late unchanged none =
+still_opened {D = D} device disk s new on kept as_late unchanged none =
     let same : new ≡ s = unchanged (nil_from_length (late_intervals s.exponent s.history s.fills) (as_late ∙ none)) in
-    subst (λ (x : StoreView D). HasDiskOutcome device disk x.disk false (Opened (filled_of s))) (sym same) (opened_outcome device disk s opened reads handed_in counts keeps faults)
+    subst (λ (x : StoreView D). HasDiskOutcome device disk x.disk false (Opened (filled_of s))) (sym same) (opened_outcome device disk s on kept)
 
 -- and no fill failed
 pub none_failed : {D : Type 0} (device : Device D) (s mid : StoreView D) → AllByRecursion IsDone s.fills → length (late_intervals s.exponent s.history s.fills) ≡ length (late_in_archive (filled_of s)) →

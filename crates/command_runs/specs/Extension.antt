@@ -10,7 +10,7 @@ use Rattle.store_fills.specs.Sound.{Fillings}
 use Rattle.archive_store.specs.Entries.{FilledArchive, filled_archive}
 use Rattle.archive_store.specs.Stands.{StandsFilled}
 use Rattle.command_runs.specs.Durable.{FailedAtMostOnce, IsDurableAs, IsDurableWithFills}
-use Rattle.archive_store.specs.AddedFills.{AddsWholeFills}
+use Rattle.archive_store.specs.AddedFills.{AddsRightFills}
 use Rattle.command_runs.specs.ReadOnly.{IsOpenedThen}
 use Rattle.archive_store.specs.LateFills.{late_in_archive}
 use Rattle.load_session.specs.During.{IsDuring}
@@ -28,7 +28,7 @@ batch_left rows = items_of rows ∷ []
 pub record KeepsFills {D : Type 0} (device : Device D) (new : D) (before : FilledArchive)
     (reached : List Item) : Type 0 where
   pub fillings : Fillings (List SetRow)
-  pub adds : AddsWholeFills before.plain.head before.plain.exponent reached before.fillings fillings
+  pub adds : AddsRightFills before.plain.head before.plain.exponent reached before.fillings fillings
   pub durable : IsDurableWithFills device new (filled_at before reached fillings)
 
 -- An archive was opened, and its history extended: each image from then on stands for one from that history to the one
@@ -54,7 +54,7 @@ pub record IsExtensionFailed {D : Type 0} (device : Device D) (old new : D) (bef
   pub stands : StandsFilled (device.reads old) before
   pub images : IsOpenedThen device old new (IsDuring before.plain reached (batch_left rows))
   pub fillings : Fillings (List SetRow)
-  pub adds : AddsWholeFills before.plain.head before.plain.exponent reached before.fillings fillings
+  pub adds : AddsRightFills before.plain.head before.plain.exponent reached before.fillings fillings
   pub now : (c : Image) → device.images new c
       → StandsFilled c (filled_at before reached fillings)
       ⊎ StandsFilled c (filled_at before (reached ++ items_of rows) fillings)

@@ -1,3 +1,5 @@
+pub mod ArchiveWork
+pub mod Checking
 pub mod Command
 pub mod Creation
 pub mod DumpRest

@@ -10,7 +10,6 @@ use archive_store::Store;
 pub fn heal<D: Disk>(store: &mut Store<D>)
     ensures { IsHealed D.device store.old store.new }
 {
-    // It tells the proof that the fault is counted.
-    let _rows = store.front();
+    store.is_kept();
     let _ = store.reopen();
 }

@@ -261,9 +261,9 @@ module _ {D : Type 0} (device : Device D) (e : Effects D) (files : Option Files)
       -- the packets of the dump were ingested, so far
       pub load_received : (dump : List ℕ) (moment : ℤ) (route : List RouteStatement) (asks : List Ask) → IsReady archive asked route asks → IsInput files words.dump dump
           → length dump ≤ dump_limit → IsMomentOf next moment → UsedInputs a b 1 false
-          → Ran device (session_plan Began filled (receiving archive.head route words.link moment) asks dump) e → RanOver device plan e a b
+          → Ran device (session_plan Began filled (receiving archive.head archive.history route words.link moment) asks dump) e → RanOver device plan e a b
       load_received dump moment route asks ready input short clock used went =
-          let r : Receiving = receiving archive.head route words.link moment in
+          let r : Receiving = receiving archive.head archive.history route words.link moment in
           let each = end_of (HasRead 1) (session_plan Began filled r asks dump) went.way (session_after Began filled r asks dump) went.allows in
           record {
             ran = record {
@@ -297,7 +297,7 @@ session_determined is filled r asks dump = λ s h. each s s.refusal
 module _ (Began : ℕ → Type 0) (all : Files) (next : Option ℤ) (words : LoadWords) where
   dump_determined : (filled : FilledArchive) (route : List RouteStatement) (asks : List Ask) (read : InputRead (List ℕ)) → IsDetermined (after_dump Began next words.link filled route asks read)
   dump_determined filled route asks OverLimit = tt
-  dump_determined filled route asks (WithinLimit dump) = λ moment h. session_determined Began filled (receiving filled.plain.head route words.link moment) asks dump
+  dump_determined filled route asks (WithinLimit dump) = λ moment h. session_determined Began filled (receiving filled.plain.head filled.plain.history route words.link moment) asks dump
 
   routed_determined : IsThere (Some all) words.dump → (sheet : Result (List Ask) Refusal) (filled : FilledArchive) (route : List RouteStatement) →
       IsDetermined (after_route Began (Some all) next words sheet filled route)
@@ -317,6 +317,7 @@ module _ (Began : ℕ → Type 0) (all : Files) (next : Option ℤ) (words : Loa
 
 pub load_determined : {D : Type 0} (device : Device D) (disk : D) (files : Option Files) (next : Option ℤ) (words : LoadWords) → IsTrue device.is_transparent → IsSome files
     → IsDetermined (load_plan device disk files next words)
+unfolding load_plan
 load_determined device disk None next words known some = absurd (cc (some))
 load_determined device disk (Some all) next words known some =
     route_read_determined all words.route (routed_load_plan device disk (Some all) next words)

@@ -3,6 +3,7 @@ use Rattle.std.proofs.Common.{◌≡◌, ◌∙◌, ℕ, ◌+◌, ◌-◌, ◌�
 use Rattle.asks.specs.declared.ask.Ask.{Ask}
 use Rattle.refusals.specs.declared.refusal.Refusal.{Refusal}
 use Rattle.history_items.specs.declared.items.Item.{Item}
+use Rattle.history_items.specs.Items.{rows_in}
 use Rattle.load_session.specs.declared.session.DumpSummary.{DumpSummary}
 use Rattle.load_session.specs.Receiving.{Receiving, arrived, rows_received}
 use Rattle.load_session.specs.Session.{IsSession, IsSummary, SessionResult}
@@ -73,14 +74,14 @@ module _ (r : Receiving) (before : ℕ) (dump : List ℕ) (s : SessionResult) (w
     -- what was printed is the text of the load
     pub wrote_load : (asks : List Ask) (o : Option Refusal) (output output' : OutputState) → new.head ≡ r.head
         → ArePrinted asks o output output' (archive_asks_text (filled_of new) 1 asks
-        ++ load_line whole.packets (length new.history - before) (whole.routed - (length new.history - before)) whole.idle (length new.history))
+        ++ load_line whole.packets (length new.history - before) (whole.routed - (length new.history - before)) whole.idle (length (rows_in new.history)))
         → ArePrinted asks o output output' (load_text r new.exponent asks (fillings_in new.filled) before s.reached s.packets)
     wrote_load asks o output output' head wrote =
         let fillings = fillings_in new.filled in
         let fresh = length s.reached - before in
-        subst (λ (line : List ℕ). ArePrinted asks o output output' (archive_asks_text (filled_archive r.head new.exponent s.reached fillings) 1 asks ++ line)) (line_same fresh (length s.reached))
-        (subst (λ (h : Head). ArePrinted asks o output output' (archive_asks_text (filled_archive h new.exponent s.reached fillings) 1 asks ++ load_line whole.packets fresh (whole.routed - fresh) whole.idle (length s.reached))) head
-        (subst (λ (h : List Item). ArePrinted asks o output output' (archive_asks_text (filled_archive new.head new.exponent h fillings) 1 asks ++ load_line whole.packets (length h - before) (whole.routed - (length h - before)) whole.idle (length h))) rows wrote))
+        subst (λ (line : List ℕ). ArePrinted asks o output output' (archive_asks_text (filled_archive r.head new.exponent s.reached fillings) 1 asks ++ line)) (line_same fresh (length (rows_in s.reached)))
+        (subst (λ (h : Head). ArePrinted asks o output output' (archive_asks_text (filled_archive h new.exponent s.reached fillings) 1 asks ++ load_line whole.packets fresh (whole.routed - fresh) whole.idle (length (rows_in s.reached)))) head
+        (subst (λ (h : List Item). ArePrinted asks o output output' (archive_asks_text (filled_archive new.head new.exponent h fillings) 1 asks ++ load_line whole.packets (length h - before) (whole.routed - (length h - before)) whole.idle (length (rows_in h)))) rows wrote))
 
     pub reports_load : (report : Report) → report ≡ printed_report report.refusal before (length new.history) whole.packets whole.routed whole.idle
         → report ≡ printed_report report.refusal before (length s.reached) (length s.packets) all_rows idle_rows

@@ -3,7 +3,7 @@ use Rattle.std.proofs.Common.{◌≡◌, ◌⊎◌, inl, inr, ℕ, ◌+◌, ◌-
 use Rattle.std.specs.Prelude.{IfErr, IfOk, IsTrue, Result, Ok, Err}
 use Rattle.std.specs.Result.{result_err}
 use mathlib.Core.List.{IsPrefix}
-use Rattle.arch_disk.specs.Disk.{Device, LeavesOnly, raised}
+use Rattle.arch_disk.specs.Disk.{Device, LeavesOnly, raised, NoFault}
 use Rattle.asks.specs.declared.ask.Ask.{Ask}
 use Rattle.intervals.specs.declared.interval.Interval.{Interval}
 use Rattle.refusals.specs.declared.refusal.Refusal.{Refusal}
@@ -18,14 +18,14 @@ use Rattle.store_fills.specs.LastFills.{PlacedFills, fillings_in}
 use Rattle.store_fills.specs.Sound.{base_of_filling}
 use Rattle.store_fills.proofs.Faults.{pending_fault_of-in}
 use Rattle.archive_store.specs.declared.head.Head.{Head}
-use Rattle.archive_store.specs.AddedFills.{AddsWholeFills}
+use Rattle.archive_store.specs.AddedFills.{AddsRightFills}
 use Rattle.archive_store.specs.Entries.{filled_archive}
 use Rattle.archive_store.specs.StoreView.{CrashInvariant, FaultInvariant, IsKeptWithFills, StoreView, archive_of, filled_of}
 use Rattle.command_plans.specs.Plan.{OfMemory, OfOutput, CommandPlan, Stop, May, Way, Stopped, Interrupted, Allows}
 use Rattle.load_session.specs.declared.session.DumpSummary.{DumpSummary}
 use Rattle.load_session.specs.During.{IsDuring}
 use Rattle.load_session.specs.Receiving.{Receiving, arrived, rows_received}
-use Rattle.load_session.specs.Session.{ExactlyOne, HasReached, HoldsFailedWrite, IsSession, IsSessionEnd, IsSummary, SessionResult, next_fresh_rows}
+use Rattle.load_session.specs.Session.{ExactlyOne, HasReached, HoldsFailedWrite, IsSession, IsSessionEnd, IsSummary, SessionResult, next_fresh_rows, OneOrMore}
 use Rattle.load_session.proofs.Sessions.{session_begins, session_from}
 use Rattle.outer_traits.specs.States.{OutputState}
 use Rattle.space_packet.specs.declared.dump.Why.{Why}
@@ -70,6 +70,7 @@ rest_told dump r s whole i =
 -- A store was opened, a session ran over it, what is late was filled behind that, and a failed write was taken back.
 module _ {D : Type 0} (device : Device D) (disk : D) (old between mid new : StoreView D) (on : IsOpenedOn device disk old) (asks : List Ask) (dump : List ℕ) (r : Receiving) (s : SessionResult)
     (session : IsSession old.exponent (λ n. n ≡ old.records) old.history dump r s) (reached : HasReached old between r s) (writes : ExactlyOne s.refusal (device.failed_writes old.disk) (device.failed_writes between.disk))
+    (counted : OneOrMore s.refusal (device.fault_count old.disk) (device.fault_count between.disk))
     (filling : Result ℕ Refusal) (filled : IfOk filling (AllLateFilled device between mid)) (unfilled : IfErr filling (IsFillingRefusal device between mid)) (filled_on : IsFilledOn between mid)
     (healed : IsHealed device mid new) (keeps : IsTrue device.is_transparent → CrashInvariant device new) (faults : FaultInvariant device new)
     (kept : IsTrue device.is_transparent → pending_fault_of new.fills ≡ None → IsKeptWithFills device new)
@@ -119,11 +120,17 @@ module _ {D : Type 0} (device : Device D) (disk : D) (old between mid new : Stor
       subst (λ (n : ℕ). ExactlyOne refusal n (device.failed_writes between.disk)) on.opened.no_failed_write
       (subst (λ (o : Option Refusal). ExactlyOne o (device.failed_writes old.disk) (device.failed_writes between.disk)) is writes)
 
+  -- a call of the disk failed only where that is the answer
+  told : (refusal : Option Refusal) → s.refusal ≡ refusal → OneOrMore refusal (device.fault_count disk) (device.fault_count between.disk)
+  told refusal is =
+      subst (λ (n : ℕ). OneOrMore refusal n (device.fault_count between.disk)) on.opened.no_fault
+      (subst (λ (o : Option Refusal). OneOrMore o (device.fault_count old.disk) (device.fault_count between.disk)) is counted)
+
   same_rows : new.history ≡ s.reached
   same_rows = new_rows device disk old between mid new opened on.counts.faults reached.head reached.exponent reached.opened reached.filled filled_on healed keeps faults kept ∙ reached.history
 
   -- no call of it failed in a batch
-  module _ (none : faults_in between.fills ≡ []) (no_write : device.failed_writes between.disk ≡ device.failed_writes disk) where
+  module _ (none : faults_in between.fills ≡ []) (none_told : NoFault device disk between.disk) (no_write : device.failed_writes between.disk ≡ device.failed_writes disk) where
     abbrev late : ℕ
     late = length (late_behind (filled_of old) s)
 
@@ -149,18 +156,18 @@ module _ {D : Type 0} (device : Device D) (disk : D) (old between mid new : Stor
     unfailed : IsUnfailed device between mid → HasDiskOutcome device disk new.disk false (Extended (filled_of old) s.reached)
     unfailed is =
         subst (λ (h : List Item). HasDiskOutcome device disk new.disk false (Extended (filled_of old) h)) reached.history
-        (unfailed_disk device disk old between mid new opened on.counts.faults reached.head reached.exponent reached.opened reached.filled filled_on healed keeps faults kept none no_write is)
+        (unfailed_disk device disk old between mid new opened on.counts.faults reached.head reached.exponent reached.opened reached.filled filled_on healed keeps faults kept none none_told no_write is)
 
     failed : IsFillFailed device between mid → HasDiskOutcome device disk new.disk true (FillingFailed (filled_of old) s.reached)
     failed is =
         subst (λ (h : List Item). HasDiskOutcome device disk new.disk true (FillingFailed (filled_of old) h)) reached.history
-        (failed_disk device disk old between mid new opened on.counts.faults reached.head reached.exponent reached.opened reached.filled filled_on healed keeps faults kept none no_write is)
+        (failed_disk device disk old between mid new opened on.counts.faults reached.head reached.exponent reached.opened reached.filled filled_on healed keeps faults kept none none_told no_write is)
 
     module _ (new_bases : IsTrue device.is_transparent → (i : Interval) → base_in i new.fills ≡ base_of_filling (fillings_in new.filled) i) where
       all : (count : ℕ) → AllLateFilled device between mid count → HasDiskOutcome device disk new.disk false (AllFilled (filled_of old) s.reached)
       all count is =
           subst (λ (h : List Item). HasDiskOutcome device disk new.disk false (AllFilled (filled_of old) h)) reached.history
-          (filled_disk device disk old between mid new opened on.counts.faults reached.head reached.exponent reached.opened reached.filled filled_on healed keeps faults kept none no_write count is new_bases)
+          (filled_disk device disk old between mid new opened on.counts.faults reached.head reached.exponent reached.opened reached.filled filled_on healed keeps faults kept none none_told no_write count is new_bases)
 
       -- ---- a refusal is told, whatever the filling came to
 
@@ -234,9 +241,9 @@ module _ {D : Type 0} (device : Device D) (disk : D) (old between mid new : Stor
           let same_exponent = new_exponent device disk old between mid new opened on.counts.faults reached.head reached.exponent reached.opened reached.filled filled_on healed keeps faults kept in
           let wrote = subst (λ (e : ℕ). ArePrinted asks report.refusal output output' (load_text r e asks (fillings_in new.filled) (length old.history) s.reached s.packets)) same_exponent text in
           let added = new_fills device disk old between mid new opened on.counts.faults reached.head reached.exponent reached.opened reached.filled filled_on healed keeps faults kept in
-          let adds = subst (λ (h : Head). AddsWholeFills h old.exponent s.reached (fillings_in old.filled) (fillings_in new.filled)) (sym of_head)
-          (subst (λ (h : List Item). AddsWholeFills old.head old.exponent h (fillings_in old.filled) (fillings_in new.filled)) same_rows added) in
-          let as_before = subst (λ (t : List ℕ). ArePrinted asks report.refusal output output' (t ++ line_of_load r (length old.history) (length s.reached) s.packets))
+          let adds = subst (λ (h : Head). AddsRightFills h old.exponent s.reached (fillings_in old.filled) (fillings_in new.filled)) (sym of_head)
+          (subst (λ (h : List Item). AddsRightFills old.head old.exponent h (fillings_in old.filled) (fillings_in new.filled)) same_rows added) in
+          let as_before = subst (λ (t : List ℕ). ArePrinted asks report.refusal output output' (t ++ line_of_load r (length old.history) s.reached s.packets))
           (same_texts r.head old.exponent s.reached (fillings_in old.filled) (fillings_in new.filled) adds 1 asks) wrote in
           goes_on_whole None whole rest (ran_filled count is (answers_printed report.refusal as_before report_is (all count is)))
 
@@ -246,7 +253,7 @@ module _ {D : Type 0} (device : Device D) (disk : D) (old between mid new : Stor
       → ArePrinted asks report.refusal output output' (load_text r new.exponent asks (fillings_in new.filled) (length old.history) s.reached s.packets)
       → report ≡ printed_report report.refusal (length old.history) (length s.reached) (length s.packets) (length (rows_received r s.packets)) (length s.packets - arrived s.packets)
       → Ran device plan went
-  ran_whole new_bases count is whole rest of_head text report_is = ran_printed (holds None whole) (wrote None whole) new_bases count is whole rest of_head text report_is
+  ran_whole new_bases count is whole rest of_head text report_is = ran_printed (holds None whole) (told None whole) (wrote None whole) new_bases count is whole rest of_head text report_is
 
   -- ---- a batch was refused
 
@@ -266,9 +273,9 @@ module _ {D : Type 0} (device : Device D) (disk : D) (old between mid new : Stor
     batch_refused : (refusal : Refusal) → s.refusal ≡ Some refusal → IsSessionEnd old.exponent (λ n. n ≡ old.records) old.history r s (Some refusal)
         → report ≡ loaded (Some refusal) None (length old.history) (length s.reached) 0 0 0 → Ran device plan went
     batch_refused OutOfMemory is cause report_is =
-        goes_on (Some OutOfMemory) is (ran_refused (holds (Some OutOfMemory) is) (wrote (Some OutOfMemory) is) new_bases None OutOfMemory silent report_is)
+        goes_on (Some OutOfMemory) is (ran_refused (holds (Some OutOfMemory) is) (told (Some OutOfMemory) is) (wrote (Some OutOfMemory) is) new_bases None OutOfMemory silent report_is)
     batch_refused (Limit which number) is cause report_is =
-        goes_on (Some (Limit which number)) is (ran_refused (holds (Some (Limit which number)) is) (wrote (Some (Limit which number)) is) new_bases None (Limit which number) silent report_is)
+        goes_on (Some (Limit which number)) is (ran_refused (holds (Some (Limit which number)) is) (told (Some (Limit which number)) is) (wrote (Some (Limit which number)) is) new_bases None (Limit which number) silent report_is)
     batch_refused DiskFault is cause report_is =
         goes_on (Some DiskFault) is (record {
           way = Stopped (extension_failed (filled_of old) r s) (Some DiskFault);
@@ -291,9 +298,9 @@ module _ {D : Type 0} (device : Device D) (disk : D) (old between mid new : Stor
     ran_told (Ok whole) is summary refusal link (inl rest) report_is =
         let left = sym (rest_told dump r s whole summary) ∙ rest.0 in
         goes_on_whole (Some refusal) is left
-        (ran_refused (holds None is) (wrote None is) new_bases (Some r.link) refusal silent (subst (λ (l : Option ℕ). reports refusal l) rest.1 report_is))
+        (ran_refused (holds None is) (told None is) (wrote None is) new_bases (Some r.link) refusal silent (subst (λ (l : Option ℕ). reports refusal l) rest.1 report_is))
     ran_told (Ok whole) is summary refusal link (inr not_filled) report_is =
         let left = sym (rest_told dump r s whole summary) ∙ not_filled.0 in
         let cause = subst (λ (x : Result ℕ Refusal). IfErr x (IsFillingRefusal device between mid)) not_filled.1 unfilled in
         goes_on_whole None is left
-        (ran_not_filled (holds None is) (wrote None is) new_bases refusal cause silent (subst (λ (l : Option ℕ). reports refusal l) not_filled.2 report_is))
+        (ran_not_filled (holds None is) (told None is) (wrote None is) new_bases refusal cause silent (subst (λ (l : Option ℕ). reports refusal l) not_filled.2 report_is))

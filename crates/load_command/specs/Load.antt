@@ -122,7 +122,7 @@ after_dump Began next link filled route asks OverLimit =
     Stop (dump_too_long link filled) (Some (Limit DumpOctets dump_limit))
 after_dump Began next link filled route asks (WithinLimit dump) =
     Choose (IsMomentOf next)
-    (λ moment. session_plan Began filled (receiving filled.plain.head route link moment) asks dump)
+    (λ moment. session_plan Began filled (receiving filled.plain.head filled.plain.history route link moment) asks dump)
 
 -- reads a dump whose link and asks are none that is refused: ReadFault, or the limit of its octets
 abbrev pub reading_plan : (ℕ → Type 0) → Option Files → Option ℤ → LoadWords → FilledArchive → List RouteStatement
@@ -191,5 +191,5 @@ routed_load_plan device disk files next words text =
     asked_plan files words.asks (archive_load_plan device disk files next words text)
 
 -- reads the script of a route, where one is given, then the sheet of asks, and loads the dump
-abbrev pub load_plan : {D : Type 0} → Device D → D → Option Files → Option ℤ → LoadWords → CommandPlan Progress ⊥
+unfoldable pub load_plan : {D : Type 0} → Device D → D → Option Files → Option ℤ → LoadWords → CommandPlan Progress ⊥
 load_plan device disk files next words = routed_plan files words.route (routed_load_plan device disk files next words)

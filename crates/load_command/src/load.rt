@@ -14,7 +14,9 @@ ghost use Rattle.ask_answers.specs.Asks.{ArePrinted, archive_asks_text};
 ghost use Rattle.command_runs.specs.Command.{Ran, RanOver, effects_of};
 ghost use Rattle.command_runs.specs.FillingPlan.{IsRecordCount};
 ghost use Rattle.command_runs.specs.Opened.{IsOpenedOn, WasOpened};
+ghost use Rattle.archive_store.specs.Keeping.{IsKept};
 ghost use Rattle.archive_store.specs.StoreView.{archive_of, filled_of};
+ghost use Rattle.history_items.specs.Items.{rows_in};
 ghost use Rattle.load_session.specs.Receiving.{receiving, IsRouteOver};
 ghost use Rattle.script_answers.specs.Scripts.{OrNoMemory};
 ghost use Rattle.load_command.specs.Load.{archive_load_plan, load_plan, routed_load_plan, session_plan};
@@ -63,7 +65,7 @@ use stream_graph::graph::Graph;
 ///
 /// Behind the packets that were ingested what is late is filled, whatever refused the next: a limit, want of memory, a write that failed, or a rest of the
 /// dump that is no packet; what is told is that. Where a call of the disk failed in a batch or at a fill, the write is taken back before it ends, as far as
-/// the disk lets it, and behind one in a batch no fill comes.
+/// the disk lets it; until then nothing is filled (`fill_late`).
 pub fn load<D: Disk, I: Inputs, K: Sink, C: Clock>(
     alloc: Global,
     words: LoadWords<'_>,
@@ -190,15 +192,14 @@ fn load_archive<D: Disk, I: Inputs, K: Sink, C: Clock>(
             return Err(refused);
         }
     };
+    let moment = clock.now();
     let received = receive(alloc, &store, text, sheet, &mut source, words.link);
     inputs.close(source);
     let report = match received {
-        Ok(received) => {
-            let moment = clock.now();
-            load_dump(alloc, &mut store, &received, moment, line_buffer, sink)
-        }
+        Ok(received) => load_dump(alloc, &mut store, &received, moment, line_buffer, sink),
         Err(unread) => nothing_loaded(&store, unread),
     };
+    store.is_kept();
     Ok((store.into_disk(), report))
 }
 
@@ -276,8 +277,7 @@ fn every_packet<D: Disk>(alloc: Global, store: &Store<D>) -> Result<Graph, Refus
     ensures answer { OrNoMemory (IsRouteAnswer (archive_of store.now) None) result }
     ensures over { IfOk result (IsRouteOver store.now.head) }
 {
-    // This tells the proof that the archive has a first table.
-    store.head();
+    store.is_kept();
     match Graph::every_packet(alloc) {
         Ok(graph) => Ok(graph),
         Err(_) => Err(Refusal::OutOfMemory),
@@ -290,8 +290,7 @@ fn scripted_route<D: Disk>(alloc: Global, store: &Store<D>, text: &[u8]) -> Resu
     ensures over { IfOk result (IsRouteOver store.now.head) }
 {
     let names = store.names(alloc)?;
-    // It tells the proof how many packet names there may be.
-    let _count = store.name_count();
+    store.is_kept();
     let tables = &store.head().tables;
     let script = typed_text(alloc, text, ScriptPlace::Route, tables, &names)?;
     match Graph::of(alloc, &script) {
@@ -392,12 +391,14 @@ fn load_dump<D: Disk, K: Sink>(
     requires empty { line_buffer ≡ [] }
     requires opened { WasOpened D.device store.old }
 
-    // Whichever disk it was opened on: it took a way through the plan of a session, and did what is said where that ends.
-    ensures { (disk : D) → IsOpenedOn D.device disk store.old → Ran D.device
+    // Whichever disk it was opened on, it took a way through the plan of a session, and did what is said where that ends.
+    // What a store keeps is given.
+    ensures { (disk : D) → IsOpenedOn D.device disk store.old → IsKept D.device store.new → Ran D.device
         (session_plan (IsRecordCount D.device disk) (filled_of store.old)
-        (receiving store.old.head received.now.graph received.now.link moment) (asks_found received.now.asks)
+        (receiving store.old.head store.old.history received.now.graph received.now.link moment) (asks_found received.now.asks)
         received.now.dump) (effects_of disk store.new.disk (K.state sink.old) (K.state sink.new) result) }
 {
+    store.is_kept();
     let before = store.front();
     let ended = run_session(
         alloc,
@@ -409,7 +410,6 @@ fn load_dump<D: Disk, K: Sink>(
     );
     let filled = fill_late(alloc, store);
     heal(store);
-    // It tells the proof which fills a crash leaves now.
     let after = store.front();
     match whole_dump(ended, filled, received.link) {
         Ok(whole) => print(
@@ -485,13 +485,14 @@ fn print<D: Disk, K: Sink>(
     ensures printed { ArePrinted (asks_found asks.now) result.refusal (K.state sink.old) (K.state sink.new)
         (archive_asks_text (filled_of store.old) 1 (asks_found asks.now) ++ load_line whole.packets
         (length store.old.history - before) (whole.routed - (length store.old.history - before)) whole.idle
-        (length store.old.history)) }
+        (length (rows_in store.old.history))) }
     ensures report { result ≡ printed_report result.refusal before (length store.old.history) whole.packets whole.routed
         whole.idle }
     ensures same { store.new ≡ store.old }
 {
     let mut line_buffer = line_buffer;
     let after = store.front();
+    let rows = store.row_count();
     let counts = LoadCounts {
         packets: whole.packets,
         duplicates: whole.routed - (after - before),
@@ -499,7 +500,7 @@ fn print<D: Disk, K: Sink>(
     };
     match print_asks(alloc, asks, store, &mut line_buffer, sink) {
         Ok(()) => {
-            put_line(&mut line_buffer, counts, after - before, after);
+            put_line(&mut line_buffer, counts, after - before, rows);
             match finish(line_buffer, sink) {
                 None => Report::loaded(None, None, before, after, counts),
                 Some(refusal) => stopped(before, after, None, refusal),

@@ -8,19 +8,18 @@ use Rattle.std.proofs.lemmas.List.Elements.{filter-append}
 use Rattle.arch_types.specs.declared.row.Row.{Row}
 use Rattle.arch_types.specs.Arrivals.{row_of, kept}
 use Rattle.arch_types.specs.Packet.{IsPacket, is_idle}
-use Rattle.mdb_items.specs.Database.{IsDatabase}
-use Rattle.container_extract.specs.Chain.{packet_name_of}
+use Rattle.history_items.specs.Databases.{names_in}
+use mathlib.Core.List.{IsPrefix}
 use Rattle.text_forms.specs.ClockTime.{IsClockTime}
 use Rattle.archive_store.specs.declared.batch.Arrival.{Arrival}
 use Rattle.archive_store.specs.declared.batch.Batch.{Batch}
 use Rattle.history_items.specs.declared.items.Item.{Item}
 use Rattle.archive_store.specs.Batches.{arrival_rows, IsArrival}
-use Rattle.archive_store.proofs.RowsAlone.{named_in}
+use Rattle.archive_store.proofs.RowsAlone.{named_more}
 use Rattle.archive_history.proofs.Steps.{few_filter}
-use Rattle.container_extract.proofs.Known.{packet_name_is_known}
 use Rattle.stream_graph.specs.Laws.{AreTablesBelow}
 use Rattle.stream_graph.proofs.ReachedTables.{tables_named}
-use Rattle.load_session.specs.Receiving.{Receiving, IsRouteOver, arrived, rows_received, tables_of_packet}
+use Rattle.load_session.specs.Receiving.{Receiving, IsRouteOver, arrived, received_pname, rows_received, tables_of_packet}
 use Rattle.load_session.specs.Batches.{arrival_from, arrivals_with, IsBatchOf}
 use Rattle.refusals.specs.declared.refusal.Which.TheVariants.{Links, Tables}
 use Rattle.refusals.specs.Limits.{limit_of}
@@ -29,7 +28,7 @@ use Rattle.refusals.specs.Limits.{limit_of}
 
 -- the row of a packet in a table
 abbrev row_in : Receiving → List ℕ → ℕ → Row
-row_in r p = row_of r.link r.moment (packet_name_of r.head.mdb) p
+row_in r p = row_of r.link r.moment (received_pname r) p
 
 -- the rows of one packet
 abbrev rows_of_packet : Receiving → List ℕ → List Row
@@ -72,19 +71,20 @@ pub all_push : {X : Type 0} (P : X → Type 0) (xs : List X) (x : X) → AllByRe
 all_push P [] x all h = (h, tt)
 all_push P (y ∷ xs) x all h = (all.0, all_push P xs x all.1 h)
 
--- Packets can be received so: there is such a link, the database keeps the rules, and the tables that the route names are among at most 16.
+-- Packets can be received so: there is such a link, their names are among those that there are, and the tables that the route names are
+-- among at most 16.
 pub record CanReceive (r : Receiving) : Type 0 where
   pub link_low : 1 ≤ r.link
   pub link_high : r.link ≤ limit_of Links
-  pub database : IsDatabase r.head.mdb
+  pub named : (packet : List ℕ) → received_pname r packet < length (names_in r.head.mdb r.history)
   pub few : length r.head.tables ≤ 16
   pub over : IsRouteOver r.head r.route
 
 within_limit : (count most : ℕ) → count ≤ most → most ≤ 16 → count ≤ limit_of Tables
 within_limit count most few at_most = let bound : count ≤ 16 = omega (arith, few, at_most) in bound
 
-arrival_fits : (r : Receiving) (history : List Item) (packet : List ℕ) → CanReceive r → IsPacket packet → is_idle packet ≡ false → IsArrival r.head history r.moment (arrival_from r packet)
-arrival_fits r history packet can whole carries =
+arrival_fits : (r : Receiving) (history : List Item) (packet : List ℕ) → CanReceive r → IsPrefix r.history history → IsPacket packet → is_idle packet ≡ false → IsArrival r.head history r.moment (arrival_from r packet)
+arrival_fits r history packet can begins whole carries =
     let there = tables_there r packet can.over in
     let few = there.few in
     let most = can.few in record {
@@ -94,7 +94,8 @@ arrival_fits r history packet can whole carries =
       carries = carries;
       received = refl;
       key = refl;
-      pname = named_in r.head.mdb history (packet_name_of r.head.mdb packet) (packet_name_is_known r.head.mdb packet can.database);
+      pname = subst (λ (later : List Item). received_pname r packet < length (names_in r.head.mdb later)) begins.1
+          (named_more r.head.mdb r.history begins.0 (received_pname r packet) (can.named packet));
       few_tables = within_limit _ _ few most;
       tables = there.each;
     }
@@ -103,7 +104,7 @@ arrival_fits r history packet can whole carries =
 pub batch_none : (r : Receiving) (batch : Batch) → batch.rectime ≡ r.moment → batch.arrivals ≡ [] → IsClockTime r.moment → IsBatchOf r [] batch
 batch_none r batch at none time = record {
   received = at;
-  takes = λ history. record { few = rw none (omega arith); rectime = rw at time; each = rw none tt };
+  takes = λ history begins. record { few = rw none (omega arith); rectime = rw at time; each = rw none tt };
   rows = rw none refl;
   count = rw none refl;
 }
@@ -121,10 +122,10 @@ batch_kept r packets packet old new can few whole carries b at grown =
     let count = b.count in
     record {
       received = at ∙ b.received;
-      takes = λ history. record {
+      takes = λ history begins. record {
         few = omega (arith, len, count, less, few);
-        rectime = subst IsClockTime (sym at) (b.takes history).rectime;
-        each = subst (λ (t : ℤ). AllByRecursion (IsArrival r.head history t) new.arrivals) (sym at) (subst (AllByRecursion (IsArrival r.head history old.rectime)) (sym grown) (all_push (IsArrival r.head history old.rectime) old.arrivals (arrival_from r packet) (b.takes history).each (subst (λ (t : ℤ). IsArrival r.head history t (arrival_from r packet)) (sym b.received) (arrival_fits r history packet can whole carries))));
+        rectime = subst IsClockTime (sym at) (b.takes history begins).rectime;
+        each = subst (λ (t : ℤ). AllByRecursion (IsArrival r.head history t) new.arrivals) (sym at) (subst (AllByRecursion (IsArrival r.head history old.rectime)) (sym grown) (all_push (IsArrival r.head history old.rectime) old.arrivals (arrival_from r packet) (b.takes history begins).each (subst (λ (t : ℤ). IsArrival r.head history t (arrival_from r packet)) (sym b.received) (arrival_fits r history packet can begins whole carries))));
       };
       rows =
           ap (λ (l : List Arrival). flat_map arrival_rows l) grown
@@ -142,7 +143,7 @@ batch_idle r packets packet old new idle b at same =
     let alike : kept (packets ++ packet ∷ []) ≡ kept packets = kept-append packets (packet ∷ []) ∙ ap (λ (l : List (List ℕ)). kept packets ++ l) none ∙ append-nil (kept packets) in
     record {
       received = at ∙ b.received;
-      takes = λ history. record { few = rw same (b.takes history).few; rectime = rw at (b.takes history).rectime; each = rw (same, at) (b.takes history).each };
+      takes = λ history begins. record { few = rw same (b.takes history begins).few; rectime = rw at (b.takes history begins).rectime; each = rw (same, at) (b.takes history begins).each };
       rows = ap (λ (l : List Arrival). flat_map arrival_rows l) same ∙ b.rows
           ∙ ap (flat_map (rows_of_packet r)) (sym alike);
       count = ap length same ∙ b.count ∙ ap length (sym alike);

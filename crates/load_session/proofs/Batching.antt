@@ -39,7 +39,7 @@ use Rattle.archive_store.proofs.Calls.{ingest_cases}
 use Rattle.load_session.specs.declared.batches.NextBatch.{NextBatch}
 use Rattle.load_session.specs.Receiving.{Receiving, arrived, rows_received}
 use Rattle.load_session.specs.Batches.{arrivals_with, batch_at, IsNextBatch, IsRun}
-use Rattle.load_session.specs.Session.{ExactlyOne, HoldsFailedWrite, IsBetweenBatches, IsLimitOf, IsSessionEnd, IsSessionRun, SessionResult}
+use Rattle.load_session.specs.Session.{ExactlyOne, HoldsFailedWrite, IsBetweenBatches, IsLimitOf, IsSessionEnd, IsSessionRun, SessionResult, OneOrMore}
 use Rattle.load_session.proofs.Arrived.{CanReceive, batch_none, batch_more, rows-append, arrived-append, few_arrived}
 use Rattle.load_session.proofs.Taking.{run_none, run_more, completes}
 
@@ -410,3 +410,10 @@ pub refused_writes : {D : Type 0} (device : Device D) (old new : StoreView D) (r
 refused_writes device old new rows DiskFault before same fault untouched = (fault refl).writes ∙ ap raised same
 refused_writes device old new rows other before same fault (inl is) = absurd (cc (is))
 refused_writes {D = D} device old new rows other before same fault (inr is) = ap (λ (s : StoreView D). device.failed_writes s.disk) is ∙ same
+
+pub refused_faults : {D : Type 0} (device : Device D) (old new : StoreView D) (rows : List Row) (refusal : Refusal) (before : ℕ) → device.fault_count old.disk ≡ before
+    → (refusal ≡ DiskFault → AddsFault device old new true (Rows rows)) → (refusal ≡ DiskFault) ⊎ (new ≡ old)
+    → OneOrMore (Some refusal) before (device.fault_count new.disk)
+refused_faults device old new rows DiskFault before same fault untouched = let rose = (fault refl).rose in omega (arith, rose, same)
+refused_faults device old new rows other before same fault (inl is) = absurd (cc (is))
+refused_faults {D = D} device old new rows other before same fault (inr is) = ap (λ (s : StoreView D). device.fault_count s.disk) is ∙ same

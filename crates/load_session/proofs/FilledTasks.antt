@@ -38,15 +38,15 @@ use Rattle.store_fills.specs.declared.task.FillTask.{FillTask}
 use Rattle.store_fills.specs.Faults.{faults_in}
 use Rattle.store_fills.proofs.Faults.{faults_in-append, pending_fault_of-in}
 use Rattle.store_fills.specs.Filled.{HoldsRows}
-use Rattle.store_fills.specs.LastFills.{PlacedFills, fill_over, fillings_in, base_of_slot, slots_in}
-use Rattle.store_fills.specs.Sound.{Filling, Fillings, with_filling}
-use Rattle.archive_store.proofs.CurrentSets.{late_some, read_late}
+use Rattle.store_fills.specs.LastFills.{PlacedFills, fill_over, fillings_in}
+use Rattle.store_fills.specs.Sound.{Filling, Fillings, base_of_filling, with_filling}
+use Rattle.archive_store.proofs.CurrentSets.{late_by_fill}
 use Rattle.archive_store.specs.declared.head.Head.{Head}
 use Rattle.archive_store.specs.Entries.{filled_archive}
-use Rattle.archive_store.specs.Installs.{FillIsAppended, IsAbandoned, IsInstallRefusal, IsStoreInstalled, IsOwnFill}
+use Rattle.archive_store.specs.Installs.{FillIsAppended, IsAbandoned, IsInstallRefusal, IsStoreInstalled}
 use Rattle.archive_store.specs.StoreView.{AddsFault, StoreView}
 use Rattle.archive_store.specs.Tasks.{BeginsTask, IsFillBegun, machine_state}
-use Rattle.archive_store.specs.AddedFills.{AddsWholeFills, IsWholeFill}
+use Rattle.archive_store.specs.AddedFills.{AddsRightFills, IsAddedFill}
 use Rattle.load_session.specs.Filling.{AllLateFilled, IsBegunTask, IsFillFailed, IsFilledOn, IsFillingRefusal, IsTaskFilled, IsTaskRefusal, IsUnfailed, filling_refusal, task_fill}
 use Rattle.archive_store.specs.LateFills.{is_late_in_archive}
 
@@ -169,7 +169,7 @@ module _ {D : Type 0} (device : Device D) (old new : StoreView D) (task : FillTa
 
 -- ---- the fills that came
 
-module _ (head : Head) (exponent : ℕ) (history : List Item) (old now : Fillings (List SetRow)) (adds : AddsWholeFills head exponent history old now) (i : Interval) where
+module _ (head : Head) (exponent : ℕ) (history : List Item) (old now : Fillings (List SetRow)) (adds : AddsRightFills head exponent history old now) (i : Interval) where
   abbrev late_by : Option (Filling (List SetRow)) → Bool
   late_by f = option_map_or (λ last. is_late_by last (option_map (λ g. g.base) f)) (last_in exponent i history) false
 
@@ -177,18 +177,19 @@ module _ (head : Head) (exponent : ℕ) (history : List Item) (old now : Filling
   was_late : is_late_in_archive (filled_archive head exponent history now) i ≡ true → is_late_in_archive (filled_archive head exponent history old) i ≡ true
   was_late late = go (adds i)
     where
-      go : (now i ≡ old i) ⊎ IsWholeFill head exponent history old i (now i) → is_late_in_archive (filled_archive head exponent history old) i ≡ true
+      go : (now i ≡ old i) ⊎ IsAddedFill head exponent history old i (now i) → is_late_in_archive (filled_archive head exponent history old) i ≡ true
       go (inl same) = ap late_by (sym same) ∙ late
       go (inr whole) = whole.0
 
   one_whole : (base : ℕ) (set : List SetRow) → base ≡ length history → is_late_in_archive (filled_archive head exponent history now) i ≡ true → HoldsRows (database_in head.mdb history) set (rows_of_interval exponent i history)
-      → AddsWholeFills head exponent history old (with_filling now i (fill_over base set))
+      → AddsRightFills head exponent history old (with_filling now i (fill_over base set))
   one_whole base set over late holds j = go (is_same j i) refl
     where
-      go : (b : Bool) → is_same j i ≡ b → ((if b then Some (fill_over base set) else now j) ≡ old j) ⊎ IsWholeFill head exponent history old j (if b then Some (fill_over base set) else now j)
+      go : (b : Bool) → is_same j i ≡ b → ((if b then Some (fill_over base set) else now j) ≡ old j) ⊎ IsAddedFill head exponent history old j (if b then Some (fill_over base set) else now j)
       go true same =
-          inr (subst (λ (k : Interval). IsWholeFill head exponent history old k (Some (fill_over base set))) (sym (same_interval j i same))
-          (was_late late, (set, ap (λ (n : ℕ). Some (fill_over n set)) over, holds)))
+          let whole : prefix base history ≡ history = take_all base history (omega (arith, over)) in
+          inr (subst (λ (k : Interval). IsAddedFill head exponent history old k (Some (fill_over base set))) (sym (same_interval j i same))
+          (was_late late, (base, set, omega (arith, over), refl, subst (λ (h : List Item). HoldsRows (database_in head.mdb h) set (rows_of_interval exponent i h)) (sym whole) holds)))
       go false other = adds j
 
 -- ---- whether the log has room for the fills
@@ -224,7 +225,7 @@ pub record IsFilling {D : Type 0} (device : Device D) (old now : StoreView D) (f
   pub room : 0 < filled → now.records ≤ limit_of Records
   pub healed : 0 < filled → pending_fault_of old.fills ≡ None
   pub unfailed : IsUnfailed device old now
-  pub sets : AddsWholeFills old.head old.exponent old.history (fillings_in old.filled) (fillings_in now.filled)
+  pub sets : AddsRightFills old.head old.exponent old.history (fillings_in old.filled) (fillings_in now.filled)
   pub head : now.head ≡ old.head
   pub exponent : now.exponent ≡ old.exponent
   pub opened : now.opened ≡ old.opened
@@ -243,7 +244,7 @@ filling_first device store idle = record {
   records = omega arith;
   room = λ some. absurd (omega (arith, some));
   healed = λ some. absurd (omega (arith, some));
-  unfailed = record { same_faults = refl; no_failed_write = refl };
+  unfailed = record { same_faults = refl; no_failed_write = refl; no_fault = refl };
   sets = λ i. inl refl;
   head = refl;
   exponent = refl;
@@ -293,10 +294,6 @@ module _ {D : Type 0} (device : Device D) (old now begun_store : StoreView D) (f
   by_database : arc_value task.mdb ≡ database_in begun_store.head.mdb begun_store.history
   by_database = began.mdb ∙ ap (λ (h : Head). database_in h.mdb now.history) (sym same_head) ∙ ap (database_in begun_store.head.mdb) (sym began.step.history)
 
-  -- which is that below its base
-  whole_front : prefix task.base begun_store.history ≡ begun_store.history
-  whole_front = take_all task.base begun_store.history (omega (arith, began.step.base_is, ap length began.step.history))
-
   -- of the task that begins
   pub begun_task : IsTaskRows task.exponent i task.rows → IsBegunTask begun_store task
   begun_task in_order = record {
@@ -317,6 +314,7 @@ module _ {D : Type 0} (device : Device D) (old now begun_store : StoreView D) (f
   begun_unfailed = record {
     same_faults = ap faults_in began.step.fills ∙ faults_begun now.fills i task.base ∙ f.unfailed.same_faults;
     no_failed_write = ap device.failed_writes same_disk ∙ f.unfailed.no_failed_write;
+    no_fault = ap device.fault_count same_disk ∙ f.unfailed.no_fault;
   }
 
   -- the same failed write is pending
@@ -342,7 +340,7 @@ module _ {D : Type 0} (device : Device D) (old now begun_store : StoreView D) (f
           ∙ ap (λ (h : List Item). length (late_intervals now.exponent h (begun_and_done now.fills i task.base)) + 1) new_history ∙ some_left
 
       -- one more was filled
-      pub filling_next : ((j : Interval) → base_in j now.fills ≡ base_of_slot (slots_in now.filled) j) → (new.head ≡ begun_store.head) × (new.exponent ≡ begun_store.exponent) × (new.opened ≡ begun_store.opened) → IsFilling device old new (filled + 1)
+      pub filling_next : ((j : Interval) → base_in j now.fills ≡ base_of_filling (fillings_in now.filled) j) → (new.head ≡ begun_store.head) × (new.exponent ≡ begun_store.exponent) × (new.opened ≡ begun_store.opened) → IsFilling device old new (filled + 1)
       filling_next bases same = record {
         idle = subst (λ (l : List Fill). (j : Interval) → in_flight j l ≡ None) (sym new_fills) (idle_again now.fills i task.base f.idle);
         history = new_history ∙ f.history;
@@ -353,9 +351,10 @@ module _ {D : Type 0} (device : Device D) (old now begun_store : StoreView D) (f
         unfailed = record {
           same_faults = ap faults_in new_fills ∙ faults_begun_and_done now.fills i task.base ∙ f.unfailed.same_faults;
           no_failed_write = done.appended.no_failed_write ∙ begun_unfailed.no_failed_write;
+          no_fault = done.appended.no_fault ∙ begun_unfailed.no_fault;
         };
         sets =
-            subst (AddsWholeFills old.head old.exponent old.history (fillings_in old.filled)) (sym (done.appended.filled own ∙ ap (λ (x : PlacedFills). with_filling (fillings_in x) i (fill_over task.base done.set)) same_filled))
+            subst (AddsRightFills old.head old.exponent old.history (fillings_in old.filled)) (sym (done.appended.filled ∙ ap (λ (x : PlacedFills). with_filling (fillings_in x) i (fill_over task.base done.set)) same_filled))
             (one_whole old.head old.exponent old.history (fillings_in old.filled) (fillings_in now.filled) f.sets i task.base done.set (began.step.base_is ∙ ap length f.history) late_now held);
         head = same.0 ∙ same_head ∙ f.head;
         exponent = same.1 ∙ same_exponent ∙ f.exponent;
@@ -363,14 +362,11 @@ module _ {D : Type 0} (device : Device D) (old now begun_store : StoreView D) (f
         unchanged = λ none. absurd (omega (arith, none));
       }
         where
-          own : IsOwnFill begun_store (task_fill task done.set)
-          own = (by_database ∙ ap (database_in begun_store.head.mdb) (sym whole_front), began.exponent ∙ sym same_exponent)
-
           late_now : is_late_in_archive (filled_archive old.head old.exponent old.history (fillings_in now.filled)) i ≡ true
           late_now =
               ap (λ (h : List Item). is_late_in_archive (filled_archive old.head old.exponent h (fillings_in now.filled)) i) (sym f.history)
               ∙ ap (λ (e : ℕ). is_late_in_archive (filled_archive old.head e now.history (fillings_in now.filled)) i) (sym f.exponent)
-              ∙ read_late now.exponent now.history now.fills now.filled i bases (late_some now.exponent now.history now.fills i late) (inl late)
+              ∙ late_by_fill now.exponent now.history now.fills now.filled i bases late
 
           held : HoldsRows (database_in old.head.mdb old.history) done.set (rows_of_interval old.exponent i old.history)
           held =
@@ -385,7 +381,7 @@ module _ {D : Type 0} (device : Device D) (old now begun_store : StoreView D) (f
       head = same.0 ∙ same_head ∙ f.head;
       exponent = same.1 ∙ same_exponent ∙ f.exponent;
       opened = same.2 ∙ same_opened ∙ f.opened;
-      sets = subst (λ (x : PlacedFills). AddsWholeFills old.head old.exponent old.history (fillings_in old.filled) (fillings_in x)) (sym (refused_filled device begun_store new task e refused ∙ same_filled)) f.sets;
+      sets = subst (λ (x : PlacedFills). AddsRightFills old.head old.exponent old.history (fillings_in old.filled) (fillings_in x)) (sym (refused_filled device begun_store new task e refused ∙ same_filled)) f.sets;
       unchanged = λ none. absurd (omega (arith, f.count, ap length none, some_left));
       no_call = λ unhealed.
           refused_disk device begun_store new task e (λ healed. unhealed (sym same_pending ∙ healed)) refused ∙ same_disk
@@ -396,6 +392,7 @@ module _ {D : Type 0} (device : Device D) (old now begun_store : StoreView D) (f
     unfailed_still is = record {
       same_faults = ap (λ (x : StoreView D). faults_in x.fills) is ∙ faults_freed i begun_store.fills ∙ begun_unfailed.same_faults;
       no_failed_write = ap (λ (x : StoreView D). device.failed_writes x.disk) is ∙ begun_unfailed.no_failed_write;
+      no_fault = ap (λ (x : StoreView D). device.fault_count x.disk) is ∙ begun_unfailed.no_fault;
     }
 
     failed_then : (failed : StoreView D) → pending_fault_of begun_store.fills ≡ None → AddsFault device begun_store failed true (additions.Fill i task.base) → IsAbandoned failed new i → IsFillFailed device old new

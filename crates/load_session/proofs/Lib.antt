@@ -1,3 +1,4 @@
+pub mod NameNumbers
 pub mod Arrived
 pub mod Taking
 pub mod Batching

@@ -1,15 +1,15 @@
 -- Batches of the packets of a dump.
+use mathlib.Core.List.{IsPrefix}
 use Rattle.std.specs.Prelude.{◌≡◌, ℕ, ◌+◌, ◌≤◌, List, [], ◌∷◌, ◌++◌, length, take, drop, if◌then◌else◌}
 use Rattle.arch_types.specs.Arrivals.{row_of}
 use Rattle.arch_types.specs.Packet.{is_idle}
 use Rattle.history_items.specs.declared.items.Item.{Item}
-use Rattle.container_extract.specs.Chain.{packet_name_of}
 use Rattle.space_packet.specs.Cut.{IsCut}
 use Rattle.archive_store.specs.declared.batch.Arrival.{Arrival}
 use Rattle.archive_store.specs.declared.batch.Batch.{Batch}
 use Rattle.archive_store.specs.Batches.{batch_rows, IsBatch}
 use Rattle.load_session.specs.declared.batches.NextBatch.{NextBatch}
-use Rattle.load_session.specs.Receiving.{Receiving, arrived, rows_received, tables_of_packet}
+use Rattle.load_session.specs.Receiving.{Receiving, arrived, received_pname, rows_received, tables_of_packet}
 
 -- the packets of a batch: at most 64 successive ones from a place on
 abbrev pub batch_at : ℕ → List (List ℕ) → List (List ℕ)
@@ -18,7 +18,7 @@ batch_at place packets = take 64 (drop place packets)
 -- the arrival of a packet
 abbrev pub arrival_from : Receiving → List ℕ → Arrival
 arrival_from r packet =
-    record { row = row_of r.link r.moment (packet_name_of r.head.mdb) packet 0; tables = tables_of_packet r packet }
+    record { row = row_of r.link r.moment (received_pname r) packet 0; tables = tables_of_packet r packet }
 
 -- arrivals, and that of one packet more where it isn't idle
 abbrev pub arrivals_with : Receiving → List Arrival → List ℕ → List Arrival
@@ -29,10 +29,10 @@ pub record IsRun (dump : List ℕ) (start : ℕ) (packets : List (List ℕ)) (en
   pub rising : start + length packets ≤ end
   pub follows : (before : List (List ℕ)) → IsCut dump before start → IsCut dump (before ++ packets) end
 
--- the batch of packets: those that aren't idle, in their order; a store of the head takes it behind any history
+-- the batch of packets: those that aren't idle, in their order; a store of the head takes it behind any history that begins with theirs
 pub record IsBatchOf (r : Receiving) (packets : List (List ℕ)) (batch : Batch) : Type 0 where
   pub received : batch.rectime ≡ r.moment
-  pub takes : (history : List Item) → IsBatch r.head history batch
+  pub takes : (history : List Item) → IsPrefix r.history history → IsBatch r.head history batch
   pub rows : batch_rows batch ≡ rows_received r packets
   pub count : length batch.arrivals ≡ arrived packets
 

@@ -1,7 +1,7 @@
 -- What becomes of the late intervals of a store.
 use Rattle.std.specs.Prelude.{◌≡◌, ◌≢◌, ℕ, zero, suc, ◌+◌, ◌≤◌, true, List, [], ◌∷◌, ◌++◌, length, nat_lt, Option, Some, None, if◌then◌else◌}
 use Rattle.std.specs.Arc.{arc_value}
-use Rattle.arch_disk.specs.Disk.{Device, NoWriteFailed, raised}
+use Rattle.arch_disk.specs.Disk.{Device, NoWriteFailed, raised, NoFault}
 use Rattle.intervals.specs.declared.interval.Interval.{Interval}
 use Rattle.refusals.specs.declared.refusal.Refusal.{Refusal}
 use Rattle.refusals.specs.declared.refusal.Refusal.TheVariants.{DiskFault, Limit, NeedsReopen, OutOfMemory}
@@ -22,7 +22,7 @@ use Rattle.store_fills.specs.LastFills.{fillings_in}
 use Rattle.store_fills.specs.declared.task.FillTask.{FillTask}
 use Rattle.archive_store.specs.Installs.{FillIsAppended, IsAbandoned, IsInstallable}
 use Rattle.archive_store.specs.StoreView.{AddsFault, StoreView}
-use Rattle.archive_store.specs.AddedFills.{AddsWholeFills}
+use Rattle.archive_store.specs.AddedFills.{AddsRightFills}
 
 -- ---- one task
 
@@ -69,10 +69,11 @@ filling_refusal records zero = None
 filling_refusal records (suc late) =
     if nat_lt (limit_of Records) (records + suc late) then Some (Limit Records (limit_of Records)) else None
 
--- no fault came, and no write failed
+-- no fault came, and no call of the disk failed
 pub record IsUnfailed {D : Type 0} (device : Device D) (old new : StoreView D) : Type 0 where
   pub same_faults : faults_in new.fills ≡ faults_in old.fills
   pub no_failed_write : NoWriteFailed device old.disk new.disk
+  pub no_fault : NoFault device old.disk new.disk
 
 -- where no failed write was pending a fault came, which holds a fill, by a write that failed and is pending
 pub record IsFillFailed {D : Type 0} (device : Device D) (old new : StoreView D) : Type 0 where
@@ -112,6 +113,6 @@ pub record IsFilledOn {D : Type 0} (old new : StoreView D) : Type 0 where
   pub head : new.head ≡ old.head
   pub exponent : new.exponent ≡ old.exponent
   pub opened : new.opened ≡ old.opened
-  pub sets : AddsWholeFills old.head old.exponent old.history (fillings_in old.filled) (fillings_in new.filled)
+  pub sets : AddsRightFills old.head old.exponent old.history (fillings_in old.filled) (fillings_in new.filled)
   pub unchanged : late_intervals old.exponent old.history old.fills ≡ [] → new ≡ old
   pub no_call : pending_fault_of old.fills ≢ None → new.disk ≡ old.disk

@@ -119,3 +119,8 @@ pub record IsSessionRun {D : Type 0} (old new : StoreView D) (dump : List ℕ) (
 abbrev pub ExactlyOne : Option Refusal → ℕ → ℕ → Type 0
 ExactlyOne (Some DiskFault) before now = now ≡ raised before
 ExactlyOne other before now = now ≡ before
+
+-- a count of faults is as before, unless the answer is that the disk failed
+abbrev pub OneOrMore : Option Refusal → ℕ → ℕ → Type 0
+OneOrMore (Some DiskFault) before now = raised before ≤ now
+OneOrMore other before now = now ≡ before

@@ -1,6 +1,6 @@
 //! Batches of the packets of a dump.
 
-ghost use Rattle.std.specs.Prelude.{◌≡◌, ◌+◌, ◌<◌, ◌≤◌, drop, IfOk, OnOk};
+ghost use Rattle.std.specs.Prelude.{◌≡◌, ◌+◌, ◌<◌, ◌≤◌, [], drop, IfOk, OnOk};
 ghost use Rattle.refusals.specs.Limits.{limit_of};
 ghost use Rattle.refusals.specs.declared.refusal.Which.TheVariants as limits;
 ghost use Rattle.arch_types.specs.Dump.{BeginsWithNoPacket};
@@ -8,6 +8,7 @@ ghost use Rattle.arch_types.specs.Packet.{IsPacket};
 ghost use Rattle.text_forms.specs.ClockTime.{IsClockTime};
 ghost use Rattle.field_codec.specs.declared.entry.Entry.TheVariants as entries;
 ghost use Rattle.field_codec.specs.Entries.{IsArchiveEntry};
+ghost use Rattle.mdb_items.specs.Database.{IsDatabase};
 ghost use Rattle.load_session.specs.Batches.{arrival_from, arrivals_with, IsNextBatch};
 ghost use Rattle.load_session.specs.Receiving.{receiving, IsRouteOver};
 
@@ -30,7 +31,8 @@ pub(crate) struct NextBatch {
     pub(crate) packets: u64,
 }
 
-/// Takes the next packets of a dump for a batch: fewer than it takes only where no more follow.
+/// Takes the next packets of a dump for a batch: fewer than it takes only where no more follow. Their packet names are those of the
+/// head's database, as they are behind rows alone.
 pub(crate) fn next_batch(
     alloc: Global,
     head: &Head,
@@ -48,7 +50,7 @@ pub(crate) fn next_batch(
     requires route { IsRouteOver head.now graph.now }
     ensures dump { places.new.dump ≡ places.old.dump }
     ensures taken { IfOk result (IsNextBatch dump.now places.old.at places.new.at
-        (receiving head.now graph.now link moment)) }
+        (receiving head.now [] graph.now link moment)) }
     ensures last { IfOk result (λ taken. taken.packets < 64 → BeginsWithNoPacket (drop places.new.at dump.now)) }
 {
     let mut taken = NextBatch {
@@ -80,11 +82,12 @@ impl NextBatch {
         link: u16,
     ) -> Result<(), AllocError>
         requires packet { IsPacket packet }
+        requires database { IsDatabase head.now.mdb }
         requires few { self.old.packets < 64 }
         ensures packets { OnOk result (self.new.packets ≡ self.old.packets + 1) }
         ensures received { self.new.batch.rectime ≡ self.old.batch.rectime }
         ensures arrivals { OnOk result (self.new.batch.arrivals ≡ arrivals_with
-            (receiving head.now graph.now link self.old.batch.rectime) self.old.batch.arrivals packet) }
+            (receiving head.now [] graph.now link self.old.batch.rectime) self.old.batch.arrivals packet) }
     {
         self.packets += 1;
         if is_idle_packet(packet.as_slice()) {
@@ -106,8 +109,9 @@ fn arrival_of(
     link: u16,
     moment: i64,
 ) -> Result<Arrival, AllocError>
-    requires { IsPacket packet }
-    ensures { IfOk result (λ arrival. arrival ≡ arrival_from (receiving head.now graph.now link moment) packet) }
+    requires packet { IsPacket packet }
+    requires database { IsDatabase head.now.mdb }
+    ensures { IfOk result (λ arrival. arrival ≡ arrival_from (receiving head.now [] graph.now link moment) packet) }
 {
     let pname = extractor.packet_name(&head.mdb, packet.as_slice());
     let row = received_row(packet, moment, link, pname);

@@ -48,8 +48,7 @@ pub fn fill_late<D: Disk>(alloc: Global, store: &mut Store<D>) -> Result<u64, Re
 {
     let mut filled = 0;
     'fills: loop {
-        // It tells the proof that the fill list has the bases of the fills that are there.
-        let _front = store.front();
+        store.is_kept();
         let Some(task) = store.begin(alloc)? else {
             return Ok(filled);
         };

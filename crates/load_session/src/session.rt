@@ -8,10 +8,10 @@ ghost use Rattle.std.specs.Result.{result_err};
 ghost use Rattle.text_forms.specs.ClockTime.{IsClockTime};
 ghost use Rattle.history_items.specs.Fills.{rows_of_faults};
 ghost use Rattle.store_fills.specs.Faults.{faults_in};
-ghost use Rattle.archive_store.specs.StoreView.{IsKeptWithFills, archive_of};
+ghost use Rattle.archive_store.specs.StoreView.{archive_of};
 ghost use Rattle.load_session.specs.During.{IsDuring};
 ghost use Rattle.load_session.specs.Receiving.{receiving, IsRouteOver};
-ghost use Rattle.load_session.specs.Session.{ExactlyOne, IsSessionRun};
+ghost use Rattle.load_session.specs.Session.{ExactlyOne, IsSessionRun, OneOrMore};
 
 use crate::batches::next_batch;
 use arch_disk::Disk;
@@ -55,19 +55,22 @@ pub fn run_session<D: Disk>(
     requires moment { IsClockTime moment }
     requires route { IsRouteOver store.old.head graph.now }
     requires no_fault { faults_in store.old.fills ≡ [] }
-    requires kept { IsTrue D.device.is_transparent → IsKeptWithFills D.device store.old }
 
     // Its packets were ingested up to a place between two batches, and the store holds the history that this reached.
-    ensures session { IsSessionRun store.old store.new dump.now (receiving store.old.head graph.now link moment) result }
+    ensures session { IsSessionRun store.old store.new dump.now (receiving store.old.head store.old.history graph.now
+        link moment) result }
 
     // Power lost at any moment leaves a history from the one before to the one reached, or that with the batch in hand.
     ensures crash { IsTrue D.device.is_transparent → LeavesOnly D.device store.old.disk store.new.disk
         (IsDuring (archive_of store.old) store.new.history (rows_of_faults store.new.fills)) }
 
-    // One write of the disk failed where the answer is DiskFault, and else none.
+    // One write of the disk failed where the answer is DiskFault, and else no call of it.
     ensures disk_writes { ExactlyOne (result_err result) (D.device.failed_writes store.old.disk)
         (D.device.failed_writes store.new.disk) }
+    ensures disk_faults { OneOrMore (result_err result) (D.device.fault_count store.old.disk)
+        (D.device.fault_count store.new.disk) }
 {
+    store.is_kept();
     let mut places = DumpPackets::new(dump.as_slice());
     let mut extractor = Extractor::new(alloc)?;
     let mut packets = 0;

@@ -5,8 +5,8 @@ ghost use Rattle.archive_store.specs.StoreView.{filled_of};
 ghost use Rattle.retrieval.specs.FoundAsks.{AreFound, asks_found};
 ghost use Rattle.command_plans.specs.Plan.{IsDue};
 ghost use Rattle.ask_answers.specs.Asks.{ArePrinted, archive_asks_text};
-ghost use Rattle.command_runs.specs.Command.{Ran, RanOver, effects_of};
-ghost use Rattle.query_commands.specs.Query.{archive_asks_plan, query_plan};
+ghost use Rattle.command_runs.specs.Command.{RanOver, effects_of};
+ghost use Rattle.query_commands.specs.Query.{query_plan};
 ghost use Rattle.query_commands.specs.QueryReplying.{IsSheetReply};
 ghost use Rattle.command_runs.specs.Report.{disk_of_work, report_of_work, status_at};
 
@@ -14,6 +14,7 @@ use arch_disk::Disk;
 use archive_store::Store;
 use ask_answers::answers::{check_asks, print_asks};
 use asks::Asks;
+use command_runs::archive_work::{ArchiveWork, with_archive};
 use command_runs::finishing::finish;
 use command_runs::report::{Ended, Report};
 use line_buffer::LineBuffer;
@@ -65,29 +66,33 @@ fn work<D: Disk, I: Inputs, K: Sink>(
         (I.state inputs.old) (I.state inputs.new) }
 {
     match read_asks(alloc, inputs, name) {
-        Ok(asks) => ask_archive(alloc, asks, disk, sink),
+        Ok(sheet) => with_archive(alloc, disk, sink, SheetAnswering { sheet }),
         Err(refusal) => Err((disk, refusal)),
     }
 }
 
-/// Opens the archive of a disk, and answers the asks of a sheet, or says why the sheet is refused.
-fn ask_archive<D: Disk, K: Sink>(
-    alloc: Global,
+/// The answering of a sheet, as a work with an archive.
+#[derive(Drop)]
+struct SheetAnswering {
     sheet: Result<Asks, Refusal>,
-    disk: D,
-    sink: &mut K,
-) -> Result<(D, Report), (D, Refusal)>
-    // It took a way through its plan.
-    ensures { Ran D.device (archive_asks_plan D.device disk sheet) (effects_of disk (disk_of_work result) (K.state sink.old)
-        (K.state sink.new) (report_of_work result)) }
-{
-    let Ok(line_buffer) = LineBuffer::new(alloc) else {
-        return Err((disk, Refusal::OutOfMemory));
-    };
-    let mut store = Store::open(alloc, disk)?;
-    let rows = store.front();
-    let refusal = answer_sheet(alloc, sheet, &mut store, line_buffer, sink);
-    Ok((store.into_disk(), Report::read_only(refusal, rows)))
+}
+
+impl ArchiveWork for SheetAnswering {
+    ghost use Rattle.query_commands.specs.Query.{answering_plan};
+
+    ghost plan = { λ job records found. answering_plan job.sheet found };
+
+    fn work<D: Disk, K: Sink>(
+        self,
+        alloc: Global,
+        store: &mut Store<D>,
+        line_buffer: LineBuffer,
+        sink: &mut K,
+    ) -> Report {
+        let front = store.front();
+        let refusal = answer_sheet(alloc, self.sheet, store, line_buffer, sink);
+        Report::read_only(refusal, front)
+    }
 }
 
 /// Prints the answers to a sheet, or says why it is refused.

@@ -5,16 +5,17 @@ ghost use Rattle.std.specs.List.{AllByRecursion};
 ghost use Rattle.archive_store.specs.StoreView.{archive_of};
 ghost use Rattle.command_plans.specs.Plan.{IsDue};
 ghost use Rattle.ssql_types.specs.Laws.{NamesTables};
-ghost use Rattle.command_runs.specs.Command.{Ran, RanOver, effects_of};
+ghost use Rattle.command_runs.specs.Command.{RanOver, effects_of};
 ghost use Rattle.command_runs.specs.Report.{disk_of_work, report_of_work, status_at};
 ghost use Rattle.query_commands.specs.SqlReplying.{IsTextPrinted, IsTextReply};
-ghost use Rattle.query_commands.specs.Sql.{archive_text_plan, sql_plan};
+ghost use Rattle.query_commands.specs.Sql.{sql_plan};
 ghost use Rattle.script_answers.specs.Statements.{packet_names, statements_text};
 
 use arch_disk::Disk;
 use arch_types::name::Names;
 use archive_store::Store;
 use command_plans::read::read_limited;
+use command_runs::archive_work::{ArchiveWork, with_archive};
 use command_runs::finishing::finish;
 use command_runs::report::{Ended, Report};
 use line_buffer::LineBuffer;
@@ -70,29 +71,36 @@ fn work<D: Disk, I: Inputs, K: Sink>(
         (I.state inputs.old) (I.state inputs.new) }
 {
     match read_limited(alloc, inputs, name, Which::ScriptOctets) {
-        Ok(octets) => ask_archive(alloc, octets.as_slice(), disk, sink),
+        Ok(octets) => {
+            let text = octets.as_slice();
+            with_archive(alloc, disk, sink, TextAnswering { text })
+        }
         Err(refusal) => Err((disk, refusal)),
     }
 }
 
-/// Opens the archive of a disk, and answers a text.
-fn ask_archive<D: Disk, K: Sink>(
-    alloc: Global,
-    text: &[u8],
-    disk: D,
-    sink: &mut K,
-) -> Result<(D, Report), (D, Refusal)>
-    // It took a way through its plan.
-    ensures { Ran D.device (archive_text_plan D.device disk text.now) (effects_of disk (disk_of_work result)
-        (K.state sink.old) (K.state sink.new) (report_of_work result)) }
-{
-    let Ok(line_buffer) = LineBuffer::new(alloc) else {
-        return Err((disk, Refusal::OutOfMemory));
-    };
-    let store = Store::open(alloc, disk)?;
-    let rows = store.front();
-    let refusal = answer_text(alloc, text, &store, line_buffer, sink);
-    Ok((store.into_disk(), Report::read_only(refusal, rows)))
+/// The answering of a text, as a work with an archive.
+#[derive(Drop)]
+struct TextAnswering<'a> {
+    text: &'a [u8],
+}
+
+impl<'a> ArchiveWork for TextAnswering<'a> {
+    ghost use Rattle.query_commands.specs.Sql.{text_plan};
+
+    ghost plan = { λ job records found. text_plan job.text.now found };
+
+    fn work<D: Disk, K: Sink>(
+        self,
+        alloc: Global,
+        store: &mut Store<D>,
+        line_buffer: LineBuffer,
+        sink: &mut K,
+    ) -> Report {
+        let front = store.front();
+        let refusal = answer_text(alloc, self.text, store, line_buffer, sink);
+        Report::read_only(refusal, front)
+    }
 }
 
 /// Answers a text, or says why it is refused.
@@ -126,8 +134,7 @@ fn answer_over<D: Disk, K: Sink>(
     ensures { IsTextReply (archive_of store.now) text.now result (K.state sink.old) (K.state sink.new) }
 {
     typed_names_tables();
-    // It tells the proof how many packet names there may be.
-    let _names = store.name_count();
+    store.is_kept();
     let head = store.head();
     match typed_text(alloc, text, ScriptPlace::Sql, &head.tables, names) {
         Ok(script) => print_answers(alloc, script.as_slice(), names, store, line_buffer, sink),

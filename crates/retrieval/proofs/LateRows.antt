@@ -2,6 +2,7 @@
 use Rattle.std.proofs.Common.{ℕ, ◌≡◌, ℤ, ◌≤ℤ◌, ◌<ℤ◌, List, [], ◌∷◌, ◌++◌, Bool, true, false, cond, refl, sym, ◌∙◌, ap, arith}
 use Rattle.std.specs.Prelude.{filter, int_lt, ◌&&◌}
 use Rattle.std.specs.List.{AllByRecursion}
+use Rattle.std.proofs.lemmas.Bool.{false_from_ne_true}
 use Rattle.std.proofs.lemmas.Int.{ints}
 use Rattle.std.proofs.lemmas.List.Elements.{filter-append}
 use Rattle.intervals.specs.declared.interval.Interval.{Interval}
@@ -9,6 +10,8 @@ use Rattle.arch_types.specs.declared.row.Row.{Row}
 use Rattle.arch_types.specs.Table.{is_in_time_range, range_of, table_of}
 use Rattle.history_items.specs.declared.items.Item.{Item}
 use Rattle.history_items.specs.Items.{rows_in}
+use Rattle.history_items.specs.Late.{is_late_in}
+use Rattle.history_items.proofs.Late.{late_by_last}
 use Rattle.partitions.proofs.Filters.{filter_swap, none_pass}
 use Rattle.interval_fills.specs.Intervals.{rows_of_interval}
 use Rattle.intervals.specs.Interval.{interval_end, interval_start}
@@ -20,11 +23,6 @@ use Rattle.param_segments.specs.declared.plan.Part.{Part}
 use Rattle.param_segments.specs.declared.plan.Part.TheVariants.{Rows, Set}
 use Rattle.param_segments.specs.declared.plan.Plan.{Plan}
 use Rattle.param_segments.specs.Plans.{rows_of_parts}
-use Rattle.store_fills.specs.LastFills.{base_of_slot, fill_over, fillings_in, slots_in}
-use Rattle.std.specs.Arc.{arc_value}
-use Rattle.history_items.specs.Fills.{base_in}
-use Rattle.archive_store.proofs.CurrentSets.{read_current, read_late}
-use Rattle.archive_store.specs.LateFills.{is_late_by_fill}
 use Rattle.archive_store.specs.Plans.{IsPlan, IsPlanPart, IsRangeInterval, is_late_of_range, late_rows_of_range, plan_intervals}
 use Rattle.archive_store.specs.StoreView.{StoreView}
 use Rattle.archive_store.proofs.Planning.{none_in_range}
@@ -80,9 +78,9 @@ turns_in_range exponent is low high history rising cover = go (int_lt low high) 
 
 -- ---- a plan
 
-module _ {D : Type 0} (store : StoreView D) (low high : ℤ) (bases : (i : Interval) → base_in i store.fills ≡ base_of_slot (slots_in store.filled) i) where
+module _ {D : Type 0} (store : StoreView D) (low high : ℤ) where
   abbrev is_late : Interval → Bool
-  is_late = is_late_of_range store.exponent store.history (fillings_in store.filled) low high
+  is_late = is_late_of_range store.exponent store.history store.fills low high
 
   -- the rows that parts leave to extract are those of late intervals
   late_left : (parts : List Part) → AllByRecursion (IsPlanPart store) parts → AllByRecursion (IsRangeInterval store.exponent store.history low high) (plan_intervals parts)
@@ -91,7 +89,7 @@ module _ {D : Type 0} (store : StoreView D) (low high : ℤ) (bases : (i : Inter
   late_left (Set interval set ∷ parts) each meet =
       let own = rows_of_interval store.exponent interval store.history in
       let behind = rows_in_turn store.exponent (plan_intervals parts) store.history in
-      let punctual : is_late_by_fill store.exponent store.history (fillings_in store.filled) interval ≡ false = read_current store.exponent store.history store.fills store.filled interval (fill_over each.0.base (arc_value set)) bases each.0.filled each.0.current in
+      let punctual : is_late_in store.exponent interval store.history store.fills ≡ false = false_from_ne_true (is_late_in store.exponent interval store.history store.fills) (λ late. each.0.current ((late_by_last store.exponent interval store.history store.fills).0 late)) in
       let fails : is_late interval ≡ false = ap (λ (b : Bool). b && meets_range store.exponent low high interval) punctual in
       late_left parts each.1 meet.1
       ∙ ap (λ (l : List Row). l ++ filter (row_test store.exponent is_late) behind) (sym (interval_fails store.exponent is_late interval store.history fails))
@@ -99,14 +97,14 @@ module _ {D : Type 0} (store : StoreView D) (low high : ℤ) (bases : (i : Inter
   late_left (Rows interval rows ∷ parts) each meet =
       let own = rows_of_interval store.exponent interval store.history in
       let behind = rows_in_turn store.exponent (plan_intervals parts) store.history in
-      let late : is_late_by_fill store.exponent store.history (fillings_in store.filled) interval ≡ true = read_late store.exponent store.history store.fills store.filled interval bases meet.0.1 each.0.0 in
+      let late : is_late_in store.exponent interval store.history store.fills ≡ true = (late_by_last store.exponent interval store.history store.fills).1 each.0.0 in
       let passes : is_late interval ≡ true = ap (λ (b : Bool). b && meets_range store.exponent low high interval) late ∙ meets_true store.exponent low high interval meet.0.0 in
       ap (λ (l : List Row). l ++ rows_of_parts parts) (each.0.1 ∙ sym (interval_passes store.exponent is_late interval store.history passes))
       ∙ ap (λ (l : List Row). filter (row_test store.exponent is_late) own ++ l) (late_left parts each.1 meet.1)
       ∙ sym (filter-append (row_test store.exponent is_late) own behind)
 
   pub late_in_range : (plan : Plan) → IsPlan store low high plan
-      → filter (is_in_time_range low high) (rows_of_parts plan.parts) ≡ filter (is_in_time_range low high) (late_rows_of_range store.exponent store.history (fillings_in store.filled) low high)
+      → filter (is_in_time_range low high) (rows_of_parts plan.parts) ≡ filter (is_in_time_range low high) (late_rows_of_range store.exponent store.history store.fills low high)
   late_in_range plan planned =
       let in_range = is_in_time_range low high in
       let is = plan_intervals plan.parts in

@@ -12,11 +12,12 @@ use Rattle.arch_types.specs.Table.{is_in_time_range}
 use Rattle.arch_types.specs.Directions.{truncated}
 use Rattle.history_items.specs.declared.items.Item.{Item}
 use Rattle.history_items.specs.declared.items.Item.TheVariants as items
+use Rattle.history_items.specs.Databases.{names_in}
 use Rattle.history_items.specs.Items.{rows_in}
 use Rattle.archive_store.specs.declared.head.Head.{Head}
 use Rattle.asks.specs.Names.{packet_name_numbers, table_number}
-use Rattle.archive_store.specs.Replays.{IsReplayOpened}
-use Rattle.mdb_items.specs.Database.{Database}
+use Rattle.archive_store.specs.Replays.{IsReplayOpened, rows_below}
+use Rattle.mdb_items.specs.Texts.{Text}
 use Rattle.replay_merge.specs.Cursor.{CursorView, rest_of}
 use Rattle.replay_merge.specs.Replay.{has_listed_name, replay_of}
 use Rattle.line_buffer.specs.Output.{IsBuffered}
@@ -48,9 +49,9 @@ few_truncated : (limit : Option ℕ) (rows : List Row) → length (truncated lim
 few_truncated None rows = omega arith
 few_truncated (Some n) rows = omega (arith, length-take n rows)
 
-pub few_replayed : (db : Database) (table : ℕ) (request : ReplayRequest) (history : List Row) → length (replay_of db table request history) ≤ length history
-few_replayed db table request history =
-    let names = packet_name_numbers db request.names in
+pub few_replayed : (all : List Text) (table : ℕ) (request : ReplayRequest) (history : List Row) → length (replay_of all table request history) ≤ length history
+few_replayed all table request history =
+    let names = packet_name_numbers all request.names in
     let rows = filter (is_in_table table) history in
     let ordered = order_by is_before rows in
     let ranged = filter (is_in_time_range request.from request.to) ordered in
@@ -66,10 +67,10 @@ few_replayed db table request history =
 
 -- what it has to give is the replay
 pub opened_is : (head : Head) (history : List Item) (request : ReplayRequest) (c : CursorView) → IsReplayOpened head history request c →
-    rest_of c (rows_in history) ≡ replay_of head.mdb (unwrap_or (table_number head.tables request.table) 0) request (rows_in history)
+    rest_of c (rows_below history) ≡ replay_of (names_in head.mdb history) (unwrap_or (table_number head.tables request.table) 0) request (rows_in history)
 opened_is head history request c is =
     let table : c.table ≡ unwrap_or (table_number head.tables request.table) 0 = sym (ap (λ (place : Option ℕ). unwrap_or place 0) is.table) in
-    is.replay history ([], append-nil history) ∙ ap (λ (number : ℕ). replay_of head.mdb number request (rows_in history)) table
+    is.replay history ([], append-nil history) ∙ ap (λ (number : ℕ). replay_of (names_in head.mdb history) number request (rows_in history)) table
 
 -- the rows among items
 few_rows : (history : List Item) → length (rows_in history) ≤ length history
@@ -78,9 +79,9 @@ few_rows (items.Row row ∷ history) = let few = few_rows history in omega (arit
 few_rows (items.Mdb database ∷ history) = let few = few_rows history in omega (arith, few)
 
 -- no more rows than the history has items
-pub few_rest : (head : Head) (history : List Item) (request : ReplayRequest) (c : CursorView) → IsReplayOpened head history request c → length (rest_of c (rows_in history)) ≤ length history
+pub few_rest : (head : Head) (history : List Item) (request : ReplayRequest) (c : CursorView) → IsReplayOpened head history request c → length (rest_of c (rows_below history)) ≤ length history
 few_rest head history request c is =
-    let few = few_replayed head.mdb c.table request (rows_in history) in
+    let few = few_replayed (names_in head.mdb history) c.table request (rows_in history) in
     let same = ap (λ (rows : List Row). length rows) (is.replay history ([], append-nil history)) in
     omega (arith, few, same, few_rows history)
 
@@ -93,10 +94,10 @@ nothing_left rows rest left step none end =
     sym step ∙ ap (λ (rs : List Row). rs ++ rest) here ∙ end here
 
 -- so all is printed
-pub all_printed : (db : Database) (table : List ℕ) (first now : Option (List ℕ)) (all held : List ℕ) (left : List Row) → left ≡ [] →
-    IsBuffered first now all (held ++ packet_lines db table left) → IsBuffered first now all held
-all_printed db table first now all held left none h =
-    subst (IsBuffered first now all) (ap (λ (rows : List Row). held ++ packet_lines db table rows) none ∙ append-nil held) h
+pub all_printed : (names : List Text) (table : List ℕ) (first now : Option (List ℕ)) (all held : List ℕ) (left : List Row) → left ≡ [] →
+    IsBuffered first now all (held ++ packet_lines names table left) → IsBuffered first now all held
+all_printed names table first now all held left none h =
+    subst (IsBuffered first now all) (ap (λ (rows : List Row). held ++ packet_lines names table rows) none ∙ append-nil held) h
 
 -- and counted
 pub all_counted : (count total : ℕ) (left : List Row) → left ≡ [] → count + length left ≡ total → count ≡ total
@@ -105,12 +106,12 @@ all_counted count total left none e =
     omega (arith, zero, e)
 
 -- the lines of a step's rows are the first of those that are left
-pub step_printed : (db : Database) (table : List ℕ) (first now : Option (List ℕ)) (all held : List ℕ) (rows rest left : List Row) → rows ++ rest ≡ left →
-    IsBuffered first now all (held ++ packet_lines db table left) → IsBuffered first now all ((held ++ packet_lines db table rows) ++ packet_lines db table rest)
-step_printed db table first now all held rows rest left step h =
-    let lines : packet_lines db table left ≡ packet_lines db table rows ++ packet_lines db table rest =
-    ap (packet_lines db table) (sym step) ∙ flat_map-append (packet_line db table) rows rest in
-    subst (IsBuffered first now all) (ap (λ (text : List ℕ). held ++ text) lines ∙ sym (append_assoc held (packet_lines db table rows) (packet_lines db table rest))) h
+pub step_printed : (names : List Text) (table : List ℕ) (first now : Option (List ℕ)) (all held : List ℕ) (rows rest left : List Row) → rows ++ rest ≡ left →
+    IsBuffered first now all (held ++ packet_lines names table left) → IsBuffered first now all ((held ++ packet_lines names table rows) ++ packet_lines names table rest)
+step_printed names table first now all held rows rest left step h =
+    let lines : packet_lines names table left ≡ packet_lines names table rows ++ packet_lines names table rest =
+    ap (packet_lines names table) (sym step) ∙ flat_map-append (packet_line names table) rows rest in
+    subst (IsBuffered first now all) (ap (λ (text : List ℕ). held ++ text) lines ∙ sym (append_assoc held (packet_lines names table rows) (packet_lines names table rest))) h
 
 -- and its rows are counted
 pub step_counted : (count total : ℕ) (rows rest left : List Row) → rows ++ rest ≡ left → count + length left ≡ total → (count + length rows) + length rest ≡ total

@@ -14,7 +14,7 @@ use Rattle.store_fills.specs.Filled.{HoldsRows}
 use Rattle.store_fills.specs.Sound.{AreSound, Fillings}
 use Rattle.archive_store.specs.declared.head.Head.{Head}
 use Rattle.archive_store.specs.Plans.{IsPlanOver}
-use Rattle.archive_store.specs.AddedFills.{AddsWholeFills}
+use Rattle.archive_store.specs.AddedFills.{AddsRightFills}
 use Rattle.container_extract.specs.Answer.{answer_of}
 use Rattle.retrieval.specs.AskText.{asks_text}
 use Rattle.retrieval.specs.FilledAnswer.{filled_answer}
@@ -28,10 +28,10 @@ FilledIsAnswered = (db : Database) (exponent : ℕ) (history : List Item) (filli
     (request : Request) (number : ℕ) → AreSound exponent (HoldsRows db) history fillings →
     filled_answer db number request exponent history fillings ≡ answer_of db number request (rows_in history)
 
--- fills of late intervals, over the whole history, change nothing of what asks are answered
+-- right fills of late intervals change nothing of what asks are answered
 abbrev pub AddedFillsAnswerAlike : Type 0
 AddedFillsAnswerAlike = (head : Head) (exponent : ℕ) (history : List Item) (old new : Fillings (List SetRow)) →
-    AddsWholeFills head exponent history old new → (k : ℕ) (asks : List Ask) →
+    AddsRightFills head exponent history old new → (k : ℕ) (asks : List Ask) →
     asks_text head exponent history new k asks ≡ asks_text head exponent history old k asks
 
 -- what is answered over the parts of a store's plan is the answer over its whole history

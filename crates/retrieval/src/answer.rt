@@ -82,10 +82,9 @@ pub fn answer_request<D: Disk, L: Ledger>(
     // No row of a filled interval takes one.
     ensures steps { steps.new ≤ steps.old + length (filter
         (is_in_time_range found.now.request.from found.now.request.to) (late_rows_of_range store.old.exponent
-        store.old.history (fillings_in store.old.filled) found.now.request.from found.now.request.to)) }
+        store.old.history store.old.fills found.now.request.from found.now.request.to)) }
 {
-    // It tells the proof that the fill list has the bases of the fills that are there.
-    let _bases = store.front();
+    store.is_kept();
     let plan = store.plan(alloc, found)?;
     answer(alloc, plan, found, steps)
 }

@@ -1,23 +1,21 @@
 //! The lines of packets.
 
-ghost use Rattle.std.specs.Prelude.{◌≡◌, ◌+◌, ◌≤◌, ◌++◌, length, slice_get};
-ghost use Rattle.std.specs.List.{AllByRecursion};
-ghost use Rattle.retrieval.specs.ReplayText.{container_name, key_words, longest_key_words, longest_packet_words, packet_line, packet_words, pname_text};
+ghost use Rattle.std.specs.Prelude.{◌≡◌, ◌+◌, ◌≤◌, ◌++◌, length};
+ghost use Rattle.retrieval.specs.ReplayText.{key_words, longest_key_words, longest_packet_words, packet_line, packet_words, pname_text};
 ghost use Rattle.line_buffer.specs.LineRoom.{HasLineRoom, HasRoomFor};
 
 use arch_types::key::Key;
-use arch_types::name::Name;
+use arch_types::name::{Name, Names};
 use arch_types::row::Row;
 use line_buffer::LineBuffer;
-use mdb_model::{Container, Mdb};
 
 /// Adds the line of a row of a table.
-pub(crate) fn put_packet(line_buffer: &mut LineBuffer, mdb: &Mdb, table: &Name, row: &Row)
+pub(crate) fn put_packet(line_buffer: &mut LineBuffer, names: &Names, table: &Name, row: &Row)
     requires { HasLineRoom line_buffer.old }
-    ensures { line_buffer.new ≡ line_buffer.old ++ packet_line mdb.now table.now row.now }
+    ensures { line_buffer.new ≡ line_buffer.old ++ packet_line names.now table.now row.now }
 {
     put_key(line_buffer, table, row.key);
-    put_packet_words(line_buffer, mdb, row);
+    put_packet_words(line_buffer, names, row);
 }
 
 /// Adds the table and the key.
@@ -33,13 +31,13 @@ fn put_key(line_buffer: &mut LineBuffer, table: &Name, key: Key)
 }
 
 /// Adds the link, the packet's name, and how many octets it has.
-fn put_packet_words(line_buffer: &mut LineBuffer, mdb: &Mdb, row: &Row)
+fn put_packet_words(line_buffer: &mut LineBuffer, names: &Names, row: &Row)
     requires { HasRoomFor longest_packet_words line_buffer.old }
-    ensures { line_buffer.new ≡ line_buffer.old ++ packet_words mdb.now row.now }
+    ensures { line_buffer.new ≡ line_buffer.old ++ packet_words names.now row.now }
 {
     line_buffer.put_field(row.link);
     line_buffer.put_octet(b' ');
-    line_buffer.put(pname_text(mdb, row.pname));
+    line_buffer.put(pname_text(names, row.pname));
     line_buffer.put_field(row.packet.len());
     line_buffer.put_octet(b'\n');
 }
@@ -52,22 +50,13 @@ fn octets_of(name: &Name) -> &[u8]
     name.as_slice()
 }
 
-/// The name of the container with a number, few enough octets for a line.
-fn pname_text(mdb: &Mdb, number: u16) -> &[u8]
-    ensures text { result.now ≡ pname_text mdb.now number }
+/// The packet name with a number, few enough octets for a line.
+fn pname_text(names: &Names, number: u16) -> &[u8]
+    ensures text { result.now ≡ pname_text names.now number }
     ensures short { length result.now ≤ 64 }
 {
-    container_name(mdb.container_list(), number)
-}
-
-/// The name at a place.
-fn container_name(containers: &[Container], number: u16) -> &[u8]
-    requires { AllByRecursion (λ container. length container.name ≤ 64) containers.now }
-    ensures text { result.now ≡ container_name (slice_get containers.now number) }
-    ensures short { length result.now ≤ 64 }
-{
-    match containers.get(number as usize) {
+    match names.as_slice().get(number as usize) {
         None => b"",
-        Some(container) => container.name.as_bytes(),
+        Some(name) => octets_of(name),
     }
 }

@@ -1,8 +1,9 @@
 //! The lines of a replay.
 
 ghost use Rattle.std.specs.Prelude.{◌≡◌, ◌<◌, ◌^◌, ◌++◌, [], IfOk, length};
-ghost use Rattle.history_items.specs.Items.{rows_in};
+ghost use Rattle.history_items.specs.Databases.{names_in};
 ghost use Rattle.archive_store.specs.Finding.{IsReplayFound};
+ghost use Rattle.archive_store.specs.Replays.{rows_below};
 ghost use Rattle.line_buffer.specs.Printed.{BuffersText, PrintsText};
 ghost use Rattle.replay_merge.specs.Cursor.{steps_at_most, rest_of};
 ghost use Rattle.retrieval.specs.ReplayText.{packet_lines, replay_text};
@@ -11,11 +12,10 @@ ghost use Rattle.line_buffer.specs.LineRoom.{HasLineRoom};
 use crate::answer_text::{put_end, put_front};
 use crate::packet_text::put_packet;
 use arch_disk::Disk;
-use arch_types::name::Name;
+use arch_types::name::{Name, Names};
 use arch_types::row::{Row, Rows};
 use archive_store::{FoundReplay, Store};
 use line_buffer::LineBuffer;
-use mdb_model::Mdb;
 use outer_traits::fault::Failed;
 use outer_traits::print_fault::PrintFault;
 use outer_traits::sink::Sink;
@@ -41,10 +41,12 @@ pub fn print_replay<D: Disk, K: Sink>(
     ensures same { store.new ≡ store.old }
 {
     let cursor = store.replay_open(alloc, found)?;
+    let names = packet_names(alloc, store)?;
     put_front(line_buffer, k, cursor.front());
     line_buffer.flush_if_full(sink)?;
     let count = print_rest(
         alloc,
+        &names,
         &found.request.table,
         cursor,
         store,
@@ -56,9 +58,20 @@ pub fn print_replay<D: Disk, K: Sink>(
     Ok(())
 }
 
+/// The packet names of a store's history, in the order of their numbers.
+fn packet_names<D: Disk>(alloc: Global, store: &Store<D>) -> Result<Names, AllocError>
+    ensures { IfOk result (λ names. names ≡ names_in store.now.head.mdb store.now.history) }
+{
+    match store.names(alloc) {
+        Ok(names) => Ok(names),
+        Err(_) => Err(AllocError),
+    }
+}
+
 /// Prints the rows that are left of a replay, of which the last may still be buffered, and counts them.
 fn print_rest<D: Disk, K: Sink>(
     alloc: Global,
+    names: &Names,
     table: &Name,
     cursor: Cursor,
     store: &mut Store<D>,
@@ -66,11 +79,11 @@ fn print_rest<D: Disk, K: Sink>(
     sink: &mut K,
 ) -> Result<usize, PrintFault>
     requires room { HasLineRoom line_buffer.old }
-    requires few { length (rest_of cursor (rows_in store.old.history)) < 2 ^ 64 }
+    requires few { length (rest_of cursor (rows_below store.old.history)) < 2 ^ 64 }
     ensures printed { PrintsText result (K.state sink.old) (K.state sink.new)
-        (line_buffer.old ++ packet_lines store.old.head.mdb table.now (rest_of cursor (rows_in store.old.history)))
+        (line_buffer.old ++ packet_lines names.now table.now (rest_of cursor (rows_below store.old.history)))
         line_buffer.new }
-    ensures count { IfOk result (λ count. count ≡ length (rest_of cursor (rows_in store.old.history))) }
+    ensures count { IfOk result (λ count. count ≡ length (rest_of cursor (rows_below store.old.history))) }
     ensures same { store.new ≡ store.old }
 {
     let mut cursor = cursor;
@@ -80,7 +93,7 @@ fn print_rest<D: Disk, K: Sink>(
         if rows.len() == 0 {
             return Ok(count);
         }
-        print_rows(&store.head().mdb, table, rows.as_slice(), line_buffer, sink)?;
+        print_rows(names, table, rows.as_slice(), line_buffer, sink)?;
         count += rows.len();
     }
 }
@@ -92,8 +105,8 @@ fn next_rows<D: Disk>(
     store: &mut Store<D>,
 ) -> Result<Rows, AllocError>
     ensures rows { IfOk result (λ rows.
-        rows ++ rest_of cursor.new (rows_in store.old.history) ≡ rest_of cursor.old (rows_in store.old.history)) }
-    ensures end { IfOk result (λ rows. rows ≡ [] → rest_of cursor.new (rows_in store.old.history) ≡ []) }
+        rows ++ rest_of cursor.new (rows_below store.old.history) ≡ rest_of cursor.old (rows_below store.old.history)) }
+    ensures end { IfOk result (λ rows. rows ≡ [] → rest_of cursor.new (rows_below store.old.history) ≡ []) }
     ensures nearer { IfOk result (λ rows. (rows ≡ [] → ⊥) → steps_at_most cursor.new < steps_at_most cursor.old) }
     ensures same { store.new ≡ store.old }
 {
@@ -107,7 +120,7 @@ fn next_rows<D: Disk>(
 
 /// Prints the lines of rows of a table, of which the last may still be buffered.
 fn print_rows<K: Sink>(
-    mdb: &Mdb,
+    names: &Names,
     table: &Name,
     rows: &[Row],
     line_buffer: &mut LineBuffer,
@@ -115,10 +128,10 @@ fn print_rows<K: Sink>(
 ) -> Result<(), Failed>
     requires { HasLineRoom line_buffer.old }
     ensures { BuffersText result (K.state sink.old) (K.state sink.new)
-        (line_buffer.old ++ packet_lines mdb.now table.now rows.now) line_buffer.new }
+        (line_buffer.old ++ packet_lines names.now table.now rows.now) line_buffer.new }
 {
     for row in rows {
-        put_packet(line_buffer, mdb, table, row);
+        put_packet(line_buffer, names, table, row);
         line_buffer.flush_if_full(sink)?;
     }
     Ok(())

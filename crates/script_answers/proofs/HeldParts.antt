@@ -10,7 +10,6 @@ use Rattle.arch_types.specs.declared.row.Row.{Row}
 use Rattle.arch_types.specs.declared.spans.Span.{Span}
 use Rattle.arch_types.specs.History.{is_in_table}
 use Rattle.history_items.specs.declared.items.Item.{Item}
-use Rattle.history_items.specs.declared.items.Item.TheVariants as items
 use Rattle.history_items.specs.Items.{rows_in}
 use Rattle.partitions.specs.declared.bounds.Bounds.{Bounds}
 use Rattle.partitions.specs.declared.partition.Partition.{Partition}
@@ -23,7 +22,7 @@ use Rattle.ssql_types.specs.declared.query.TypedSelect.{TypedSelect}
 use Rattle.archive_store.specs.declared.head.Head.{Head}
 use Rattle.archive_store.specs.Entries.{IsArchivedRow}
 use Rattle.archive_store.specs.Laws.{ArchivedRowsHaveClockTimes}
-use Rattle.archive_store.specs.Replays.{ArePartitions}
+use Rattle.archive_store.specs.Replays.{ArePartitions, rows_below}
 use Rattle.script_answers.specs.Statements.{AreSourceParts, name_spans}
 
 -- each row of an archive has a moment of the clock
@@ -31,11 +30,9 @@ pub all_clocked : (head : Head) (history : List Item) (rows : List Row) → Arch
 all_clocked head history [] law all = tt
 all_clocked head history (row ∷ rows) law all = (law head history row all.0, all_clocked head history rows law all.1)
 
--- the rows among items
-pub few_rows : (history : List Item) → length (rows_in history) ≤ length history
-few_rows [] = omega arith
-few_rows (items.Row row ∷ history) = let few = few_rows history in omega (arith, few)
-few_rows (items.Mdb database ∷ history) = let few = few_rows history in omega (arith, few)
+-- the rows below the front are all of them
+pub whole_rows : (history : List Item) (front : ℕ) → front ≡ length history → rows_below history front ≡ rows_in history
+whole_rows history front is = ap rows_in (take_all front history (omega (arith, is)))
 
 -- ---- the partitions of tables
 
@@ -72,12 +69,12 @@ module _ (bounds : Bounds) (history : List Item) where
 
 -- ---- what is selected at the front is what is selected of all rows
 
-pub whole_selection : {E : Type 0} (names : List (List ℕ)) (select : TypedSelect) (parts : List Partition) (history : List Row) (front : ℕ) (r : Result (List ℕ) E) → length history ≤ front →
-    HoldsSelected select parts history → IfOk r (λ text. HoldsSelected select parts (take front history) → text ≡ selection_text names select (take front history)) →
-    IfOk r (λ text. text ≡ selection_text names select history)
-whole_selection names select parts history front (Err e) all held is = tt
-whole_selection names select parts history front (Ok text) all held is =
-    let whole : take front history ≡ history = take_all front history all in
+pub whole_selection : {E : Type 0} (names : List (List ℕ)) (select : TypedSelect) (parts : List Partition) (history : List Item) (front : ℕ) (r : Result (List ℕ) E) → front ≡ length history →
+    HoldsSelected select parts (rows_in history) → IfOk r (λ text. HoldsSelected select parts (rows_below history front) → text ≡ selection_text names select (rows_below history front)) →
+    IfOk r (λ text. text ≡ selection_text names select (rows_in history))
+whole_selection names select parts history front (Err e) at_end held is = tt
+whole_selection names select parts history front (Ok text) at_end held is =
+    let whole = whole_rows history front at_end in
     is (subst (HoldsSelected select parts) (sym whole) held) ∙ ap (selection_text names select) whole
 
 -- ---- records name after name

@@ -60,7 +60,7 @@ parts_of_rows (row ∷ rows) = with_partition (partition_of row.key.time row.pna
 -- the partitions of a table with their rows
 abbrev pub table_partitions : ℕ → List Item → List ShowLine
 table_partitions table history =
-    partition_lines (length history) table (rows_in history) (parts_of_rows (rows_in_table table history))
+    partition_lines table (rows_in history) (parts_of_rows (rows_in_table table history))
 
 -- ---- SHOW HISTOGRAM
 

@@ -198,8 +198,7 @@ fn held_parts<D: Disk>(
 {
     pruned_holds_selected();
     archived_rows_have_clock_times();
-    // It tells the proof of which rows the history is.
-    let _front = store.front();
+    store.is_kept();
     let bounds = bounds(alloc, &query.condition)?;
     pruned_parts(alloc, query.sources.as_slice(), store, &bounds)
 }
@@ -236,6 +235,7 @@ fn table_partitions<D: Disk>(
     ensures refused { IfErr result (λ refusal. refusal ≡ Refusal.OutOfMemory) }
 {
     archived_rows_have_clock_times();
+    store.is_kept();
     let bounds = all_bounds();
     let parts = store.parts(table, &bounds)?;
     let mut source = store.source();

@@ -1,9 +1,8 @@
 use Rattle.std.proofs.Common.{◌≡◌, ◌∙◌, List, ℕ, inl, inr, refl, subst}
-use Rattle.store_fills.proofs.Bases.{own_bases}
 use Rattle.archive_store.specs.StoreView.{filled_of}
 use Rattle.command_runs.specs.Finishing.{IsFinished}
 use Rattle.archive_commands.specs.Verify.{verify_line}
-use Rattle.archive_commands.proofs.Comparing.{counted_line}
+use Rattle.archive_commands.proofs.Comparing.{check_refused, counted_line}
 use Rattle.archive_commands.proofs.verify.compare.Goals as goal
 
 pub returns-in-Ok-clause-reply : goal.returns-in-Ok-clause-reply
@@ -11,11 +10,11 @@ returns-in-Ok-clause-reply g c =
     let before = g.K.Sink.state c.args.sink.now in
     let after = g.K.Sink.state c.finish.new.sink in
     let line : c.put_sound.new.line_buffer ≡ verify_line (filled_of c.args.store.now) =
-    c.put_sound.ensures ∙ counted_line c.args.store.now c.in-Ok.sound c.in-Ok.ensures.counted (λ i. c.front-bases.ensures.bases i ∙ own_bases c.args.store.now.filled c.requires.own i) in
+    c.put_sound.ensures ∙ counted_line c.args.store.now c.in-Ok.sound c.in-Ok.ensures.counted c.is_kept.ensures.bases in
     inl (record {
-      sound = c.in-Ok.ensures.sound;
+      found = c.in-Ok.ensures.sound;
       printed = subst (λ (text : List ℕ). IsFinished c.finish.result before after text) line c.finish.ensures;
     })
 
 pub returns-in-Err-clause-reply : goal.returns-in-Err-clause-reply
-returns-in-Err-clause-reply g c = inr (c.in-Err.ensures.refused, refl)
+returns-in-Err-clause-reply g c = inr (check_refused (filled_of c.args.store.now) c.in-Err.refusal c.in-Err.ensures.refused, refl)

@@ -91,18 +91,18 @@ returns-clause-ran g c =
           let link = w.in-Ok-received.ensures.link in
           let ready = w.in-Ok-received.ensures.ready in
           let report = w.load_dump-report.result in
-          let moment = w.now-moment.result in
+          let moment = c.now-moment.result in
           let fits : SFits w64 moment = search rules in
           let still = rw source.fresh at w.in-Ok-received.ensures.no_fault in
           let used = closed_again (state c.args.inputs.now) (state c.open.new.self) (state c.close-2.new.self) source.same back.same source.gave back.closed
           (λ sure. let one = source.reliable sure in let two = back.reliable one.0 still in (two.0, two.1 ∙ one.1)) false (back.kept still ∙ source.counted) in
-          let r : Receiving = receiving s.head received.graph words.link moment in
+          let r : Receiving = receiving s.head s.history received.graph words.link moment in
           let went = effects_of c.args.disk last.disk output output' report in
           let ran : Ran device (session_plan (IsRecordCount device c.args.disk) (filled_of s) r (asks_found received.asks) received.dump) went =
-          rw (to_z-of_z w64 moment fits, link.0) at (w.load_dump-report.ensures c.args.disk (opened_on e.opened e.reads e.crash e.counts)) in
+          rw (to_z-of_z w64 moment fits, link.0) at (w.load_dump-report.ensures c.args.disk (opened_on e.opened e.reads e.crash e.counts) (rw w.store-is at c.is_kept.ensures)) in
           let over = load_received device went files next words (named c.args.text) c.args.sheet (state c.args.inputs.now) (state c.close-2.new.self) (gives_there files c.args.words.dump.now _ source.found) (filled_of s)
           (λ known. e.opened.filled known) received.dump moment received.graph (asks_found received.asks) ready (gives_input files c.args.words.dump.now _ received.dump source.found w.in-Ok-received.ensures.whole)
-          w.in-Ok-received.ensures.short (moment_of next moment w.now-moment.ensures.known w.now-moment.ensures.range) used ran in
+          w.in-Ok-received.ensures.short (moment_of next moment c.now-moment.ensures.known c.now-moment.ensures.range) used ran in
           rw (c.into_disk.ensures.disk, w.sink-is, w.report-is, w.store-is) over
       | in-Err-received w ↦
           let unread = w.in-Err-received.unread in
@@ -112,7 +112,8 @@ returns-clause-ran g c =
           let two = back.reliable one.0 (c.receive-received.ensures.reliable (source.reliable_source sure) ∙ source.fresh) in (two.0, two.1 ∙ one.1)) in
           let one : (g.I.Inputs.state c.args.inputs.now).faults ≤ (g.I.Inputs.state c.open.new.self).faults = source.later in
           let two : (g.I.Inputs.state c.open.new.self).faults ≤ (g.I.Inputs.state c.close-2.new.self).faults = back.later in
-          let disk = opened_outcome device c.args.disk s e.opened e.reads e.crash e.counts (rw w.store-is at c.into_disk.ensures.images) (rw w.store-is at c.into_disk.ensures.faults) in
+          let kept = rw w.store-is at c.is_kept.ensures in
+          let disk = opened_outcome device c.args.disk s (opened_on e.opened e.reads e.crash e.counts) kept in
           let over = load_not_received device (effects_of c.args.disk s.disk output output report) files next words (named c.args.text) c.args.sheet (state c.args.inputs.now) (state c.close-2.new.self)
           (gives_there files c.args.words.dump.now _ source.found) (filled_of s) (λ known. e.opened.filled known) refl disk used (omega (arith, one, two)) _ 0 _ unread.refusal unread.link source.found
           (rw source.fresh at w.in-Err-received.ensures.unread) (λ ending read. reads_closed ending (state c.args.inputs.now).faults (state c.open.new.self).faults _
@@ -132,8 +133,4 @@ pub returns-in-Err-open-clause-clock : goal.returns-in-Err-open-clause-clock
 returns-in-Err-open-clause-clock g c = clock_unused (g.C.Clock.state c.args.clock.now)
 
 pub returns-clause-clock : goal.returns-clause-clock
-returns-clause-clock g c =
-    elim c.match-received.branch [
-      | in-Ok-received w ↦ rw w.clock-is (record { known = w.now-moment.ensures.same; stands = w.now-moment.ensures.reliable })
-      | in-Err-received w ↦ rw w.clock-is (clock_unused (g.C.Clock.state c.args.clock.now))
-    ]
+returns-clause-clock g c = record { known = c.now-moment.ensures.same; stands = c.now-moment.ensures.reliable }

@@ -9,4 +9,4 @@ returns-in-Ok-clause-over g c = script_below (archive_of c.args.store.now) c.arg
 pub typed_text-requires-clause-names : goal.typed_text-requires-clause-names
 typed_text-requires-clause-names g c =
     let names = ap length c.in_ok-names.ensures.names in
-    omega (arith, names, c.name_count-count.ensures.count, c.name_count-count.ensures.few)
+    omega (arith, names, c.is_kept.ensures.few_names)

@@ -1,20 +1,31 @@
-use Rattle.std.proofs.Common.{◌≡◌, ◌∙◌, w64, slice_range}
+use Rattle.std.proofs.Common.{◌≡◌, ◌∙◌, [], refl, w64, slice_range}
 use Rattle.std.proofs.lemmas.Int.{to_z-of_z}
 use Rattle.space_packet.specs.Cut.{IsPacketRange}
 use Rattle.load_session.specs.Batches.{arrivals_with, IsNextBatch}
 use Rattle.load_session.specs.Receiving.{Receiving, receiving}
 use Rattle.load_session.proofs.Arrived.{CanReceive}
-use Rattle.load_session.proofs.Batching.{taken_more}
+use Rattle.load_session.proofs.Batching.{taken_more, taken_none}
+use Rattle.load_session.proofs.NameNumbers.{own_within}
 use Rattle.load_session.proofs.batches.next_batch.Goals as goal
+
+pub loop-taken-init : goal.loop-taken-init
+loop-taken-init c =
+    let r : Receiving = receiving c.args.head.now [] c.args.graph.now c.args.link c.args.moment in
+    record {
+      dump = c.requires.dump;
+      taken = rw (to_z-of_z w64 c.args.moment c.ranges.moment)
+          (taken_none c.args.dump.now c.args.places.now.at r (record { batch = record { rectime = c.args.moment; arrivals = c.new.result }; packets = 0 })
+          refl refl c.new.ensures c.requires.moment);
+    }
 
 pub loop-taken-preserved : goal.loop-taken-preserved
 loop-taken-preserved c =
     let moment = to_z-of_z w64 c.args.moment c.ranges.moment in
-    let r : Receiving = receiving c.args.head.now c.args.graph.now c.args.link c.args.moment in
+    let r : Receiving = receiving c.args.head.now [] c.args.graph.now c.args.link c.args.moment in
     let can : CanReceive r = record {
       link_low = c.requires.link.0;
       link_high = c.requires.link.1;
-      database = c.requires.head.1;
+      named = λ packet. own_within c.args.head.now.mdb packet c.requires.head.1;
       few = c.requires.head.0.few;
       over = c.requires.route;
     } in

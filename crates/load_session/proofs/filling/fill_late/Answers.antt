@@ -35,7 +35,7 @@ fills-preserved g c =
     let n = c.begin.new.self in
     let t : FillTask = c.in-Some.task in
     let began : BeginsTask s n t = subst (IsFillBegun s n) c.in-Some.is c.in_ok-task.ensures.begun in
-    filling_next g.D.Disk.device c.args.store.now s n c.fills.filled c.fills.invariant t began c.fill_task.new.store c.in_ok-fill_task.ensures.filled c.front-front.ensures.bases c.fill_task.ensures.same
+    filling_next g.D.Disk.device c.args.store.now s n c.fills.filled c.fills.invariant t began c.fill_task.new.store c.in_ok-fill_task.ensures.filled c.is_kept.ensures.bases c.fill_task.ensures.same
 
 pub returns-in_default-clause-filled : goal.returns-in_default-clause-filled
 returns-in_default-clause-filled g c =

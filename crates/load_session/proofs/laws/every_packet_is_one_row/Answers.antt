@@ -8,4 +8,4 @@ one_each row [] = refl
 one_each row (packet ∷ packets) = ap suc (one_each row packets)
 
 pub returns : goal.returns
-returns c = λ head link moment packets. one_each _ (kept packets)
+returns c = λ head history link moment packets. one_each _ (kept packets)

@@ -6,7 +6,7 @@ use Rattle.query_commands.proofs.sql.answer_over.Goals as goal
 pub typed_text-requires : goal.typed_text-requires
 typed_text-requires g c = record {
   tables = rw c.head-head.ensures.head c.head-head.ensures.sound.0.few;
-  names = rw c.requires.names (omega (arith, c.name_count-names.ensures.count, c.name_count-names.ensures.few));
+  names = rw c.requires.names (omega (arith, c.is_kept.ensures.few_names));
 }
 
 pub print_answers-requires : goal.print_answers-requires

@@ -31,7 +31,7 @@ returns-clause-filled g c =
     filled_is in_force store.exponent store.history (fillings_in store.filled) found.request found.number c.answer.result plan.front (answer_over_parts (arc_value plan.mdb) found.number found.request plan.parts)
     c.requires.found.number c.in_ok-plan.ensures.planned.front
     (ap (λ (db : Database). answer_over_parts db found.number found.request plan.parts) c.in_ok-plan.ensures.planned.mdb
-    ∙ plan_filled store in_force found.number found.request plan c.front-bases.ensures.bases c.in_ok-plan.ensures.planned)
+    ∙ plan_filled store in_force found.number found.request plan c.is_kept.ensures.bases c.in_ok-plan.ensures.planned)
     c.answer.ensures.front c.answer.ensures.cells
 
 pub returns-clause-answered : goal.returns-clause-answered
@@ -56,5 +56,5 @@ returns-clause-answered g c =
 pub returns-clause-steps : goal.returns-clause-steps
 returns-clause-steps g c =
     let request = c.args.found.now.request in
-    let late = ap length (late_in_range c.args.store.now request.from request.to c.front-bases.ensures.bases c.in_ok-plan.plan c.in_ok-plan.ensures.planned) in
+    let late = ap length (late_in_range c.args.store.now request.from request.to c.in_ok-plan.plan c.in_ok-plan.ensures.planned) in
     omega (arith, c.answer.ensures.steps, late)

@@ -13,19 +13,19 @@ loop-row-preserved g c =
     let rows = c.args.rows.now in
     let i = c.loop-row.row-index in
     let row = c.row-item.result in
-    let line = packet_line c.args.mdb.now c.args.table.now in
+    let line = packet_line c.args.names.now c.args.table.now in
     let rest = drop (i + 1) rows in
     let first = (g.K.Sink.state c.args.sink.now).written in
     let now = (g.K.Sink.state c.loop-row.sink).written in
     let new = (g.K.Sink.state c.flush_if_full.new.sink).written in
-    let all = c.args.line_buffer.now ++ packet_lines c.args.mdb.now c.args.table.now rows in
+    let all = c.args.line_buffer.now ++ packet_lines c.args.names.now c.args.table.now rows in
     let held = c.loop-row.line_buffer in
     let left = c.flush_if_full.new.self in
     let step : drop i rows ≡ row ∷ rest = drop_more rows i row c.loop-row-test.true ∙ ap (λ (r : Row). r ∷ rest) (sym c.row-item.is) in
     let before = regroup line first now all held (drop i rows) rest row step c.loop-row.invariant.buffered in
     let flushed : IsBuffered now new (held ++ line row) left = rw c.put_packet.ensures at c.in_ok-flush_if_full.ensures.buffered in
     record {
-      buffered = buffered_more first now new all (held ++ line row) left (packet_lines c.args.mdb.now c.args.table.now rest) before flushed;
+      buffered = buffered_more first now new all (held ++ line row) left (packet_lines c.args.names.now c.args.table.now rest) before flushed;
       room = c.in_ok-flush_if_full.ensures.room;
       no_fault = c.in_ok-flush_if_full.ensures.no_fault ∙ c.loop-row.invariant.no_fault;
     }
@@ -35,12 +35,12 @@ returns-in_err-flush_if_full g c =
     let rows = c.args.rows.now in
     let i = c.loop-row.row-index in
     let row = c.row-item.result in
-    let line = packet_line c.args.mdb.now c.args.table.now in
+    let line = packet_line c.args.names.now c.args.table.now in
     let rest = drop (i + 1) rows in
     let first = (g.K.Sink.state c.args.sink.now).written in
     let now = (g.K.Sink.state c.loop-row.sink).written in
     let new = (g.K.Sink.state c.flush_if_full.new.sink).written in
-    let all = c.args.line_buffer.now ++ packet_lines c.args.mdb.now c.args.table.now rows in
+    let all = c.args.line_buffer.now ++ packet_lines c.args.names.now c.args.table.now rows in
     let held = c.loop-row.line_buffer in
     let step : drop i rows ≡ row ∷ rest = drop_more rows i row c.loop-row-test.true ∙ ap (λ (r : Row). r ∷ rest) (sym c.row-item.is) in
     let before = regroup line first now all held (drop i rows) rest row step c.loop-row.invariant.buffered in
@@ -49,7 +49,7 @@ returns-in_err-flush_if_full g c =
     let same = c.loop-row.invariant.no_fault in
     let later = c.in_err-flush_if_full.ensures.later in
     rw p.1 (record {
-      some = buffered_some first now new all (held ++ line row) (packet_lines c.args.mdb.now c.args.table.now rest) before some;
+      some = buffered_some first now new all (held ++ line row) (packet_lines c.args.names.now c.args.table.now rest) before some;
       later = omega (arith, same, later);
       failed = λ small. let risen = c.in_err-flush_if_full.ensures.failed small in omega (arith, same, risen);
     })

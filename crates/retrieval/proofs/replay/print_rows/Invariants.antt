@@ -7,8 +7,8 @@ use Rattle.line_buffer.specs.LineRoom.{HasLineRoom}
 
 abbrev pub invariant-loop-row : goal.invariant-loop-row
 invariant-loop-row g l = record {
-  buffered : IsBuffered (g.K.Sink.state l.fn.sink).written (g.K.Sink.state l.sink).written (l.initial.line_buffer ++ packet_lines l.mdb l.table l.rows)
-      (l.line_buffer ++ packet_lines l.mdb l.table (drop l.row-index l.rows));
+  buffered : IsBuffered (g.K.Sink.state l.fn.sink).written (g.K.Sink.state l.sink).written (l.initial.line_buffer ++ packet_lines l.names l.table l.rows)
+      (l.line_buffer ++ packet_lines l.names l.table (drop l.row-index l.rows));
   room : HasLineRoom l.line_buffer;
   no_fault : Stays (g.K.Sink.state l.fn.sink).faults (g.K.Sink.state l.sink).faults;
 }
