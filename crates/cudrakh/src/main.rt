@@ -5,15 +5,20 @@
 //! folder that the environment's `YARCH_HOME` names, or else `yarch`; that it isn't there is met by the first call that wants it.
 #![tactic(auto)]
 
+mod advice;
 mod printed;
 
+use crate::advice::{DISK_FAILED_TOO, DiskState, advice};
 use crate::printed::PrintedFault;
+use arch_disk::Disk;
 use archive_cli::Ended;
 use archive_cli::run::run;
-use outer_real::{RealClock, RealDisk, RealInputs, RealSink, StandardStreams, keep_freed_memory};
+use outer_real::{
+    ArchiveLock, RealClock, RealDisk, RealInputs, RealSink, StandardStreams, keep_freed_memory,
+};
 use refusals::Refusal;
 use std::env::{self, VarError};
-use std::io::IsTerminal;
+use std::io::{ErrorKind, IsTerminal};
 use std::process::ExitCode;
 
 fn main(rt: HostRuntime) -> ExitCode {
@@ -37,6 +42,7 @@ fn run_command(rt: &HostRuntime) -> ExitCode {
         Ok(folder) => folder,
         Err(refusal) => return refused(rt, &refusal),
     };
+    let lock = ArchiveLock::new();
     let Ended {
         status,
         disk,
@@ -44,30 +50,41 @@ fn run_command(rt: &HostRuntime) -> ExitCode {
     } = run(
         rt.alloc(),
         words.as_slice(),
-        RealDisk::new(rt.alloc(), rt, folder),
+        RealDisk::new(rt.alloc(), rt, folder, Some(&lock)),
         &mut RealInputs::new(rt),
-        &mut RealSink::new(rt),
+        &mut RealSink::new(rt, &lock),
         &mut RealClock::new(rt),
     );
-    let is_busy = disk.is_busy();
+    let disk_state = if disk.is_busy() {
+        DiskState::Busy
+    } else if disk.faults() > 0 {
+        DiskState::Failed
+    } else {
+        DiskState::Worked
+    };
     drop(disk);
+    lock.give_back();
     if let Some(refusal) = &report.refusal {
-        say(rt, refusal, is_busy);
+        say(rt, refusal, disk_state);
     }
     ExitCode::from(status)
 }
 
-/// Says on standard error why a command was refused, and on a terminal, in a line more, whether another program is why.
-fn say(rt: &HostRuntime, refusal: &Refusal, is_busy: bool) {
+/// Says on standard error why a command was refused, and on a terminal behind that what to do.
+fn say(rt: &HostRuntime, refusal: &Refusal, disk: DiskState) {
     let _ = eprintln!(rt; "{}", PrintedFault(refusal));
-    if is_busy && matches!(refusal, Refusal::DiskFault) && rt.stderr().is_terminal() {
-        let _ = eprintln!(rt; "another program works on the archive");
+    if !rt.stderr().is_terminal() {
+        return;
+    }
+    let _ = eprintln!(rt; "{}", advice(refusal, disk));
+    if disk == DiskState::Failed && !matches!(refusal, Refusal::DiskFault) {
+        let _ = eprintln!(rt; "{DISK_FAILED_TOO}");
     }
 }
 
 /// Says on standard error why nothing was begun, and gives the status of that.
 fn refused(rt: &HostRuntime, refusal: &Refusal) -> ExitCode {
-    say(rt, refusal, false);
+    say(rt, refusal, DiskState::Worked);
     ExitCode::from(refusal.status())
 }
 
@@ -86,8 +103,10 @@ fn folder_of(rt: &HostRuntime) -> Result<String, Refusal> {
 
 /// The words behind the program's name. Words that can't be read, or are no text, are no command.
 fn words_of(rt: &HostRuntime) -> Result<Vec<String>, Refusal> {
-    let Ok(mut args) = env::args(rt) else {
-        return Err(Refusal::Usage);
+    let mut args = match env::args(rt) {
+        Ok(args) => args,
+        Err(error) if error.kind() == ErrorKind::OutOfMemory => return Err(Refusal::OutOfMemory),
+        Err(_) => return Err(Refusal::Usage),
     };
     let _program = args.next();
     let mut words = Vec::new(rt.alloc());

@@ -3,6 +3,7 @@
 ghost use Rattle.std.specs.Prelude.{◌≡◌};
 
 use crate::folder::Folder;
+use crate::lock::ArchiveLock;
 use arch_disk::{Disk, Failed, FaultCounts};
 use std::alloc::Global;
 use std::fs::File;
@@ -20,12 +21,12 @@ pub struct RealDisk<'a, R> {
 }
 
 impl<'a, R> RealDisk<'a, R> {
-    /// The files in the folder of this path. It asks nothing of the system.
-    pub fn new(alloc: Global, rt: &'a R, path: String) -> Self
+    /// The files in the folder of this path, whose lock may be given back before the disk is let go. It asks nothing of the system.
+    pub fn new(alloc: Global, rt: &'a R, path: String, lock: Option<&'a ArchiveLock>) -> Self
         ensures { (result.counts.faults ≡ 0) × (result.counts.failed_writes ≡ 0) }
     {
         RealDisk {
-            folder: Folder::new(alloc, rt, path),
+            folder: Folder::new(alloc, rt, path, lock),
             counts: FaultCounts::NONE,
             is_busy: false,
         }

@@ -3,6 +3,7 @@
 ghost use Rattle.std.specs.Prelude.{◌<◌, ◌≤◌, IfSome, IfOk, length, vec_len};
 
 use crate::handles::{Access, Handles, has_no_sync};
+use crate::lock::ArchiveLock;
 use std::alloc::Global;
 use std::collections::BTreeMap;
 use std::fs::{self, File, OpenOptions};
@@ -32,16 +33,24 @@ pub(crate) struct Folder<'a, R> {
     /// Of the files that were looked at, whether a handle is open or not.
     entries: BTreeMap<u32, DirectoryEntry>,
     handles: Handles,
+    /// Who gives the lock of file 0 back before the folder is let go.
+    lock: Option<&'a ArchiveLock>,
 }
 
 impl<'a, R> Folder<'a, R> {
-    pub(crate) fn new(alloc: Global, rt: &'a R, path: String) -> Self {
+    pub(crate) fn new(
+        alloc: Global,
+        rt: &'a R,
+        path: String,
+        lock: Option<&'a ArchiveLock>,
+    ) -> Self {
         Folder {
             rt,
             alloc,
             path,
             entries: BTreeMap::new(alloc),
             handles: Handles::new(alloc),
+            lock,
         }
     }
 }
@@ -99,6 +108,11 @@ impl<'a, R: Files<File = File>> Folder<'a, R> {
     fn find(&mut self, number: u32) -> io::Result<Option<usize>>
         ensures { IfOk result (λ found. IfSome found (λ place. place < vec_len self.new.handles.files)) }
     {
+        if let Some(lock) = self.lock
+            && lock.is_given_back()
+        {
+            return Err(ErrorKind::Other.into());
+        }
         if let Some(place) = self.handles.find(number) {
             return Ok(Some(place));
         }
@@ -157,11 +171,18 @@ impl<'a, R: Files<File = File>> Folder<'a, R> {
         }
     }
 
+    /// Keeps a file that was opened and locked, and gives the place of its handle.
     fn keep(&mut self, number: u32, file: File, access: Access) -> io::Result<usize>
         ensures { IfOk result (λ place. place < vec_len self.new.handles.files) }
     {
         self.handles.make_room()?;
-        self.handles.add(number, file, access)
+        let place = self.handles.add(number, file, access)?;
+        if let Some(lock) = self.lock
+            && number == 0
+        {
+            lock.share(&self.handles.files[place].file);
+        }
+        Ok(place)
     }
 
     /// Opens a file and locks it. Where it may be read and not written, a lock that readers share is enough, and a write of it fails later (D-53).

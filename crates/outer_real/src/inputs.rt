@@ -2,36 +2,22 @@
 
 ghost use Rattle.std.specs.Prelude.{◌≡◌, ◌≤◌, length, IfOk};
 
+use crate::pipes::{ReadAhead, read_some};
 use outer_traits::fault::{Failed, OpenFault, raised};
 use outer_traits::inputs::Inputs;
 use outer_traits::source::Source;
 use std::alloc::Global;
-use std::fs;
+use std::fs::{self, OpenFile};
 use std::io::{self, ErrorKind, Read};
+use std::os::unix::fs::FileTypeExt;
 use std::rt::Files;
 
-/// An open file.
+/// An open file. A pipe was read as it was opened, so that nothing that is opened behind it waits for who writes to it.
 #[derive(Drop)]
 pub struct RealSource<F> {
     file: F,
+    ahead: Option<ReadAhead>,
     faults: u64,
-}
-
-/// One read, made again as long as signals interrupt it.
-fn read_some<F: Read>(file: &mut F, into: &mut [u8]) -> io::Result<usize>
-    ensures { IfOk result (λ n. n ≤ length into.old) }
-{
-    for _ in 0..u64::MAX {
-        match file.read(into) {
-            Ok(n) => return Ok(n),
-            Err(error) => {
-                if error.kind() != ErrorKind::Interrupted {
-                    return Err(error);
-                }
-            }
-        }
-    }
-    Err(ErrorKind::Interrupted.into())
 }
 
 impl<F: Read> Source for RealSource<F> {
@@ -40,6 +26,12 @@ impl<F: Read> Source for RealSource<F> {
     ghost state = { λ source. record { left = None; faults = source.faults; never_fails = ⊥ } };
 
     fn read(&mut self, into: &mut [u8]) -> Result<usize, Failed> {
+        if let Some(ahead) = &mut self.ahead {
+            let n = ahead.take(into);
+            if n > 0 || ahead.is_whole() {
+                return Ok(n);
+            }
+        }
         match read_some(&mut self.file, into) {
             Ok(n) => Ok(n),
             Err(_) => {
@@ -74,6 +66,23 @@ impl<'a, R> RealInputs<'a, R> {
     }
 }
 
+/// A file of this path at its start.
+fn source_of<R: Files>(rt: &R, alloc: Global, name: &str) -> io::Result<RealSource<R::File>>
+    ensures { IfOk result (λ source. source.faults ≡ 0) }
+{
+    let mut file = fs::open(rt, name)?;
+    let ahead = if file.metadata()?.file_type().is_fifo() {
+        Some(ReadAhead::of(alloc, &mut file)?)
+    } else {
+        None
+    };
+    Ok(RealSource {
+        file,
+        ahead,
+        faults: 0,
+    })
+}
+
 impl<'a, R: Files> Inputs for RealInputs<'a, R> {
     ghost use Rattle.std.specs.Prelude.{None};
 
@@ -88,12 +97,12 @@ impl<'a, R: Files> Inputs for RealInputs<'a, R> {
     } };
 
     /// `Missing` where there's no file of this path, a part of which may be a file in a folder's place.
-    fn open(&mut self, _alloc: Global, name: &str) -> Result<RealSource<R::File>, OpenFault> {
-        match fs::open(self.rt, name) {
-            Ok(file) => {
+    fn open(&mut self, alloc: Global, name: &str) -> Result<RealSource<R::File>, OpenFault> {
+        match source_of(self.rt, alloc, name) {
+            Ok(source) => {
                 self.held = self.held.saturating_add(1);
                 self.given = self.given.saturating_add(1);
-                Ok(RealSource { file, faults: 0 })
+                Ok(source)
             }
             Err(error) => match error.kind() {
                 ErrorKind::NotFound | ErrorKind::NotADirectory => Err(OpenFault::Missing),

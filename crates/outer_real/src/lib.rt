@@ -7,10 +7,11 @@
 //
 // A call that a signal interrupts is made again, and a write to the disk that took some octets goes on with the rest.
 //
-// `inputs`, `sink` and `clock` are the objects of a command that reads and prints. `disk` counts the failed calls of the disk, `folder` makes
-// them on files that it locks, and `handles` keeps a few of these files open. `streams` keeps the standard streams from all of them. The
-// program's `main` makes one of each, `streams` first, and hands them to the top call; no other crate names these types. `memory` tells the C
-// library to keep memory that is given back.
+// `inputs`, `sink` and `clock` are the objects of a command that reads and prints; `pipes` reads an input that has to be waited for. `disk`
+// counts the failed calls of the disk, `folder` makes them on files that it locks, and `handles` keeps a few of these files open; `lock` is
+// the one by which other programs are kept off, until the sink gives it back. `streams` keeps the standard streams from all of them. The
+// program's `main` makes one of each, `streams` first, and hands them to the top call; no other crate names these types. `memory` tells the
+// C library to keep memory that is given back.
 #![tactic(auto)]
 
 mod clock;
@@ -18,13 +19,16 @@ mod disk;
 mod folder;
 mod handles;
 mod inputs;
+mod lock;
 mod memory;
+mod pipes;
 mod sink;
 mod streams;
 
 pub use clock::RealClock;
 pub use disk::RealDisk;
 pub use inputs::{RealInputs, RealSource};
+pub use lock::ArchiveLock;
 pub use memory::keep_freed_memory;
 pub use sink::RealSink;
 pub use streams::StandardStreams;

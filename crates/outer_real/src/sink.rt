@@ -2,6 +2,7 @@
 
 ghost use Rattle.std.specs.Prelude.{◌≡◌, ◌≤◌, length, IfOk};
 
+use crate::lock::ArchiveLock;
 use outer_traits::fault::{Failed, raised};
 use outer_traits::sink::Sink;
 use std::io::{self, ErrorKind, Write};
@@ -12,18 +13,23 @@ use std::time::Duration;
 /// How long an output that has no room is left alone, in milliseconds.
 const PAUSE: u64 = 10;
 
-/// The standard output.
+/// The standard output. Before it is written to, the archive's lock is given back.
 #[derive(Drop)]
 pub struct RealSink<'a, R> {
     rt: &'a R,
+    lock: &'a ArchiveLock,
     faults: u64,
 }
 
 impl<'a, R> RealSink<'a, R> {
-    pub fn new(rt: &'a R) -> Self
+    pub fn new(rt: &'a R, lock: &'a ArchiveLock) -> Self
         ensures { result.faults ≡ 0 }
     {
-        RealSink { rt, faults: 0 }
+        RealSink {
+            rt,
+            lock,
+            faults: 0,
+        }
     }
 }
 
@@ -54,6 +60,7 @@ impl<'a, R: Print + SystemClock> Sink for RealSink<'a, R> {
     ghost state = { λ sink. record { written = None; faults = sink.faults } };
 
     fn write(&mut self, piece: &[u8]) -> Result<usize, Failed> {
+        self.lock.give_back();
         match write_some(self.rt, &mut io::writer(self.rt), piece) {
             Ok(0) if !piece.is_empty() => {
                 self.faults = raised(self.faults);
