@@ -1,5 +1,5 @@
 -- What a store answers in a turn, as its caller sees it.
-use Rattle.std.proofs.Common.{◌≡◌, ◌⊎◌, ℕ, ◌≤◌, List, ◌++◌, length, Option, Some, None, Result, Ok, Err, IfOk, IfSome, IfNone, IsTrue, sym, ap, ◌∙◌, subst}
+use Rattle.std.proofs.Common.{◌≡◌, ◌⊎◌, ℕ, ◌≤◌, List, ◌++◌, length, Option, Some, None, Result, Ok, Err, IfOk, IfSome, IfNone, sym, ap, ◌∙◌, subst}
 use Rattle.std.specs.Prelude.{option_map}
 use mathlib.Core.List.{IsPrefix}
 use Rattle.arch_disk.specs.Disk.{Device}
@@ -7,7 +7,6 @@ use Rattle.arch_types.specs.declared.row.Row.{Row}
 use Rattle.intervals.specs.declared.interval.Interval.{Interval}
 use Rattle.history_items.specs.declared.items.Item.{Item}
 use Rattle.history_items.specs.Databases.{database_in}
-use Rattle.history_items.specs.Items.{rows_in}
 use Rattle.history_items.specs.Late.{IsLate}
 use Rattle.interval_fills.specs.Intervals.{rows_of_interval}
 use Rattle.param_segments.specs.Rows.{SetRow}
@@ -16,6 +15,7 @@ use Rattle.store_fills.specs.Filled.{HoldsRows}
 use Rattle.store_fills.specs.LastFills.{fillings_in}
 use Rattle.archive_store.specs.CurrentSets.{IsCurrentSet}
 use Rattle.archive_store.specs.Laws.{ReplaysKeepTheirFront}
+use Rattle.archive_store.specs.Replays.{rows_below}
 use Rattle.archive_store.specs.StoreView.{StoreView}
 use Rattle.live_archive.specs.Answers.{AreSegments, WhereSound}
 
@@ -29,8 +29,8 @@ segments_found device store interval f (Ok None) some none holds = record { some
 segments_found device store interval f (Err e) some none holds = some
 
 -- a replay gives the same rows over any history that begins with one that has its front
-pub rows_as_seen : {E : Type 0} (r : Result (List Row) E) (old new : CursorView) (seen now : List Item) → ReplaysKeepTheirFront → old.front ≤ length (rows_in seen) → IsPrefix seen now → AsksTheSame old new
-    → IfOk r (λ rows. rows ++ rest_of new (rows_in now) ≡ rest_of old (rows_in now)) → IfOk r (λ rows. rows ++ rest_of new (rows_in seen) ≡ rest_of old (rows_in seen))
+pub rows_as_seen : {E : Type 0} (r : Result (List Row) E) (old new : CursorView) (seen now : List Item) → ReplaysKeepTheirFront → old.front ≤ length seen → IsPrefix seen now → AsksTheSame old new
+    → IfOk r (λ rows. rows ++ rest_of new (rows_below now) ≡ rest_of old (rows_below now)) → IfOk r (λ rows. rows ++ rest_of new (rows_below seen) ≡ rest_of old (rows_below seen))
 rows_as_seen (Ok rows) old new seen now keep low p same is =
-    ap (λ (l : List Row). rows ++ l) (sym (keep new seen now (subst (λ (n : ℕ). n ≤ length (rows_in seen)) (sym same.at_front) low) p)) ∙ (is ∙ keep old seen now low p)
+    ap (λ (l : List Row). rows ++ l) (sym (keep new seen now (subst (λ (n : ℕ). n ≤ length seen) (sym same.at_front) low) p)) ∙ (is ∙ keep old seen now low p)
 rows_as_seen (Err e) old new seen now keep low p same is = is

@@ -1,5 +1,5 @@
 -- Each call of a store goes on from what there was.
-use Rattle.std.proofs.Common.{◌≡◌, ◌⊎◌, inl, inr, ⊎_elim, ℕ, zero, suc, ◌+◌, ◌≤◌, Bool, true, false, List, [], ◌∷◌, ◌++◌, length, fold, IsTrue, Option, Some, None, Result, Ok, Err, MatchResult, if◌then◌else◌, refl, sym, ap, ◌∙◌, subst, arith, append_assoc, append-nil, length-append, le_refl}
+use Rattle.std.proofs.Common.{◌≡◌, inl, inr, ⊎_elim, ℕ, suc, ◌+◌, ◌≤◌, Bool, true, false, List, [], ◌∷◌, ◌++◌, length, fold, IsTrue, Option, Some, None, Result, Ok, Err, MatchResult, if◌then◌else◌, refl, sym, ap, ◌∙◌, subst, arith, append_assoc, append-nil, length-append, le_refl}
 use Rattle.std.specs.Option.{is_some, option_or}
 use mathlib.Core.List.{IsPrefix}
 use Rattle.arch_disk.specs.Disk.{Device, raised}
@@ -15,20 +15,19 @@ use Rattle.history_items.specs.declared.fills.Addition.TheVariants as additions
 use Rattle.history_items.specs.declared.fills.Fill.{Fill}
 use Rattle.history_items.specs.declared.fills.Fill.TheVariants.{Begun, Done, Freed, Fault}
 use Rattle.history_items.specs.declared.items.Item.{Item}
-use Rattle.history_items.specs.Items.{after_rows, items_of}
+use Rattle.history_items.specs.Items.{items_of}
 use Rattle.history_items.specs.Fills.{in_flight, is_same, pending_fault_of}
 use Rattle.history_items.specs.FillList.{flights_of}
 use Rattle.history_items.specs.Outcomes.{fresh_of}
 use Rattle.history_items.proofs.Outcomes.{fresh_added}
 use Rattle.interval_fills.specs.Steps.{freed, all_freed}
-use Rattle.interval_fills.proofs.Freed.{all_free}
 use Rattle.interval_fills.proofs.Steps.{same_interval}
 use Rattle.param_segments.specs.Rows.{SetRow}
 use Rattle.store_fills.specs.declared.task.FillTask.{FillTask}
 use Rattle.store_fills.specs.Built.{BuiltFill}
 use Rattle.store_fills.specs.Filled.{IsRightFill}
 use Rattle.store_fills.specs.LastFills.{fillings_in, fill_over}
-use Rattle.store_fills.specs.Sound.{Filling, Fillings, with_filling}
+use Rattle.store_fills.specs.Sound.{Filling, Fillings}
 use Rattle.store_fills.proofs.RightFills.{right_fill_stays}
 use Rattle.archive_store.specs.declared.head.Head.{Head}
 use Rattle.archive_store.specs.StoreView.{StoreView, OnlyAppends, AddsFault}
@@ -203,7 +202,7 @@ module _ {D : Type 0} (device : Device D) where
     appends = g;
     records = let r = f.records in let h = ap length history in let d = ap dones fills ∙ dones-append a.fills (Done done.interval done.base ∷ []) in omega (arith, r, h, d);
     faults = inl (ap faults_in fills ∙ (faults_in-append a.fills (Done done.interval done.base ∷ []) ∙ append-nil (faults_in a.fills)), f.no_failed_write);
-    sets = λ clear j. by_same (right clear).1 j (is_same j done.interval) refl (ap (λ (s : Fillings (List SetRow)). s j) (f.filled (right clear).0));
+    sets = λ clear j. by_same (right clear).1 j (is_same j done.interval) refl (ap (λ (s : Fillings (List SetRow)). s j) f.filled);
   }
     where
       history : b.history ≡ a.history

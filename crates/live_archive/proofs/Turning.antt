@@ -1,5 +1,6 @@
 -- A turn, from its beginning and its end.
-use Rattle.std.proofs.Common.{◌≡◌, ℕ, ◌+◌, ◌-◌, ◌≤◌, List, [], ◌∷◌, ◌++◌, length, take, Result, Ok, Err, IfOk, IfErr, MatchResult, refl, sym, ap, ◌∙◌, subst}
+use Rattle.std.proofs.Common.{◌≡◌, ℕ, ◌-◌, ◌≤◌, List, [], ◌∷◌, ◌++◌, length, take, Result, Ok, Err, IfOk, IfErr, MatchResult, refl, sym, ap, ◌∙◌, subst}
+use Rattle.std.specs.Prelude.{IsErrAnd}
 use Rattle.std.specs.List.{range_with_len}
 use mathlib.Core.List.{IsPrefix}
 use Rattle.arch_disk.specs.Disk.{Device}
@@ -18,6 +19,11 @@ pub matched : {X E : Type 0} (r : Result X E) (P : X → Type 0) (Q : E → Type
 matched (Ok x) P Q p q = p
 matched (Err e) P Q p q = q
 
+-- a refusal that is handed on
+pub handed_on : {X E : Type 0} (r : Result X E) (refusal : E) (P : X → Type 0) (Q : E → Type 0) → IsErrAnd r (λ e. e ≡ refusal) → Q refusal → MatchResult r P Q
+handed_on (Ok x) refusal P Q is q = absurd is
+handed_on (Err e) refusal P Q is q = subst Q (sym is) q
+
 -- what a list begins with is the list cut to its length
 cut_at : {A : Type 0} (xs ys : List A) → IsPrefix xs ys → take (length xs) ys ≡ xs
 cut_at {A = A} xs ys p = ap (take (length xs)) (sym p.1) ∙ take_all xs p.0
@@ -26,12 +32,24 @@ cut_at {A = A} xs ys p = ap (take (length xs)) (sym p.1) ∙ take_all xs p.0
     take_all [] more = refl
     take_all (x ∷ xs) more = ap (λ (l : List A). x ∷ l) (take_all xs more)
 
--- the lists that a turn leaves begin with those that its pass has seen by then
-pub turn_begins : {T : Type 0} (old mid : PassView Item Fill T) (h h' : List Item) (f f' : List Fill) → Found old mid h f → IsPrefix h h' → IsPrefix f f'
-    → IsPrefix mid.history.seen h' × IsPrefix mid.fills.seen f'
-turn_begins {T} old mid h h' f f' found p q = subst (λ (m : PassView Item Fill T). IsPrefix m.history.seen h' × IsPrefix m.fills.seen f') (sym found) (p, q)
+-- what the end of a turn asks of the store that it leaves
+pub record Leaving {D T : Type 0} (device : Device D) (first after : StoreView D) (mid : PassView Item Fill T) : Type 0 where
+  pub begins : IsPrefix mid.history.seen after.history
+  pub fills_begin : IsPrefix mid.fills.seen after.fills
+  pub value : GoesOn device first after
 
 module _ {D T : Type 0} (device : Device D) where
+  -- a store that goes on from the one that the turn found may be left
+  pub leaving : (first before after : StoreView D) (old mid : PassView Item Fill T) → GoesOn device first before → GoesOn device before after
+      → Found old mid before.history before.fills → Leaving device first after mid
+  leaving first before after old mid found goes entered =
+      subst (Leaving device first after) (sym entered) (record { begins = goes.appends.history; fills_begin = goes.appends.fills; value = goes_trans device first before after found goes })
+
+  -- what a call says of a turn may be said otherwise
+  pub turn_says : {first : StoreView D} {old new : PassView Item Fill T} {P Q : StoreView D → StoreView D → Type 0}
+      → TookTurn device first old new P → ((before after : StoreView D) → P before after → Q before after) → TookTurn device first old new Q
+  turn_says turn says = record { before = turn.before; after = turn.after; turned = turn.turned; said = says turn.before turn.after turn.said }
+
   pub took : (first before after : StoreView D) (old mid new : PassView Item Fill T) (Said : StoreView D → StoreView D → Type 0)
       → GoesOn device first before → GoesOn device before after
       → IsPrefix old.history.seen before.history → IsPrefix old.fills.seen before.fills

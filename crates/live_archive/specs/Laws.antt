@@ -1,13 +1,20 @@
--- What the turns of a pass come to.
+-- What the turns of a pass come to, and what may be built beside them.
 use Rattle.std.specs.Prelude.{◌≡◌, ◌+◌, ◌-◌, ◌≤◌, ◌++◌, length, take}
 use Rattle.std.specs.List.{range_with_len}
 use mathlib.Core.List.{IsPrefix}
+use Rattle.std.specs.Arc.{arc_value}
 use Rattle.arch_disk.specs.Disk.{Device}
 use Rattle.history_items.specs.declared.fills.Fill.{Fill}
 use Rattle.history_items.specs.declared.items.Item.{Item}
+use Rattle.param_segments.specs.Extracted.{IsSetOf}
+use Rattle.store_fills.specs.declared.task.FillTask.{FillTask}
+use Rattle.store_fills.specs.Built.{BuiltFill}
+use Rattle.store_fills.specs.Filled.{HoldsRows}
 use Rattle.turn_cell.specs.Pass.{PassView}
+use Rattle.archive_store.specs.Installs.{IsRightFor}
 use Rattle.archive_store.specs.StoreView.{StoreView, OnlyAppends}
-use Rattle.live_archive.specs.Turns.{Turned}
+use Rattle.archive_store.specs.Tasks.{BeginsTask}
+use Rattle.live_archive.specs.Turns.{Turned, as_seen}
 
 -- The pass has had one turn more. It has seen the whole lists that the turn left, which begin with those that it had seen;
 -- cut to the lengths that the turn found, at least those seen before, they are the lists that it found. The turn's places
@@ -30,3 +37,23 @@ pub record IsTold {D T : Type 0} (first before after : StoreView D) (old new : P
 abbrev pub TurnsAreTold : {D : Type 0} → (T : Type 0) → Device D → Type 0
 TurnsAreTold {D = D} T device = (first before after : StoreView D) (old new : PassView Item Fill T) →
     Turned device first before after old new → IsTold first before after old new
+
+-- a fill is built of a task: its set is of the task's interval and database, and holds what the task's rows give
+pub record IsBuiltOf (task : FillTask) (done : BuiltFill) : Type 0 where
+  pub interval : done.interval ≡ task.interval
+  pub base : done.base ≡ task.base
+  pub exponent : done.exponent ≡ task.exponent
+  pub mdb : done.mdb ≡ arc_value task.mdb
+  pub fits : IsSetOf (arc_value task.mdb) task.exponent task.interval.0 done.set
+  pub holds : HoldsRows (arc_value task.mdb) done.set task.rows
+
+-- What is built of a task is right for the history that its pass has seen when the turn ends in which the task began.
+abbrev pub BuiltIsRight : {D : Type 0} → (T : Type 0) → Device D → Type 0
+BuiltIsRight {D = D} T device = (first before after : StoreView D) (old new : PassView Item Fill T) (task : FillTask)
+    (done : BuiltFill) → Turned device first before after old new → BeginsTask before after task →
+    IsBuiltOf task done → IsRightFor (as_seen first new) done
+
+-- It stays so as the pass sees more.
+abbrev pub RightStays : {D : Type 0} → (T : Type 0) → Device D → Type 0
+RightStays {D = D} T device = (first : StoreView D) (old new : PassView Item Fill T) (done : BuiltFill) →
+    IsPrefix old.history.seen new.history.seen → IsRightFor (as_seen first old) done → IsRightFor (as_seen first new) done

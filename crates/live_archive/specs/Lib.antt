@@ -1,4 +1,6 @@
 pub mod GoesOn
 pub mod Turns
 pub mod Answers
+pub mod Retrievals
 pub mod Laws
+pub mod Added

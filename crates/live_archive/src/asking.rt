@@ -3,10 +3,9 @@
 ghost use Rattle.std.specs.Prelude.{◌≡◌, ◌≤◌, ◌<◌, ◌++◌, [], length, IfOk, IfErr};
 ghost use Rattle.std.specs.List.{AllByRecursion};
 ghost use Rattle.refusals.specs.declared.refusal.Refusal.TheVariants.{OutOfMemory};
-ghost use Rattle.history_items.specs.Items.{rows_in};
 ghost use Rattle.replay_merge.specs.Cursor.{AsksTheSame, steps_at_most, EndsExactly, IsRowAsked, rest_of};
 ghost use Rattle.archive_store.specs.Finding.{IsReplayFound};
-ghost use Rattle.archive_store.specs.Replays.{IsReplayOpened};
+ghost use Rattle.archive_store.specs.Replays.{IsReplayOpened, rows_below};
 ghost use Rattle.turn_cell.specs.Pass.{IsFree};
 ghost use Rattle.live_archive.specs.Turns.{TookTurn};
 
@@ -53,13 +52,13 @@ impl<D: Disk> LiveOver<HeldStore<D>> {
         limit: u64,
     ) -> Result<Rows, Refusal>
         requires free { IsFree self.now.cell pass.old }
-        requires front { cursor.old.front ≤ length (rows_in pass.old.history.seen) }
+        requires front { cursor.old.front ≤ length pass.old.history.seen }
         ensures free { IsFree self.now.cell pass.new }
         ensures turn { TookTurn D.device self.now.cell.first.store pass.old pass.new (λ before after. after ≡ before) }
 
         // The rows are those of the history that the caller has seen, whatever came to it since.
-        ensures rows { IfOk result (λ rows. rows ++ rest_of cursor.new (rows_in pass.old.history.seen)
-            ≡ rest_of cursor.old (rows_in pass.old.history.seen)) }
+        ensures rows { IfOk result (λ rows. rows ++ rest_of cursor.new (rows_below pass.old.history.seen)
+            ≡ rest_of cursor.old (rows_below pass.old.history.seen)) }
         ensures end { IfOk result (EndsExactly limit cursor.old cursor.new) }
         ensures nearer { IfOk result (λ rows. (rows ≡ [] → ⊥) → steps_at_most cursor.new < steps_at_most cursor.old) }
         ensures few { IfOk result (λ rows. length rows ≤ limit) }

@@ -4,12 +4,15 @@
 // and what these added (`PassView` of turn_cell). What a call answers is the store's own answer, said of the two stores that
 // its turn found and left (`TookTurn` in specs/Turns.antt); the lists of the first begin with those that the pass had seen,
 // and its lists are those of the second from then on. A caller is told nothing else of the store: what it has to know of it,
-// as that a fill is right, it knows of what it has seen. Callers: the jobs of a load.
+// as that a fill is right, it knows of what it has seen. What a call put behind the lists, and at which places, is a law
+// (`calls_add`), so that nobody above has to know of the cell. Callers: the jobs of a load.
 //
 // The value of the cell is the store (src/held.rt). The one idea of the proof: each call of a store goes on from what there
 // was, whatever it answers (`GoesOn` in specs/GoesOn.antt, proofs/Going.antt), and what goes on from what goes on, goes on.
-// `front`, `split`, `join` and `close` take no turn and wait for nobody.
-// To be changed together: a call of the store that adds to a list, `GoesOn`, and its lemma in proofs/Going.antt.
+// `front`, `split`, `join` and `close` take no turn and wait for nobody; a retrieval is planned in its turn, and answered
+// behind it.
+// To be changed together: a call of the store that adds to a list, `GoesOn` and its lemma in proofs/Going.antt, and what it
+// adds (specs/Added.antt).
 #![tactic(auto)]
 
 mod asking;
@@ -18,6 +21,7 @@ mod held;
 mod ingesting;
 pub mod laws;
 mod live;
+mod retrieving;
 
 pub use held::HeldStore;
 pub use live::{Live, LiveOver, LivePass};

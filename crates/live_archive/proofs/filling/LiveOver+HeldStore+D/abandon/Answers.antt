@@ -1,28 +1,17 @@
-use Rattle.std.proofs.Common.{refl, ◌≡◌}
-use Rattle.live_archive.proofs.Going.{goes_freed, goes_trans}
-use Rattle.live_archive.proofs.Turning.{matched, turn_begins, took}
+use Rattle.live_archive.proofs.Going.{goes_freed}
+use Rattle.live_archive.proofs.Turning.{leaving, took}
 use Rattle.live_archive.proofs.filling.LiveOver+HeldStore+D.abandon.Goals as goal
 
-pub leave-requires-clause-begins : goal.leave-requires-clause-begins
-leave-requires-clause-begins g c =
+pub leave-requires : goal.leave-requires
+leave-requires g c =
     let go = goes_freed g.D.Disk.device c.enter-held.result.store c.abandon.new.self c.args.task.interval c.abandon.ensures.freed in
-    (turn_begins c.args.pass.now c.enter-held.new.pass _ _ _ _ c.enter-held.ensures.found go.appends.history go.appends.fills).0
-
-pub leave-requires-clause-fills_begin : goal.leave-requires-clause-fills_begin
-leave-requires-clause-fills_begin g c =
-    let go = goes_freed g.D.Disk.device c.enter-held.result.store c.abandon.new.self c.args.task.interval c.abandon.ensures.freed in
-    (turn_begins c.args.pass.now c.enter-held.new.pass _ _ _ _ c.enter-held.ensures.found go.appends.history go.appends.fills).1
-
-pub leave-requires-clause-value : goal.leave-requires-clause-value
-leave-requires-clause-value g c = goes_trans g.D.Disk.device _ _ _ c.enter-held.ensures.value (goes_freed g.D.Disk.device c.enter-held.result.store c.abandon.new.self c.args.task.interval c.abandon.ensures.freed)
+    let left = leaving g.D.Disk.device _ c.enter-held.result.store c.abandon.new.self c.args.pass.now c.enter-held.new.pass c.enter-held.ensures.value go c.enter-held.ensures.found in
+    record { turn = c.enter-held.ensures.turn; begins = left.begins; fills_begin = left.fills_begin; value = left.value }
 
 pub returns-clause-turn : goal.returns-clause-turn
 returns-clause-turn g c =
+    let go = goes_freed g.D.Disk.device c.enter-held.result.store c.abandon.new.self c.args.task.interval c.abandon.ensures.freed in
+    let entered = c.enter-held.ensures in
     took g.D.Disk.device _ c.enter-held.result.store c.abandon.new.self c.args.pass.now c.enter-held.new.pass c.leave.new.pass _
-    c.enter-held.ensures.value
-    (goes_freed g.D.Disk.device c.enter-held.result.store c.abandon.new.self c.args.task.interval c.abandon.ensures.freed)
-    c.enter-held.ensures.begins
-    c.enter-held.ensures.fills_begin
-    c.enter-held.ensures.found
-    c.leave.ensures.left
+    entered.value go entered.begins entered.fills_begin entered.found c.leave.ensures.left
     c.abandon.ensures.freed

@@ -1,27 +1,20 @@
-use Rattle.std.proofs.Common.{refl, ◌≡◌}
+use Rattle.std.proofs.Common.{refl}
 use Rattle.std.specs.Arc.{arc_value}
 use Rattle.live_archive.proofs.Asked.{segments_found}
 use Rattle.live_archive.proofs.Going.{goes_start}
-use Rattle.live_archive.proofs.Turning.{matched, turn_begins, took}
+use Rattle.live_archive.proofs.Turning.{leaving, took}
 use Rattle.live_archive.proofs.filling.LiveOver+HeldStore+D.segments.Goals as goal
 
-pub leave-requires-clause-begins : goal.leave-requires-clause-begins
-leave-requires-clause-begins g c =
+pub leave-requires : goal.leave-requires
+leave-requires g c =
     let go = goes_start g.D.Disk.device c.enter-held.result.store in
-    (turn_begins c.args.pass.now c.enter-held.new.pass _ _ _ _ c.enter-held.ensures.found go.appends.history go.appends.fills).0
-
-pub leave-requires-clause-fills_begin : goal.leave-requires-clause-fills_begin
-leave-requires-clause-fills_begin g c =
-    let go = goes_start g.D.Disk.device c.enter-held.result.store in
-    (turn_begins c.args.pass.now c.enter-held.new.pass _ _ _ _ c.enter-held.ensures.found go.appends.history go.appends.fills).1
+    let left = leaving g.D.Disk.device _ c.enter-held.result.store c.enter-held.result.store c.args.pass.now c.enter-held.new.pass c.enter-held.ensures.value go c.enter-held.ensures.found in
+    record { turn = c.enter-held.ensures.turn; begins = left.begins; fills_begin = left.fills_begin; value = left.value }
 
 pub returns-clause-turn : goal.returns-clause-turn
 returns-clause-turn g c =
+    let go = goes_start g.D.Disk.device c.enter-held.result.store in
+    let entered = c.enter-held.ensures in
     took g.D.Disk.device _ c.enter-held.result.store c.enter-held.result.store c.args.pass.now c.enter-held.new.pass c.leave.new.pass _
-    c.enter-held.ensures.value
-    (goes_start g.D.Disk.device c.enter-held.result.store)
-    c.enter-held.ensures.begins
-    c.enter-held.ensures.fills_begin
-    c.enter-held.ensures.found
-    c.leave.ensures.left
+    entered.value go entered.begins entered.fills_begin entered.found c.leave.ensures.left
     (refl, segments_found g.D.Disk.device c.enter-held.result.store c.args.interval arc_value c.segments-found.result c.segments-found.ensures.some c.segments-found.ensures.none c.segments-found.ensures.holds)

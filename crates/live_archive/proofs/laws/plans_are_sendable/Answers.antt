@@ -1,0 +1,7 @@
+use denote.Param.Send.{sendable}
+use Rattle.std.proofs.Crossing.{crosses}
+use Rattle.live_archive.proofs.Sending.{mdb_send, mdb_sync, set_send, set_sync}
+use Rattle.live_archive.proofs.laws.plans_are_sendable.Goals as goal
+
+pub is_sendable-requires-send-T : goal.is_sendable-requires-send-T
+is_sendable-requires-send-T c κs = search (crosses, mdb_send, mdb_sync, set_send, set_sync, sendable) depth 60 fits 10000

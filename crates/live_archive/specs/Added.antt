@@ -1,0 +1,121 @@
+-- What each call adds to what its pass has seen.
+use Rattle.std.specs.Prelude.{◌≡◌, ℕ, ◌+◌, List, [], ◌∷◌, ◌++◌, length, Option, Some, None, Result, Ok, Err, true, if◌then◌else◌}
+use Rattle.std.specs.List.{range_with_len}
+use Rattle.std.specs.Option.{is_some}
+use mathlib.Core.List.{IsPrefix}
+use Rattle.arch_disk.specs.Disk.{Device}
+use Rattle.arch_types.specs.declared.inserted.Installed.{Installed}
+use Rattle.arch_types.specs.declared.inserted.Installed.TheVariants as became
+use Rattle.arch_types.specs.declared.row.Row.{Row}
+use Rattle.intervals.specs.declared.interval.Interval.{Interval}
+use Rattle.refusals.specs.declared.refusal.Refusal.{Refusal}
+use Rattle.refusals.specs.declared.refusal.Refusal.TheVariants.{DiskFault}
+use Rattle.history_items.specs.declared.fills.Addition.{Addition}
+use Rattle.history_items.specs.declared.fills.Addition.TheVariants as additions
+use Rattle.history_items.specs.declared.fills.Fill.{Fill}
+use Rattle.history_items.specs.declared.fills.Fill.TheVariants.{Begun, Done, Freed, Fault}
+use Rattle.history_items.specs.declared.items.Item.{Item}
+use Rattle.history_items.specs.Fills.{in_flight}
+use Rattle.history_items.specs.Items.{items_of}
+use Rattle.history_items.specs.Outcomes.{fresh_of}
+use Rattle.interval_fills.specs.Steps.{freed}
+use Rattle.store_fills.specs.declared.task.FillTask.{FillTask}
+use Rattle.store_fills.specs.Built.{BuiltFill}
+use Rattle.turn_cell.specs.declared.view.SeenList.{SeenList}
+use Rattle.turn_cell.specs.Pass.{PassView}
+use Rattle.archive_store.specs.declared.batch.Ingested.{Ingested}
+use Rattle.archive_store.specs.StoreView.{StoreView}
+use Rattle.live_archive.specs.Answers.{SaysBegun, SaysIngested, SaysInstalled}
+use Rattle.live_archive.specs.Turns.{Turned}
+
+-- ---- what a turn adds
+
+-- its pass found a list that begins with the one seen before, and put these items behind it, at places of its own
+pub record Adds {I : Type 0} (old new : SeenList I) (found put : List I) : Type 0 where
+  pub begins : IsPrefix old.seen found
+  pub seen : new.seen ≡ found ++ put
+  pub length_found : new.found ≡ length found
+  pub added : new.added ≡ old.added + length put
+  pub places : new.places ≡ old.places ++ range_with_len (length found) (length put)
+
+-- it found the history and the fill list of a store, and put these items behind them
+pub record AddsTo {D T : Type 0} (before : StoreView D) (old new : PassView Item Fill T) (items : List Item)
+    (noted : List Fill) : Type 0 where
+  pub turns : new.turns ≡ old.turns + 1
+  pub share : new.share ≡ old.share
+  pub history : Adds old.history new.history before.history items
+  pub fills : Adds old.fills new.fills before.fills noted
+
+-- ---- what each call puts
+
+-- the rows of a batch whose keys the history lacked, where it was taken
+abbrev pub items_put : List Item → List Row → Result Ingested Refusal → List Item
+items_put history rows (Ok ingest) = items_of (fresh_of history rows)
+items_put history rows (Err refusal) = []
+
+-- where the disk failed, a fault of what would have been added; else nothing
+abbrev pub AreFaults : Addition → Refusal → List Fill → Type 0
+AreFaults addition DiskFault noted = (count : ℕ) × (noted ≡ Fault count true addition ∷ [])
+AreFaults addition _ noted = noted ≡ []
+
+-- what a batch leaves behind the fill list
+abbrev pub IngestNotes : List Item → List Row → Result Ingested Refusal → List Fill → Type 0
+IngestNotes history rows (Ok ingest) noted = noted ≡ []
+IngestNotes history rows (Err refusal) noted = AreFaults (additions.Rows (fresh_of history rows)) refusal noted
+
+-- the beginning of a flight, where one began
+abbrev pub flight_begun : Option FillTask → List Fill
+flight_begun None = []
+flight_begun (Some task) = Begun task.interval task.base ∷ []
+
+abbrev pub begin_notes : Result (Option FillTask) Refusal → List Fill
+begin_notes (Ok begun) = flight_begun begun
+begin_notes (Err refusal) = []
+
+-- the end of a flight, where there is one
+abbrev pub flight_ended : Interval → List Fill → List Fill
+flight_ended interval fills = if is_some (in_flight interval fills) then Freed interval ∷ [] else []
+
+-- the fill that is there, or the end of its flight
+abbrev pub fill_notes : List Fill → BuiltFill → Installed → List Fill
+fill_notes fills done became.Done = Done done.interval done.base ∷ []
+fill_notes fills done (became.Stale position) = flight_ended done.interval fills
+
+-- what an install leaves behind the fill list; where it is refused, the end of the flight comes last
+abbrev pub InstallNotes : List Fill → BuiltFill → Result Installed Refusal → List Fill → Type 0
+InstallNotes fills done (Ok installed) noted = noted ≡ fill_notes fills done installed
+InstallNotes fills done (Err refusal) noted =
+    (faults : List Fill) × AreFaults (additions.Fill done.interval done.base) refusal faults
+    × (noted ≡ faults ++ flight_ended done.interval fills)
+
+-- ---- by call
+
+module _ {D : Type 0} (T : Type 0) (device : Device D) where
+  abbrev pub IngestsAdd : Type 0
+  IngestsAdd = (first before after : StoreView D) (old new : PassView Item Fill T) (rows : List Row)
+      (answer : Result Ingested Refusal) →
+      Turned device first before after old new → SaysIngested device rows answer before after →
+      (noted : List Fill) × IngestNotes before.history rows answer noted
+      × AddsTo before old new (items_put before.history rows answer) noted
+
+  abbrev pub BeginsAdd : Type 0
+  BeginsAdd = (first before after : StoreView D) (old new : PassView Item Fill T)
+      (answer : Result (Option FillTask) Refusal) →
+      Turned device first before after old new → SaysBegun answer before after →
+      AddsTo before old new [] (begin_notes answer)
+
+  abbrev pub InstallsAdd : Type 0
+  InstallsAdd = (first before after : StoreView D) (old new : PassView Item Fill T) (done : BuiltFill)
+      (answer : Result Installed Refusal) →
+      Turned device first before after old new → SaysInstalled device done answer before after →
+      (noted : List Fill) × InstallNotes before.fills done answer noted × AddsTo before old new [] noted
+
+  abbrev pub AbandonsAdd : Type 0
+  AbandonsAdd = (first before after : StoreView D) (old new : PassView Item Fill T) (interval : Interval) →
+      Turned device first before after old new → after ≡ record before { fills = freed interval before.fills } →
+      AddsTo before old new [] (flight_ended interval before.fills)
+
+  -- a call that leaves the store as it found it
+  abbrev pub AsksAddNothing : Type 0
+  AsksAddNothing = (first before after : StoreView D) (old new : PassView Item Fill T) →
+      Turned device first before after old new → after ≡ before → AddsTo before old new [] []
