@@ -1,25 +1,23 @@
 -- A dump that is printed.
-use Rattle.std.proofs.Common.{◌≡◌, ◌⊎◌, ◌∙◌, inl, inr, ℤ, ℕ, ◌+◌, ◌≤◌, ◌-◌, List, [], ◌∷◌, ◌++◌, length, true, Option, Some, None, refl, sym, ap, subst, append_assoc, arith}
+use Rattle.std.proofs.Common.{◌≡◌, ◌⊎◌, ◌∙◌, inl, inr, ℤ, ℕ, ◌≤◌, ◌-◌, List, [], ◌∷◌, ◌++◌, length, true, Option, Some, None, refl, sym, ap, subst, append_assoc, arith}
 use Rattle.std.specs.Prelude.{pos}
 use Rattle.std.proofs.lemmas.List.{length-append}
 use Rattle.std.specs.List.{concat}
+use Rattle.arch_disk.specs.Disk.{Device}
 use Rattle.arch_types.specs.Dump.{IsDump}
-use Rattle.arch_types.proofs.Dumps.{dump_is_one}
 use Rattle.refusals.specs.declared.refusal.BadKind.{BadKind}
 use Rattle.refusals.specs.declared.refusal.Refusal.{Refusal}
-use Rattle.refusals.specs.declared.refusal.Refusal.TheVariants.{BadPacket, WriteFault}
+use Rattle.refusals.specs.declared.refusal.Refusal.TheVariants.{BadPacket}
 use Rattle.outer_traits.specs.Outside.{WritesSome}
-use Rattle.command_plans.specs.Plan.{OfOutput, Requires, Way, is_interruption, refusal_at}
-use Rattle.command_runs.specs.declared.report.Report.{Report}
-use Rattle.command_runs.specs.Command.{Effects, Progress, printing_then_plan}
+use Rattle.command_plans.specs.Plan.{Requires, Way, is_interruption, refusal_at}
+use Rattle.command_runs.specs.Command.{Progress, printing_then_plan}
 use Rattle.command_runs.specs.DumpRest.{IsBadRest, bad_kind_of, ending_of_rest}
 use Rattle.command_runs.specs.Moment.{IsMomentOf}
-use Rattle.command_runs.specs.Report.{unopened}
 use Rattle.command_runs.proofs.DumpRest.{bad_ending}
-use Rattle.command_laws.specs.Calls.{IsRefusedBy, Prints, PrintsSome, Succeeded, WasInterrupted}
+use Rattle.command_laws.specs.Calls.{Call, IsRefusedBy, Prints, PrintsSome, Succeeded, WasInterrupted}
 use Rattle.command_laws.specs.Dumps.{IsDumpPrinted}
 use Rattle.command_laws.proofs.Readings.{IsNoBadPacket}
-use Rattle.command_laws.proofs.Runs.{all_is_some, none_is_some, none_or_some, or_interrupted, refused, same_refusal, succeeded}
+use Rattle.command_laws.proofs.Runs.{IsEndOf, all_is_some, none_is_some, none_or_some, or_unwritten, same_refusal, told}
 
 -- there's a moment that the clock tells, or one in its range
 pub some_moment : (clock : Option ℤ) → (moment : ℤ) × IsMomentOf clock moment
@@ -41,7 +39,7 @@ bad_rest_of dump (octet ∷ rest) at kind fits is =
     (omega (arith, place, fits), sym why)
 
 -- where there's no refusal nothing is left
-none_left : (dump rest : List ℕ) → ending_of_rest dump rest ≡ None → rest ≡ []
+pub none_left : (dump rest : List ℕ) → ending_of_rest dump rest ≡ None → rest ≡ []
 none_left dump [] is = refl
 none_left dump (octet ∷ rest) is = absurd (cc (is))
 
@@ -64,7 +62,7 @@ not_bad {at = at} {kind = kind} refusal is other = go (subst (λ (r : Refusal). 
     go (inl cut) = cc (cut)
     go (inr none) = none
 
-module _ {D : Type 0} (e : Effects D) (lines last : List ℕ) where
+module _ {D : Type 0} (e : Call D) (lines last : List ℕ) where
   some_of : (rest : List ℕ) → PrintsSome e (text_by rest lines last) → PrintsSome e (lines ++ last)
   some_of [] some = some
   some_of (octet ∷ rest) some = longer e.output.written e.output'.written lines last some
@@ -111,20 +109,20 @@ module _ {D : Type 0} (e : Effects D) (lines last : List ℕ) where
 
 -- ---- what is due
 
-module _ {D : Type 0} (e : Effects D) (way : Way Progress ⊥) (at : refusal_at way ≡ e.report.refusal) (s : Progress) (text dump rest : List ℕ) where
-  ends_so : Requires (printing_then_plan s text (ending_of_rest dump rest)) way → (e.report.refusal ≡ ending_of_rest dump rest) ⊎ WasInterrupted e
-  ends_so (inl is) = or_interrupted e way at (e.report.refusal ≡ ending_of_rest dump rest) _ OfOutput is
-  ends_so (inr is) = inl (sym at ∙ ap refusal_at is)
+module _ {D : Type 0} {device : Device D} (e : Call D) (way : Way Progress ⊥) (at : IsEndOf device e way) (s : Progress) (text dump rest : List ℕ) where
+  ends_so : Requires (printing_then_plan s text (ending_of_rest dump rest)) way → (e.report.refusal ≡ ending_of_rest dump rest) ⊎ WasInterrupted device e
+  ends_so (inl is) = or_unwritten e way at (e.report.refusal ≡ ending_of_rest dump rest) _ is
+  ends_so (inr is) = inl (told e way at ∙ ap refusal_at is)
 
   -- all of a dump of packets alone
-  pub whole_due : rest ≡ [] → Requires (printing_then_plan s text (ending_of_rest dump rest)) way → Succeeded e ⊎ WasInterrupted e
+  pub whole_due : rest ≡ [] → Requires (printing_then_plan s text (ending_of_rest dump rest)) way → Succeeded e ⊎ WasInterrupted device e
   whole_due none required = elim (ends_so required) [
     | inl ended ↦ inl (ended ∙ ap (ending_of_rest dump) none)
     | inr cut ↦ inr cut
   ]
 
   -- and else the BadPacket of the rest
-  pub bad_due : (place : ℕ) (kind : BadKind) → IsBadRest dump rest place kind → Requires (printing_then_plan s text (ending_of_rest dump rest)) way → IsRefusedBy e (BadPacket place kind)
+  pub bad_due : (place : ℕ) (kind : BadKind) → IsBadRest dump rest place kind → Requires (printing_then_plan s text (ending_of_rest dump rest)) way → IsRefusedBy device e (BadPacket place kind)
   bad_due place kind bad required = elim (ends_so required) [
     | inl ended ↦ inl (ended ∙ sym (bad_ending dump rest place kind bad))
     | inr cut ↦ inr cut

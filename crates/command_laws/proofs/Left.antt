@@ -1,23 +1,28 @@
 -- What the end of a plan leaves of the disk and of the archive.
-use Rattle.std.proofs.Common.{◌≡◌, ◌⊎◌, ◌∙◌, inl, inr, ℕ, [], length, Bool, true, false, Option, Some, None, refl, sym, ap, subst}
-use Rattle.std.specs.Prelude.{IsSome, IsTrue}
+use Rattle.std.proofs.Common.{◌≡◌, ◌⊎◌, ◌∙◌, inl, inr, List, [], length, Bool, true, false, Option, Some, refl, sym, ap, subst, arith}
+use Rattle.std.specs.Prelude.{Contains, IsSome, IsTrue}
 use Rattle.arch_disk.specs.Image.{Image}
 use Rattle.arch_disk.specs.Disk.{Device, LeavesOnly}
 use Rattle.arch_disk.proofs.Moments.{both, joins, started, weakens}
 use Rattle.refusals.specs.declared.refusal.Refusal.{Refusal}
+use Rattle.history_items.specs.declared.items.Item.{Item}
 use Rattle.archive_store.specs.Entries.{FilledArchive}
 use Rattle.archive_store.specs.Stands.{IsSoundImage, StandsFilled}
 use Rattle.command_runs.specs.declared.report.Report.{Report}
-use Rattle.command_runs.specs.Command.{Effects}
+use Rattle.command_runs.specs.Extension.{KeepsFills}
 use Rattle.command_runs.specs.ReadOnly.{IsOpenedThen, IsReadAsBefore, IsReadOnly}
 use Rattle.command_runs.specs.Report.{read_only, unopened}
-use Rattle.command_laws.specs.Calls.{HasKeptRows, IsSameArchive, IsUnopened, IsUntouched, LeavesAll, LeavesSinceOpening, Prints}
+use Rattle.command_laws.specs.HandedBack.{IsHandedBack}
+use Rattle.command_laws.specs.Calls.{Call, IsSameArchive, IsUnopened, IsUntouched, LeavesAll, LeavesSinceOpening, Prints}
 
 -- a call says that an archive was opened, or that none was
 pub opened_once : {Q : Type 0} (b : Bool) → b ≡ true → b ≡ false → Q
 opened_once b is other = let never : ◌≡◌ {A = Bool} true false = sym is ∙ other in absurd (cc (never))
 
-module _ {D : Type 0} (device : Device D) (e : Effects D) where
+pub none_contained : {X : Type 0} (x : X) → Contains {X = X} [] x → ⊥
+none_contained x (place, below, is) = omega (arith, below)
+
+module _ {D : Type 0} (device : Device D) (e : Call D) where
   -- nothing was asked of the disk
   pub not_asked : e.disk' ≡ e.disk → IsReadAsBefore device e.disk e.disk'
   not_asked same = subst (λ (disk : D). IsReadAsBefore device e.disk disk) (sym same) (record { reads = refl; images = started device e.disk (device.images e.disk) (λ c now. now) })
@@ -54,6 +59,19 @@ module _ {D : Type 0} (device : Device D) (e : Effects D) where
         opened = λ yes'. since_opening (λ (c : Image). StandsFilled c filled) (IsSameArchive device e) only.images (λ c stands. (filled, only.stands, stands));
         report = inr (filled, only.stands, report ∙ ap (λ (r : Option Refusal). read_only r (length filled.plain.history)) (sym is));
       }
+
+  -- it is handed back as it was,
+  abbrev pub read_back : (before : FilledArchive) → IsReadOnly device e.disk e.disk' before → IsHandedBack device e before before.plain.history
+  read_back before only = record {
+    fillings = before.fillings;
+    adds = λ i. inl refl;
+    reads = subst (λ (i : Image). StandsFilled i before) (sym only.reads) only.stands;
+    images = only.now;
+  }
+
+  -- or with more fills
+  abbrev pub kept_back : (before : FilledArchive) (history : List Item) → KeepsFills device e.disk' before history → IsHandedBack device e before history
+  kept_back before history kept = record { fillings = kept.fillings; adds = kept.adds; reads = kept.durable.reads; images = kept.durable.now }
 
   -- where each image of the disk handed in is sound and has Q, so is each of a moment: before the opening's syncs and since
   sound_since : IsTrue device.is_transparent → (Q : Image → Type 0) → LeavesSinceOpening device e Q → ((c : Image) → device.images e.disk c → IsSoundImage c × Q c)

@@ -1,10 +1,14 @@
 pub mod Created
 pub mod Dumps
 pub mod Files
+pub mod Firsts
 pub mod Left
+pub mod LoadDue
+pub mod Loaded
 pub mod OverRows
 pub mod Queried
 pub mod Readings
+pub mod Received
 pub mod Recovered
 pub mod Runs
 pub mod Scanned

@@ -4,7 +4,6 @@ use Rattle.std.specs.Prelude.{unwrap_or}
 use Rattle.arch_types.specs.declared.cell.Cell.{Cell}
 use Rattle.asks.specs.declared.ask.Ask.{Ask}
 use Rattle.asks.specs.declared.ask.Ask.TheVariants.{Values, Replay}
-use Rattle.asks.specs.declared.ask.Request.{Request}
 use Rattle.asks.specs.Names.{parameter_number}
 use Rattle.history_items.specs.declared.items.Item.{Item}
 use Rattle.history_items.specs.Databases.{database_in}

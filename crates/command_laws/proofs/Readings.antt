@@ -1,5 +1,5 @@
 -- The reading of known files: its ends, and what is due behind it.
-use Rattle.std.proofs.Common.{◌≡◌, ◌⊎◌, ◌∙◌, inl, inr, ℕ, ◌+◌, ◌≤◌, ◌<◌, List, [], length, Bool, true, false, Option, Some, None, refl, sym, ap, subst, arith}
+use Rattle.std.proofs.Common.{◌≡◌, ◌⊎◌, inl, inr, ℕ, ◌+◌, ◌<◌, List, [], ◌∷◌, length, Bool, true, false, Option, Some, None, refl, sym, subst, arith}
 use Rattle.std.specs.Prelude.{IsNone, IsSome, IsSomeAnd}
 use Rattle.std.specs.FinMap.{get}
 use Rattle.arch_disk.specs.Disk.{Device}
@@ -12,40 +12,92 @@ use Rattle.mdb_items.specs.declared.sheet.RawMdb.{RawMdb}
 use Rattle.mdb_sheets.specs.Plans.{giving_plan, second_sheet_plan, sheet_plan, sheets_plan, third_sheet_plan}
 use Rattle.mdb_sheets.specs.Sheets.{Fields, sheet_of}
 use Rattle.outer_traits.specs.Outside.{Files}
-use Rattle.command_plans.specs.Plan.{OfInputs, OfMemory, CommandPlan, EachEnd, Requires, Way, and_then, is_interruption, map_done, refusal_at}
+use Rattle.command_plans.specs.Plan.{CommandPlan, EachEnd, Requires, Way, and_then, is_interruption, map_done}
 use Rattle.command_plans.specs.Inputs.{InputRead, IsInputAs, IsThereAs, OverLimit, WithinLimit, after_look, after_reading, input_plan}
-use Rattle.command_runs.specs.Command.{Effects, HasEffects, Progress, nothing_done}
+use Rattle.command_runs.specs.Command.{HasEffects, Progress, nothing_done}
 use Rattle.command_runs.specs.Report.{unopened}
-use Rattle.command_laws.specs.Calls.{IsRefusedBy, Prints, WasInterrupted}
-use Rattle.command_laws.specs.NamedFiles.{HasFile, HasSheets}
+use Rattle.command_laws.specs.Calls.{Call, IsRefusedBy, Prints, WasInterrupted, effects}
+use Rattle.command_laws.specs.NamedFiles.{HasFile, HasSheets, IsFirstUnread, IsUnreadFor}
 use Rattle.command_laws.proofs.Files.{raw_of_parts}
-use Rattle.command_laws.proofs.Runs.{interrupted, refused}
+use Rattle.command_laws.proofs.Runs.{IsEndOf, no_memory, refused, unread_call}
 use Rattle.command_laws.proofs.Ways.{due_in_turn, each_in_turn}
 
 -- a file wasn't read, and nothing was done
-pub record IsUnread {D : Type 0} (e : Effects D) (refusal : Refusal) : Type 0 where
+pub record IsUnread {D : Type 0} (e : Call D) (refusal : Refusal) : Type 0 where
   pub report : e.report ≡ unopened (Some refusal)
   pub silent : Prints e []
   pub disk : e.disk' ≡ e.disk
 
 -- why: there's none of the name, or it is too long; or memory was wanting, or a call failed
 abbrev pub IsUnreadCause : Files → Which → List ℕ → Refusal → Type 0
-IsUnreadCause files which name (Missing other) = IsNone (get files name)
-IsUnreadCause files which name (Limit other number) = IsSomeAnd (get files name) (λ octets. limit_of which < length octets)
-IsUnreadCause files which name refusal = is_interruption refusal ≡ true
+IsUnreadCause files which name refusal = IsUnreadFor files which name refusal ⊎ (is_interruption refusal ≡ true)
+
+-- why one of some files wasn't
+abbrev pub IsUnreadAmong : Files → List (Which × List ℕ) → Refusal → Type 0
+IsUnreadAmong files named refusal = IsFirstUnread files named refusal ⊎ (is_interruption refusal ≡ true)
 
 -- a refusal that isn't a BadPacket
 abbrev pub IsNoBadPacket : Refusal → Type 0
 IsNoBadPacket (BadPacket at kind) = ⊥
 IsNoBadPacket other = Unit {0}
 
-pub no_bad_packet : (files : Files) (which : Which) (name : List ℕ) (refusal : Refusal) → IsUnreadCause files which name refusal → IsNoBadPacket refusal
-no_bad_packet files which name (BadPacket at kind) cause = cc (cause)
-no_bad_packet files which name other cause = tt
+no_bad_interruption : (refusal : Refusal) → is_interruption refusal ≡ true → IsNoBadPacket refusal
+no_bad_interruption (BadPacket at kind) cut = cc (cut)
+no_bad_interruption other cut = tt
 
-module _ {D : Type 0} (device : Device D) (e : Effects D) (L : Type 0) (files : Files) where
+no_bad_unread : (files : Files) (which : Which) (name : List ℕ) (refusal : Refusal) → IsUnreadFor files which name refusal → IsNoBadPacket refusal
+no_bad_unread files which name refusal (inl none) = subst IsNoBadPacket (sym none.1) tt
+no_bad_unread files which name refusal (inr long) = subst IsNoBadPacket (sym long.1) tt
+
+pub no_bad_packet : (files : Files) (which : Which) (name : List ℕ) (refusal : Refusal) → IsUnreadCause files which name refusal → IsNoBadPacket refusal
+no_bad_packet files which name refusal (inl unread) = no_bad_unread files which name refusal unread
+no_bad_packet files which name refusal (inr cut) = no_bad_interruption refusal cut
+
+no_bad_first : (files : Files) (named : List (Which × List ℕ)) (refusal : Refusal) → IsFirstUnread files named refusal → IsNoBadPacket refusal
+no_bad_first files [] refusal never = absurd never
+no_bad_first files (file ∷ later) refusal (inl unread) = no_bad_unread files file.0 file.1 refusal unread
+no_bad_first files (file ∷ later) refusal (inr read) = no_bad_first files later refusal read.2
+
+pub no_bad_among : (files : Files) (named : List (Which × List ℕ)) (refusal : Refusal) → IsUnreadAmong files named refusal → IsNoBadPacket refusal
+no_bad_among files named refusal (inl unread) = no_bad_first files named refusal unread
+no_bad_among files named refusal (inr cut) = no_bad_interruption refusal cut
+
+-- a refusal that says that there's none of a name, or that one is too long, says it of the one that wasn't read
+pub none_there : (files : Files) (which : Which) (name other : List ℕ) → IsUnreadCause files which name (Missing other) → IsNone (get files name)
+none_there files which name other (inl (inl none)) = none.0
+none_there files which name other (inl (inr long)) = let never = long.1 in absurd (cc (never))
+none_there files which name other (inr cut) = absurd (cc (cut))
+
+pub too_long_there : (files : Files) (which other : Which) (name : List ℕ) (number : ℕ) → IsUnreadCause files which name (Limit other number)
+    → IsSomeAnd (get files name) (λ octets. limit_of which < length octets)
+too_long_there files which other name number (inl (inl none)) = let never = none.1 in absurd (cc (never))
+too_long_there files which other name number (inl (inr long)) = long.0
+too_long_there files which other name number (inr cut) = absurd (cc (cut))
+
+-- one of some files wasn't: the first, or one behind it
+pub at_first : (files : Files) (which : Which) (name : List ℕ) (later : List (Which × List ℕ)) (refusal : Refusal) → IsUnreadCause files which name refusal → IsUnreadAmong files ((which, name) ∷ later) refusal
+at_first files which name later refusal (inl unread) = inl (inl unread)
+at_first files which name later refusal (inr cut) = inr cut
+
+pub behind_it : (files : Files) (which : Which) (name octets : List ℕ) (later : List (Which × List ℕ)) (refusal : Refusal) → HasFile files which name octets → IsUnreadAmong files later refusal
+    → IsUnreadAmong files ((which, name) ∷ later) refusal
+behind_it files which name octets later refusal has (inl unread) = inl (inr (octets, has, unread))
+behind_it files which name octets later refusal has (inr cut) = inr cut
+
+-- one that was read isn't one that wasn't
+pub read_or_not : (files : Files) (which : Which) (name octets : List ℕ) (refusal : Refusal) → HasFile files which name octets → IsUnreadFor files which name refusal → ⊥
+read_or_not files which name octets refusal has (inl none) = let never : IsNone (Some octets) = subst IsNone has.there none.0 in cc (never)
+read_or_not files which name octets refusal has (inr long) =
+    let over : limit_of which < length octets = subst (λ (o : Option (List ℕ)). IsSomeAnd o (λ octets. limit_of which < length octets)) has.there long.0 in
+    let few = has.short in absurd (omega (arith, over, few))
+
+-- the files of three sheets
+abbrev pub sheet_files : List ℕ → List ℕ → List ℕ → List (Which × List ℕ)
+sheet_files a b c = (SheetOctets, a) ∷ (SheetOctets, b) ∷ (SheetOctets, c) ∷ []
+
+module _ {D : Type 0} (device : Device D) (e : Call D) (L : Type 0) (files : Files) where
   abbrev Leaves : Way Progress ⊥ → Type 0
-  Leaves way = HasEffects device e way → L
+  Leaves way = HasEffects device (effects e) way → L
 
   -- ---- ends
 
@@ -53,34 +105,35 @@ module _ {D : Type 0} (device : Device D) (e : Effects D) (L : Type 0) (files : 
   pub each_read : {X : Type 0} (which : Which) (of : List ℕ → X) (name : List ℕ) (sources : ℕ) (next : X → CommandPlan Progress ⊥)
       → ((refusal : Refusal) → IsUnread e refusal → IsUnreadCause files which name refusal → L) → ((octets : List ℕ) → HasFile files which name octets → EachEnd Leaves (next (of octets)))
       → EachEnd Leaves (and_then (map_done nothing_done (input_plan (Some files) which of name sources)) next)
-  each_read {X = X} which of name sources next unread then_on = (λ did. unread OutOfMemory (record { report = did.report; silent = did.printed; disk = did.disk }) refl, λ there is. look there is)
+  each_read {X = X} which of name sources next unread then_on = (λ did. unread OutOfMemory (record { report = did.report; silent = did.printed; disk = did.disk }) (inr refl), λ there is. look there is)
     where
       got : (read : InputRead X) → IsInputAs (Some files) which of name read → EachEnd Leaves (and_then (map_done nothing_done (after_reading which (sources + 1) read)) next)
-      got OverLimit over = λ did. unread (Limit which (limit_of which)) (record { report = did.report; silent = did.printed; disk = did.disk }) over
+      got OverLimit over = λ did. unread (Limit which (limit_of which)) (record { report = did.report; silent = did.printed; disk = did.disk }) (inl (inr (over, refl)))
       got (WithinLimit x) is = subst (λ (y : X). EachEnd Leaves (next y)) (sym is.3) (then_on is.0 (record { there = is.1; short = is.2 }))
 
       look : (there : Bool) → IsThereAs (Some files) name there → EachEnd Leaves (and_then (map_done nothing_done (after_look (Some files) which of name sources there)) next)
       look true is = (
-        λ did. unread ReadFault (record { report = did.report; silent = did.printed; disk = did.disk }) refl,
+        λ did. unread ReadFault (record { report = did.report; silent = did.printed; disk = did.disk }) (inr refl),
         (
-          λ did. unread OutOfMemory (record { report = did.report; silent = did.printed; disk = did.disk }) refl,
-          (λ did. unread ReadFault (record { report = did.report; silent = did.printed; disk = did.disk }) refl, λ read h. got read h),
+          λ did. unread OutOfMemory (record { report = did.report; silent = did.printed; disk = did.disk }) (inr refl),
+          (λ did. unread ReadFault (record { report = did.report; silent = did.printed; disk = did.disk }) (inr refl), λ read h. got read h),
         ),
       )
-      look false none = λ did. unread (Missing name) (record { report = did.report; silent = did.printed; disk = did.disk }) none
+      look false none = λ did. unread (Missing name) (record { report = did.report; silent = did.printed; disk = did.disk }) (inl (inl (none, refl)))
 
   -- of the readings of three sheets
-  pub each_sheets : (a b c : List ℕ) (sources : ℕ) (next : RawMdb → CommandPlan Progress ⊥) → ((refusal : Refusal) → IsUnread e refusal → IsNoBadPacket refusal → L)
+  pub each_sheets : (a b c : List ℕ) (sources : ℕ) (next : RawMdb → CommandPlan Progress ⊥) → ((refusal : Refusal) → IsUnread e refusal → IsUnreadAmong files (sheet_files a b c) refusal → L)
       → ((raw : RawMdb) → HasSheets files a b c raw → EachEnd Leaves (next raw)) → EachEnd Leaves (and_then (map_done nothing_done (sheets_plan (Some files) a b c sources)) next)
   each_sheets a b c sources next unread then_on =
       each_in_turn nothing_done Leaves (sheet_plan (Some files) a sources) (second_sheet_plan (Some files) b c (sources + 1)) next
-      (each_read SheetOctets (λ octets. sheet_of octets) a sources (λ first. and_then (map_done nothing_done (second_sheet_plan (Some files) b c (sources + 1) first)) next) (λ refusal is cause. unread refusal is (no_bad_packet files SheetOctets a refusal cause))
+      (each_read SheetOctets (λ octets. sheet_of octets) a sources (λ first. and_then (map_done nothing_done (second_sheet_plan (Some files) b c (sources + 1) first)) next) (λ refusal is cause. unread refusal is (at_first files SheetOctets a ((SheetOctets, b) ∷ (SheetOctets, c) ∷ []) refusal cause))
       (λ first has_first. each_in_turn nothing_done Leaves (sheet_plan (Some files) b (sources + 1)) (third_sheet_plan (Some files) c (sheet_of first) (sources + 1 + 1)) next
       (each_read SheetOctets (λ octets. sheet_of octets) b (sources + 1) (λ second. and_then (map_done nothing_done (third_sheet_plan (Some files) c (sheet_of first) (sources + 1 + 1) second)) next)
-      (λ refusal is cause. unread refusal is (no_bad_packet files SheetOctets b refusal cause))
+      (λ refusal is cause. unread refusal is (behind_it files SheetOctets a first ((SheetOctets, b) ∷ (SheetOctets, c) ∷ []) refusal has_first (at_first files SheetOctets b ((SheetOctets, c) ∷ []) refusal cause)))
       (λ second has_second. each_in_turn nothing_done Leaves (sheet_plan (Some files) c (sources + 1 + 1)) (giving_plan (sheet_of first) (sheet_of second)) next
       (each_read SheetOctets (λ octets. sheet_of octets) c (sources + 1 + 1) (λ third. and_then (map_done nothing_done (giving_plan (sheet_of first) (sheet_of second) third)) next)
-      (λ refusal is cause. unread refusal is (no_bad_packet files SheetOctets c refusal cause))
+      (λ refusal is cause. unread refusal is (behind_it files SheetOctets a first ((SheetOctets, b) ∷ (SheetOctets, c) ∷ []) refusal has_first
+      (behind_it files SheetOctets b second ((SheetOctets, c) ∷ []) refusal has_second (at_first files SheetOctets c [] refusal cause))))
       (λ third has_third. then_on (record { parameters = sheet_of first; calibrations = sheet_of second; containers = sheet_of third }) (record {
         first = record { octets = first; file = has_first; records_are = refl };
         second = record { octets = second; file = has_second; records_are = refl };
@@ -89,43 +142,48 @@ module _ {D : Type 0} (device : Device D) (e : Effects D) (L : Type 0) (files : 
 
 -- ---- what is due
 
-module _ {D : Type 0} (e : Effects D) (files : Files) (way : Way Progress ⊥) (at : refusal_at way ≡ e.report.refusal) where
-  module _ {X : Type 0} (which : Which) (of : List ℕ → X) (name : List ℕ) (sources : ℕ) (next : X → CommandPlan Progress ⊥) where
+module _ {D : Type 0} {device : Device D} (e : Call D) (files : Files) (way : Way Progress ⊥) (at : IsEndOf device e way) where
+  module _ {X : Type 0} (done : ℕ → Progress) (which : Which) (of : List ℕ → X) (name : List ℕ) (sources : ℕ) (next : X → CommandPlan Progress ⊥) where
     abbrev Reads : Type 0
-    Reads = Requires (and_then (map_done nothing_done (input_plan (Some files) which of name sources)) next) way
+    Reads = Requires (and_then (map_done done (input_plan (Some files) which of name sources)) next) way
 
     read_of : (read : InputRead X) → IsInputAs (Some files) which of name read → IsSome (get files name) → Reads
-        → Requires (and_then (map_done nothing_done (after_reading which (sources + 1) read)) next) way ⊎ WasInterrupted e
-    read_of read is there (inl cut) = inr (interrupted e way at _ OfMemory cut)
+        → Requires (and_then (map_done done (after_reading which (sources + 1) read)) next) way ⊎ WasInterrupted device e
+    read_of read is there (inl cut) = inr (no_memory e way at _ cut)
     read_of read is there (inr asked) = look (asked true there)
       where
-        look : Requires (and_then (map_done nothing_done (after_look (Some files) which of name sources true)) next) way
-            → Requires (and_then (map_done nothing_done (after_reading which (sources + 1) read)) next) way ⊎ WasInterrupted e
-        look (inl cut) = inr (interrupted e way at _ OfInputs cut)
-        look (inr (inl cut)) = inr (interrupted e way at _ OfMemory cut)
-        look (inr (inr (inl cut))) = inr (interrupted e way at _ OfInputs cut)
+        look : Requires (and_then (map_done done (after_look (Some files) which of name sources true)) next) way
+            → Requires (and_then (map_done done (after_reading which (sources + 1) read)) next) way ⊎ WasInterrupted device e
+        look (inl cut) = inr (unread_call e way at _ cut)
+        look (inr (inl cut)) = inr (no_memory e way at _ cut)
+        look (inr (inr (inl cut))) = inr (unread_call e way at _ cut)
         look (inr (inr (inr asked))) = inl (asked read is)
 
     -- a file that is there, within its limit, is read
-    pub read_due : (octets : List ℕ) → HasFile files which name octets → Reads → Requires (next (of octets)) way ⊎ WasInterrupted e
+    pub read_due : (octets : List ℕ) → HasFile files which name octets → Reads → Requires (next (of octets)) way ⊎ WasInterrupted device e
     read_due octets has required = read_of (WithinLimit (of octets)) (octets, has.there, has.short, refl) (subst IsSome (sym has.there) refl) required
 
     -- one that isn't there is missing
-    pub missing_due : IsNone (get files name) → Reads → IsRefusedBy e (Missing name)
-    missing_due none (inl cut) = inr (interrupted e way at _ OfMemory cut)
+    pub missing_due : IsNone (get files name) → Reads → IsRefusedBy device e (Missing name)
+    missing_due none (inl cut) = inr (no_memory e way at _ cut)
     missing_due none (inr asked) = refused e way at _ (Missing name) (asked false none)
 
     -- and one that is longer is refused by the limit
-    pub long_due : IsSomeAnd (get files name) (λ octets. limit_of which < length octets) → Reads → IsRefusedBy e (Limit which (limit_of which))
+    pub long_due : IsSomeAnd (get files name) (λ octets. limit_of which < length octets) → Reads → IsRefusedBy device e (Limit which (limit_of which))
     long_due long required = go (read_of OverLimit long (there (get files name) long) required)
       where
         there : (o : Option (List ℕ)) → IsSomeAnd o (λ octets. limit_of which < length octets) → IsSome o
         there None over = absurd over
         there (Some octets) over = refl
 
-        go : Requires (and_then (map_done nothing_done (after_reading which (sources + 1) OverLimit)) next) way ⊎ WasInterrupted e → IsRefusedBy e (Limit which (limit_of which))
+        go : Requires (and_then (map_done done (after_reading which (sources + 1) OverLimit)) next) way ⊎ WasInterrupted device e → IsRefusedBy device e (Limit which (limit_of which))
         go (inl is) = refused e way at _ (Limit which (limit_of which)) is
         go (inr cut) = inr cut
+
+    -- so one of both is refused
+    pub unread_due : (refusal : Refusal) → IsUnreadFor files which name refusal → Reads → IsRefusedBy device e refusal
+    unread_due refusal (inl none) required = subst (IsRefusedBy device e) (sym none.1) (missing_due none.0 required)
+    unread_due refusal (inr long) required = subst (IsRefusedBy device e) (sym long.1) (long_due long.0 required)
 
   module _ (a b c : List ℕ) (sources : ℕ) (next : RawMdb → CommandPlan Progress ⊥) where
     abbrev behind_first : List Fields → CommandPlan Progress ⊥
@@ -139,25 +197,69 @@ module _ {D : Type 0} (e : Effects D) (files : Files) (way : Way Progress ⊥) (
 
     module _ (raw : RawMdb) (has : HasSheets files a b c raw) where
       abbrev Due : Type 0
-      Due = Requires (next raw) way ⊎ WasInterrupted e
+      Due = Requires (next raw) way ⊎ WasInterrupted device e
 
-      three : Requires (behind_third (sheet_of has.first.octets) (sheet_of has.second.octets) (sheet_of has.third.octets)) way ⊎ WasInterrupted e → Due
+      three : Requires (behind_third (sheet_of has.first.octets) (sheet_of has.second.octets) (sheet_of has.third.octets)) way ⊎ WasInterrupted device e → Due
       three (inl d) = inl (subst (λ (r : RawMdb). Requires (next r) way)
           (sym (raw_of_parts raw (record { parameters = sheet_of has.first.octets; calibrations = sheet_of has.second.octets; containers = sheet_of has.third.octets })
           has.first.records_are has.second.records_are has.third.records_are)) d)
       three (inr cut) = inr cut
 
-      two : Requires (behind_second (sheet_of has.first.octets) (sheet_of has.second.octets)) way ⊎ WasInterrupted e → Due
-      two (inl d) = three (read_due SheetOctets (λ octets. sheet_of octets) c (sources + 1 + 1) (behind_third (sheet_of has.first.octets) (sheet_of has.second.octets)) has.third.octets has.third.file
+      two : Requires (behind_second (sheet_of has.first.octets) (sheet_of has.second.octets)) way ⊎ WasInterrupted device e → Due
+      two (inl d) = three (read_due nothing_done SheetOctets (λ octets. sheet_of octets) c (sources + 1 + 1) (behind_third (sheet_of has.first.octets) (sheet_of has.second.octets)) has.third.octets has.third.file
           (due_in_turn nothing_done (sheet_plan (Some files) c (sources + 1 + 1)) (giving_plan (sheet_of has.first.octets) (sheet_of has.second.octets)) next way d))
       two (inr cut) = inr cut
 
-      one : Requires (behind_first (sheet_of has.first.octets)) way ⊎ WasInterrupted e → Due
-      one (inl d) = two (read_due SheetOctets (λ octets. sheet_of octets) b (sources + 1) (behind_second (sheet_of has.first.octets)) has.second.octets has.second.file
+      one : Requires (behind_first (sheet_of has.first.octets)) way ⊎ WasInterrupted device e → Due
+      one (inl d) = two (read_due nothing_done SheetOctets (λ octets. sheet_of octets) b (sources + 1) (behind_second (sheet_of has.first.octets)) has.second.octets has.second.file
           (due_in_turn nothing_done (sheet_plan (Some files) b (sources + 1)) (third_sheet_plan (Some files) c (sheet_of has.first.octets) (sources + 1 + 1)) next way d))
       one (inr cut) = inr cut
 
       -- three sheets are read
-      pub sheets_due : Requires (and_then (map_done nothing_done (sheets_plan (Some files) a b c sources)) next) way → Requires (next raw) way ⊎ WasInterrupted e
-      sheets_due required = one (read_due SheetOctets (λ octets. sheet_of octets) a sources behind_first has.first.octets has.first.file
+      pub sheets_due : Requires (and_then (map_done nothing_done (sheets_plan (Some files) a b c sources)) next) way → Requires (next raw) way ⊎ WasInterrupted device e
+      sheets_due required = one (read_due nothing_done SheetOctets (λ octets. sheet_of octets) a sources behind_first has.first.octets has.first.file
           (due_in_turn nothing_done (sheet_plan (Some files) a sources) (second_sheet_plan (Some files) b c (sources + 1)) next way required))
+
+    -- of three sheets and more files the first that isn't read is refused; else the sheets are, and it is among the others
+    module _ (more : List (Which × List ℕ)) (refusal : Refusal) (required : Requires (and_then (map_done nothing_done (sheets_plan (Some files) a b c sources)) next) way) where
+      abbrev Among : Type 0
+      Among = IsRefusedBy device e refusal ⊎ ((raw : RawMdb) × HasSheets files a b c raw × IsFirstUnread files more refusal)
+
+      due_first : Requires (and_then (map_done nothing_done (sheet_plan (Some files) a sources)) behind_first) way
+      due_first = due_in_turn nothing_done (sheet_plan (Some files) a sources) (second_sheet_plan (Some files) b c (sources + 1)) next way required
+
+      second_due : (first : List ℕ) → HasFile files SheetOctets a first → Requires (and_then (map_done nothing_done (sheet_plan (Some files) b (sources + 1))) (behind_second (sheet_of first))) way ⊎ WasInterrupted device e
+      second_due first has = elim (read_due nothing_done SheetOctets (λ octets. sheet_of octets) a sources behind_first first has due_first) [
+        | inl read ↦ inl (due_in_turn nothing_done (sheet_plan (Some files) b (sources + 1)) (third_sheet_plan (Some files) c (sheet_of first) (sources + 1 + 1)) next way read)
+        | inr cut ↦ inr cut
+      ]
+
+      third_due : (first second : List ℕ) → HasFile files SheetOctets a first → HasFile files SheetOctets b second
+          → Requires (and_then (map_done nothing_done (sheet_plan (Some files) c (sources + 1 + 1))) (behind_third (sheet_of first) (sheet_of second))) way ⊎ WasInterrupted device e
+      third_due first second has also = elim (second_due first has) [
+        | inl d ↦ elim (read_due nothing_done SheetOctets (λ octets. sheet_of octets) b (sources + 1) (behind_second (sheet_of first)) second also d) [
+          | inl read ↦ inl (due_in_turn nothing_done (sheet_plan (Some files) c (sources + 1 + 1)) (giving_plan (sheet_of first) (sheet_of second)) next way read)
+          | inr cut ↦ inr cut
+        ]
+        | inr cut ↦ inr cut
+      ]
+
+      pub sheets_unread : IsFirstUnread files ((SheetOctets, a) ∷ (SheetOctets, b) ∷ (SheetOctets, c) ∷ more) refusal → Among
+      sheets_unread (inl unread) = inl (unread_due nothing_done SheetOctets (λ octets. sheet_of octets) a sources behind_first refusal unread due_first)
+      sheets_unread (inr (first, has, inl unread)) = elim (second_due first has) [
+        | inl d ↦ inl (unread_due nothing_done SheetOctets (λ octets. sheet_of octets) b (sources + 1) (behind_second (sheet_of first)) refusal unread d)
+        | inr cut ↦ inl (inr cut)
+      ]
+      sheets_unread (inr (first, has, inr (second, also, inl unread))) = elim (third_due first second has also) [
+        | inl d ↦ inl (unread_due nothing_done SheetOctets (λ octets. sheet_of octets) c (sources + 1 + 1) (behind_third (sheet_of first) (sheet_of second)) refusal unread d)
+        | inr cut ↦ inl (inr cut)
+      ]
+      sheets_unread (inr (first, has, inr (second, also, inr (third, too, others)))) = inr (
+        record { parameters = sheet_of first; calibrations = sheet_of second; containers = sheet_of third },
+        record {
+          first = record { octets = first; file = has; records_are = refl };
+          second = record { octets = second; file = also; records_are = refl };
+          third = record { octets = third; file = too; records_are = refl };
+        },
+        others,
+      )

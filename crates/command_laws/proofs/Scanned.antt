@@ -1,5 +1,5 @@
 -- The ends of the plan of `scan`.
-use Rattle.std.proofs.Common.{◌≡◌, ◌⊎◌, ◌∙◌, inl, inr, ℤ, ℕ, ◌+◌, ◌<◌, ◌-◌, List, [], ◌∷◌, ◌++◌, length, Option, Some, None, refl, sym, ap, subst, arith}
+use Rattle.std.proofs.Common.{◌≡◌, ◌⊎◌, ◌∙◌, inl, inr, ℤ, ℕ, ◌<◌, List, [], ◌∷◌, length, Option, Some, refl, sym, ap, subst}
 use Rattle.std.specs.Prelude.{IsNone, IsSomeAnd}
 use Rattle.std.specs.FinMap.{get}
 use Rattle.arch_disk.specs.Disk.{Device}
@@ -7,29 +7,29 @@ use Rattle.arch_types.specs.Dump.{IsDump}
 use Rattle.arch_types.proofs.Dumps.{dump_is_one}
 use Rattle.refusals.specs.declared.refusal.BadKind.{BadKind}
 use Rattle.refusals.specs.declared.refusal.Refusal.{Refusal}
-use Rattle.refusals.specs.declared.refusal.Refusal.TheVariants.{BadPacket, Limit, Missing, OutOfMemory, ReadFault, WriteFault}
+use Rattle.refusals.specs.declared.refusal.Refusal.TheVariants.{BadPacket, Limit, Missing, OutOfMemory, WriteFault}
 use Rattle.refusals.specs.declared.refusal.Which.TheVariants.{DumpOctets}
 use Rattle.outer_traits.specs.Outside.{Files}
 use Rattle.dump_lines.specs.Text.{last_line, row_lines, scan_text}
-use Rattle.command_plans.specs.Plan.{OfOutput, EachEnd, Requires, Way, refusal_at}
+use Rattle.command_plans.specs.Plan.{EachEnd, Requires, Way}
 use Rattle.command_plans.proofs.Plans.{end_of}
 use Rattle.command_words.specs.Job.{Scan}
 use Rattle.command_runs.specs.declared.report.Report.{Report}
-use Rattle.command_runs.specs.Command.{Effects, HasEffects, Progress, nothing_done}
+use Rattle.command_runs.specs.Command.{HasEffects, Progress, nothing_done}
 use Rattle.command_runs.specs.DumpRest.{IsBadRest, dump_limit, ending_of_rest}
 use Rattle.command_runs.specs.Moment.{IsMomentOf}
 use Rattle.command_runs.specs.Report.{unopened}
 use Rattle.dump_commands.specs.Scan.{receiving_plan, rows_plan, scan_plan}
-use Rattle.command_laws.specs.Calls.{IsRefusedBy, IsRun, Prints, PrintsSome, Succeeded, WasInterrupted}
+use Rattle.command_laws.specs.Calls.{Call, IsRefusedBy, IsRun, Prints, PrintsSome, Succeeded, WasInterrupted, effects}
 use Rattle.command_laws.specs.NamedFiles.{HasFile}
 use Rattle.command_laws.specs.Scan.{IsScanPrinted, IsScanned}
 use Rattle.command_laws.proofs.Dumps.{bad_due, silent_dump, some_dump, some_moment, text_by, whole_due, whole_dump}
 use Rattle.command_laws.proofs.Files.{one_content}
-use Rattle.command_laws.proofs.Readings.{IsUnread, IsUnreadCause, each_read, long_due, missing_due, no_bad_packet, read_due}
-use Rattle.command_laws.proofs.Runs.{by_due, by_job, same_refusal}
+use Rattle.command_laws.proofs.Readings.{IsUnread, IsUnreadCause, each_read, long_due, missing_due, no_bad_packet, none_there, read_due, too_long_there}
+use Rattle.command_laws.proofs.Runs.{IsEndOf, by_due, by_job, same_refusal}
 
 -- all but what is due
-record IsLeft {D : Type 0} (e : Effects D) (files : Files) (clock : Option ℤ) (name : List ℕ) : Type 0 where
+record IsLeft {D : Type 0} (e : Call D) (files : Files) (clock : Option ℤ) (name : List ℕ) : Type 0 where
   disk : e.disk' ≡ e.disk
   report : e.report ≡ unopened e.report.refusal
   printed : (dump rest : List ℕ) (packets : List (List ℕ)) → get files name ≡ Some dump → IsDump dump packets rest → (moment : ℤ) × IsMomentOf clock moment × IsScanPrinted e dump packets rest moment
@@ -41,7 +41,7 @@ text_is : (packets : List (List ℕ)) (rest : List ℕ) (moment : ℤ) → scan_
 text_is packets [] moment = refl
 text_is packets (octet ∷ rest) moment = refl
 
-module _ {D : Type 0} (device : Device D) (e : Effects D) (files : Files) (clock : Option ℤ) (name : List ℕ) where
+module _ {D : Type 0} (device : Device D) (e : Call D) (files : Files) (clock : Option ℤ) (name : List ℕ) where
   refusal_is : (refusal : Option Refusal) → e.report ≡ unopened refusal → e.report.refusal ≡ refusal
   refusal_is refusal report = ap (λ (r : Report). r.refusal) report
 
@@ -55,8 +55,8 @@ module _ {D : Type 0} (device : Device D) (e : Effects D) (files : Files) (clock
     report = report_is (Some refusal) unread.report;
     printed = λ dump rest packets there parts. let some = some_moment clock in
         (some.0, some.1, silent_dump e (row_lines packets some.0) (last_line packets some.0) refusal (no_bad_packet files DumpOctets name refusal cause) is unread.silent dump rest);
-    missing = λ missing. (subst (IsUnreadCause files DumpOctets name) (same_refusal e.report.refusal refusal (Missing name) is missing) cause, unread.silent);
-    too_long = λ long. (subst (IsUnreadCause files DumpOctets name) (same_refusal e.report.refusal refusal (Limit DumpOctets dump_limit) is long) cause, unread.silent);
+    missing = λ missing. (none_there files DumpOctets name name (subst (IsUnreadCause files DumpOctets name) (same_refusal e.report.refusal refusal (Missing name) is missing) cause), unread.silent);
+    too_long = λ long. (too_long_there files DumpOctets DumpOctets name dump_limit (subst (IsUnreadCause files DumpOctets name) (same_refusal e.report.refusal refusal (Limit DumpOctets dump_limit) is long) cause), unread.silent);
   }
 
   -- ---- it was read
@@ -88,7 +88,7 @@ module _ {D : Type 0} (device : Device D) (e : Effects D) (files : Files) (clock
     not_long [] is = cc (is)
     not_long (octet ∷ r) is = cc (is)
 
-    cut_left : EachEnd (λ (way : Way Progress ⊥). HasEffects device e way → IsLeft e files clock name) (rows_plan dump moment (packets, rest))
+    cut_left : EachEnd (λ (way : Way Progress ⊥). HasEffects device (effects e) way → IsLeft e files clock name) (rows_plan dump moment (packets, rest))
     cut_left = (
       λ did. left_printed did.disk (Some WriteFault) did.report
           (some_dump e (row_lines packets moment) (last_line packets moment) WriteFault refl (refusal_is (Some WriteFault) did.report) dump rest
@@ -100,32 +100,32 @@ module _ {D : Type 0} (device : Device D) (e : Effects D) (files : Files) (clock
           (not_missing rest) (not_long rest),
     )
 
-  each_left : EachEnd (λ (way : Way Progress ⊥). HasEffects device e way → IsLeft e files clock name) (scan_plan (Some files) clock name)
+  each_left : EachEnd (λ (way : Way Progress ⊥). HasEffects device (effects e) way → IsLeft e files clock name) (scan_plan (Some files) clock name)
   each_left = each_read device e (IsLeft e files clock name) files DumpOctets (λ octets. octets) name 0 (receiving_plan clock) left_unread
       (λ dump has moment known cut parts. cut_left dump has moment known cut.0 cut.1 parts)
 
   -- ---- what is due
 
-  module _ (way : Way Progress ⊥) (at : refusal_at way ≡ e.report.refusal) where
+  module _ (way : Way Progress ⊥) (at : IsEndOf device e way) where
     abbrev Required : Type 0
     Required = Requires (scan_plan (Some files) clock name) way
 
     -- of a dump that is read
     rows_due : (dump rest : List ℕ) (packets : List (List ℕ)) → HasFile files DumpOctets name dump → IsDump dump packets rest → Required
-        → ((moment : ℤ) × Requires (rows_plan dump moment (packets, rest)) way) ⊎ WasInterrupted e
-    rows_due dump rest packets has parts required = elim (read_due e files way at DumpOctets (λ octets. octets) name 0 (receiving_plan clock) dump has required) [
+        → ((moment : ℤ) × Requires (rows_plan dump moment (packets, rest)) way) ⊎ WasInterrupted device e
+    rows_due dump rest packets has parts required = elim (read_due e files way at nothing_done DumpOctets (λ octets. octets) name 0 (receiving_plan clock) dump has required) [
       | inl received ↦ inl (received.0, received.2 (packets, rest) parts)
       | inr cut ↦ inr cut
     ]
 
-    complete_due : (dump : List ℕ) (packets : List (List ℕ)) → HasFile files DumpOctets name dump → IsDump dump packets [] → Required → Succeeded e ⊎ WasInterrupted e
+    complete_due : (dump : List ℕ) (packets : List (List ℕ)) → HasFile files DumpOctets name dump → IsDump dump packets [] → Required → Succeeded e ⊎ WasInterrupted device e
     complete_due dump packets has parts required = elim (rows_due dump [] packets has parts required) [
       | inl rows ↦ whole_due e way at (nothing_done 1) (scan_text packets [] rows.0) dump [] refl rows.1
       | inr cut ↦ inr cut
     ]
 
     broken_due : (dump rest : List ℕ) (packets : List (List ℕ)) (place : ℕ) (kind : BadKind) → HasFile files DumpOctets name dump → IsDump dump packets rest → IsBadRest dump rest place kind → Required
-        → IsRefusedBy e (BadPacket place kind)
+        → IsRefusedBy device e (BadPacket place kind)
     broken_due dump rest packets place kind has parts bad required = elim (rows_due dump rest packets has parts required) [
       | inl rows ↦ bad_due e way at (nothing_done 1) (scan_text packets rest rows.0) dump rest place kind bad rows.1
       | inr cut ↦ inr cut
@@ -133,28 +133,28 @@ module _ {D : Type 0} (device : Device D) (e : Effects D) (files : Files) (clock
 
 -- ---- the clause
 
-module _ {D : Type 0} (device : Device D) (e : Effects D) (files : Files) (clock : Option ℤ) (name : List ℕ) (run : IsRun device e files clock (Scan name)) where
+module _ {D : Type 0} (device : Device D) (e : Call D) (files : Files) (clock : Option ℤ) (name : List ℕ) (run : IsRun device e files clock (Scan name)) where
   left : IsLeft e files clock name
   left = by_job device e files clock (Scan name) run (IsLeft e files clock name)
-      (λ did. left_unread device e files clock name OutOfMemory (record { report = did.report; silent = did.printed; disk = did.disk }) refl)
-      (λ way allows did. end_of (λ (w : Way Progress ⊥). HasEffects device e w → IsLeft e files clock name) (scan_plan (Some files) clock name) way (each_left device e files clock name) allows did)
+      (λ did. left_unread device e files clock name OutOfMemory (record { report = did.report; silent = did.printed; disk = did.disk }) (inr refl))
+      (λ way allows end. end_of (λ (w : Way Progress ⊥). HasEffects device (effects e) w → IsLeft e files clock name) (scan_plan (Some files) clock name) way (each_left device e files clock name) allows end.did)
 
-  due : (P : Type 0) → (WasInterrupted e → P) → ((way : Way Progress ⊥) → refusal_at way ≡ e.report.refusal → Requires (scan_plan (Some files) clock name) way → P) → P
+  due : (P : Type 0) → (WasInterrupted device e → P) → ((way : Way Progress ⊥) → IsEndOf device e way → Requires (scan_plan (Some files) clock name) way → P) → P
   due P cut go = by_due device e files clock (Scan name) run P cut (λ way required at. go way at required)
 
-  pub scanned : IsScanned e files clock name
+  pub scanned : IsScanned device e files clock name
   scanned = record {
     disk = left.disk;
     report = left.report;
     printed = left.printed;
     missing = left.missing;
     too_long = left.too_long;
-    lacking = λ none. due (IsRefusedBy e (Missing name)) (λ cut. inr cut)
-        (λ way at required. missing_due e files way at DumpOctets (λ octets. octets) name 0 (receiving_plan clock) none required);
-    overlong = λ long. due (IsRefusedBy e (Limit DumpOctets dump_limit)) (λ cut. inr cut)
-        (λ way at required. long_due e files way at DumpOctets (λ octets. octets) name 0 (receiving_plan clock) long required);
-    broken = λ dump rest packets place kind has parts bad. due (IsRefusedBy e (BadPacket place kind)) (λ cut. inr cut)
+    lacking = λ none. due (IsRefusedBy device e (Missing name)) (λ cut. inr cut)
+        (λ way at required. missing_due e files way at nothing_done DumpOctets (λ octets. octets) name 0 (receiving_plan clock) none required);
+    overlong = λ long. due (IsRefusedBy device e (Limit DumpOctets dump_limit)) (λ cut. inr cut)
+        (λ way at required. long_due e files way at nothing_done DumpOctets (λ octets. octets) name 0 (receiving_plan clock) long required);
+    broken = λ dump rest packets place kind has parts bad. due (IsRefusedBy device e (BadPacket place kind)) (λ cut. inr cut)
         (λ way at required. broken_due device e files clock name way at dump rest packets place kind has parts bad required);
-    complete = λ dump packets has parts. due (Succeeded e ⊎ WasInterrupted e) (λ cut. inr cut)
+    complete = λ dump packets has parts. due (Succeeded e ⊎ WasInterrupted device e) (λ cut. inr cut)
         (λ way at required. complete_due device e files clock name way at dump packets has parts required);
   }

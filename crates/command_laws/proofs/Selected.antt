@@ -1,5 +1,5 @@
 -- The ends of the plan of `query --sql`.
-use Rattle.std.proofs.Common.{◌≡◌, ◌⊎◌, ◌∙◌, inl, inr, ℤ, ℕ, List, [], length, Option, Some, None, refl, sym, ap, subst}
+use Rattle.std.proofs.Common.{◌≡◌, ◌⊎◌, inl, inr, ℤ, ℕ, List, [], length, Option, Some, None, sym, ap, subst}
 use Rattle.std.specs.Prelude.{IsTrue, Result, Ok, Err}
 use Rattle.arch_disk.specs.Disk.{Device}
 use Rattle.refusals.specs.declared.refusal.Refusal.{Refusal}
@@ -14,29 +14,30 @@ use Rattle.ssql_types.specs.declared.statement.TypedStatement.{TypedStatement}
 use Rattle.script_answers.specs.Scripts.{IsScriptAnswer, after_answer}
 use Rattle.script_answers.specs.Statements.{packet_names, statements_text}
 use Rattle.script_answers.proofs.ScriptAnswers.{one_script_answer}
-use Rattle.command_plans.specs.Plan.{OfDisk, OfMemory, OfOutput, EachEnd, Requires, Way, and_then, refusal_at}
+use Rattle.command_plans.specs.Plan.{EachEnd, Requires, Way, and_then}
 use Rattle.command_plans.proofs.Plans.{each_end, end_of}
 use Rattle.command_words.specs.Job.{Sql}
 use Rattle.command_runs.specs.declared.report.Report.{Report}
-use Rattle.command_runs.specs.Command.{ArchiveFound, DamageFound, Effects, HasEffects, NoneFound, OpeningResult, Progress, after_opening, archive_opened, opening_plan}
+use Rattle.command_runs.specs.Command.{nothing_done, ArchiveFound, DamageFound, HasEffects, NoneFound, OpeningResult, Progress, after_opening, archive_opened, opening_plan}
 use Rattle.command_runs.specs.ReadOnly.{IsReadAsBefore, IsReadOnly}
 use Rattle.command_runs.specs.Report.{read_only, unopened}
 use Rattle.query_commands.specs.Sql.{archive_text_plan, sql_plan, statements_plan, text_plan}
-use Rattle.command_laws.specs.Calls.{HeldArchive, IsRefusedBy, IsRun, LeavesAll, Prints, PrintsSome, Succeeded, WasInterrupted}
-use Rattle.command_laws.specs.NamedFiles.{HasFile}
+use Rattle.command_laws.specs.Calls.{Call, HeldArchive, IsNoArchive, IsRefusedBy, IsRun, LeavesAll, Prints, PrintsSome, Succeeded, WasInterrupted, effects}
+use Rattle.command_laws.specs.NamedFiles.{HasFile, IsUnreadFor}
 use Rattle.command_laws.specs.Sql.{AreStatementsAnswered, HasStatements}
 use Rattle.command_laws.proofs.Files.{one_file}
 use Rattle.command_laws.proofs.Left.{all_opened, all_unopened, not_asked}
-use Rattle.command_laws.proofs.Readings.{IsUnread, each_read, read_due}
-use Rattle.command_laws.proofs.Runs.{all_is_some, by_due, by_job, none_is_some, none_or_some, or_interrupted, refused, succeeded}
+use Rattle.command_laws.proofs.Readings.{IsUnread, each_read, read_due, read_or_not, unread_due}
+use Rattle.command_laws.proofs.Runs.{IsEndOf, all_is_some, by_due, by_job, no_archive_silent, none_is_some, none_or_some, opening_due, or_disk_failed, or_no_memory, or_unwritten, refused, succeeded}
 
 -- all but what is due
-record IsLeft {D : Type 0} (device : Device D) (e : Effects D) (files : Files) (name : List ℕ) : Type 0 where
+record IsLeft {D : Type 0} (device : Device D) (e : Call D) (files : Files) (name : List ℕ) : Type 0 where
   left : LeavesAll device e
   whole : Succeeded e
       → HeldArchive device e (λ filled. (statements : List TypedStatement) × HasStatements files name filled (Ok statements) × Prints e (statements_text filled.plain statements))
   printed : (filled : FilledArchive) (statements : List TypedStatement) → StandsFilled (device.reads e.disk) filled → HasStatements files name filled (Ok statements)
       → PrintsSome e (statements_text filled.plain statements)
+  quiet : (refusal : Refusal) → IsUnreadFor files ScriptOctets name refusal → Prints e []
   silent : (filled : FilledArchive) (refusal : Refusal) → StandsFilled (device.reads e.disk) filled → HasStatements files name filled (Err refusal) → Prints e []
 
 abbrev Answer : Type 0
@@ -57,9 +58,9 @@ same_statements a b is = cc (is)
 not_both : (a : List TypedStatement) (refusal : Refusal) → ◌≡◌ {A = Answer} (Ok a) (Err refusal) → ⊥
 not_both a refusal is = cc (is)
 
-module _ {D : Type 0} (device : Device D) (e : Effects D) (files : Files) (name : List ℕ) (known : IsTrue device.is_transparent) where
+module _ {D : Type 0} (device : Device D) (e : Call D) (files : Files) (name : List ℕ) (known : IsTrue device.is_transparent) where
   abbrev Leaves : Way Progress ⊥ → Type 0
-  Leaves way = HasEffects device e way → IsLeft device e files name
+  Leaves way = HasEffects device (effects e) way → IsLeft device e files name
 
   -- no archive was opened
   left_unopened : (refusal : Refusal) → e.report ≡ unopened (Some refusal) → Prints e [] → IsReadAsBefore device e.disk e.disk' → IsLeft device e files name
@@ -67,6 +68,7 @@ module _ {D : Type 0} (device : Device D) (e : Effects D) (files : Files) (name 
     left = all_unopened device e refusal report silent kept;
     whole = λ none. none_or_some e.report.refusal refusal (ap (λ (r : Report). r.refusal) report) none;
     printed = λ filled statements stands has. none_is_some e (statements_text filled.plain statements) silent;
+    quiet = λ refused unread. silent;
     silent = λ filled refused stands has. silent;
   }
 
@@ -80,6 +82,7 @@ module _ {D : Type 0} (device : Device D) (e : Effects D) (files : Files) (name 
       left = all_opened device e filled only (Some refusal) report;
       whole = λ none. none_or_some e.report.refusal refusal (ap (λ (r : Report). r.refusal) report) none;
       printed = λ other statements stands has. none_is_some e (statements_text other.plain statements) silent;
+      quiet = λ refused unread. silent;
       silent = λ other refused stands has. silent;
     }
 
@@ -99,6 +102,7 @@ module _ {D : Type 0} (device : Device D) (e : Effects D) (files : Files) (name 
       printed = λ other others stands is. subst (λ (f : FilledArchive). PrintsSome e (statements_text f.plain others)) (sym (same_archive other stands))
           (subst (λ (s : List TypedStatement). PrintsSome e (statements_text filled.plain s))
           (same_statements statements others (one_answer files name filled (Ok statements) (Ok others) has (here other (Ok others) stands is))) some);
+      quiet = λ refused unread. absurd (read_or_not files ScriptOctets name has.text refused has.file unread);
       silent = λ other refused stands is. absurd (not_both statements refused (one_answer files name filled (Ok statements) (Err refused) has (here other (Err refused) stands is)));
     }
 
@@ -137,38 +141,45 @@ module _ {D : Type 0} (device : Device D) (e : Effects D) (files : Files) (name 
 
   -- ---- what is due
 
-  module _ (way : Way Progress ⊥) (at : refusal_at way ≡ e.report.refusal) (filled : FilledArchive) (stands : StandsFilled (device.reads e.disk) filled) where
+  absent_due : (way : Way Progress ⊥) (at : IsEndOf device e way) (text : List ℕ) (refusal : Refusal) → HasFile files ScriptOctets name text → IsNoArchive device e refusal
+      → Requires (sql_plan device e.disk (Some files) name) way → IsRefusedBy device e refusal
+  absent_due way at text refusal has is required = elim (read_due e files way at nothing_done ScriptOctets (λ octets. octets) name 0 (archive_text_plan device e.disk) text has required) [
+    | inl read ↦ opening_due e way at 1 (text_plan text) refusal is read
+    | inr cut ↦ inr cut
+  ]
+
+  module _ (way : Way Progress ⊥) (at : IsEndOf device e way) (filled : FilledArchive) (stands : StandsFilled (device.reads e.disk) filled) where
     abbrev Answered : Answer → Type 0
     Answered answer = Requires (and_then (after_answer (archive_opened 1 filled) answer) (statements_plan filled)) way
 
-    text_due : (text : List ℕ) (answer : Answer) → IsAnswer filled text answer → Requires (text_plan text filled) way → Answered answer ⊎ WasInterrupted e
-    text_due text answer is (inl cut) = or_interrupted e way at (Answered answer) _ OfMemory cut
+    text_due : (text : List ℕ) (answer : Answer) → IsAnswer filled text answer → Requires (text_plan text filled) way → Answered answer ⊎ WasInterrupted device e
+    text_due text answer is (inl cut) = or_no_memory e way at (Answered answer) _ cut
     text_due text answer is (inr asked) = inl (asked answer is)
 
-    archive_due : (text : List ℕ) (answer : Answer) → IsAnswer filled text answer → Requires (archive_text_plan device e.disk text) way → Answered answer ⊎ WasInterrupted e
-    archive_due text answer is (inl cut) = or_interrupted e way at (Answered answer) _ OfMemory cut
-    archive_due text answer is (inr (inl cut)) = or_interrupted e way at (Answered answer) _ OfMemory cut
-    archive_due text answer is (inr (inr (inl cut))) = or_interrupted e way at (Answered answer) _ OfDisk cut
+    archive_due : (text : List ℕ) (answer : Answer) → IsAnswer filled text answer → Requires (archive_text_plan device e.disk text) way → Answered answer ⊎ WasInterrupted device e
+    archive_due text answer is (inl cut) = or_no_memory e way at (Answered answer) _ cut
+    archive_due text answer is (inr (inl cut)) = or_no_memory e way at (Answered answer) _ cut
+    archive_due text answer is (inr (inr (inl cut))) = or_disk_failed e way at (Answered answer) _ cut (λ never. cc (never))
     archive_due text answer is (inr (inr (inr asked))) = text_due text answer is (asked (ArchiveFound filled) (λ transparent. stands))
 
-    script_due : (answer : Answer) → HasStatements files name filled answer → Requires (sql_plan device e.disk (Some files) name) way → Answered answer ⊎ WasInterrupted e
-    script_due answer has required = elim (read_due e files way at ScriptOctets (λ octets. octets) name 0 (archive_text_plan device e.disk) has.text has.file required) [
+    script_due : (answer : Answer) → HasStatements files name filled answer → Requires (sql_plan device e.disk (Some files) name) way → Answered answer ⊎ WasInterrupted device e
+    script_due answer has required = elim (read_due e files way at nothing_done ScriptOctets (λ octets. octets) name 0 (archive_text_plan device e.disk) has.text has.file required) [
       | inl read ↦ archive_due has.text answer has.script read
       | inr cut ↦ inr cut
     ]
 
-    printing_due : (statements : List TypedStatement) → Answered (Ok statements) → Succeeded e ⊎ WasInterrupted e
-    printing_due statements (inl is) = or_interrupted e way at (Succeeded e) _ OfMemory is
-    printing_due statements (inr (inl is)) = or_interrupted e way at (Succeeded e) _ OfOutput is
+    printing_due : (statements : List TypedStatement) → Answered (Ok statements) → Succeeded e ⊎ WasInterrupted device e
+    printing_due statements (inl is) = or_no_memory e way at (Succeeded e) _ is
+    printing_due statements (inr (inl is)) = or_unwritten e way at (Succeeded e) _ is
     printing_due statements (inr (inr is)) = succeeded e way at _ is
 
-    complete_due : (statements : List TypedStatement) → HasStatements files name filled (Ok statements) → Requires (sql_plan device e.disk (Some files) name) way → Succeeded e ⊎ WasInterrupted e
+    complete_due : (statements : List TypedStatement) → HasStatements files name filled (Ok statements) → Requires (sql_plan device e.disk (Some files) name) way → Succeeded e ⊎ WasInterrupted device e
     complete_due statements has required = elim (script_due (Ok statements) has required) [
       | inl answered ↦ printing_due statements answered
       | inr cut ↦ inr cut
     ]
 
-    refused_due : (refusal : Refusal) → HasStatements files name filled (Err refusal) → Requires (sql_plan device e.disk (Some files) name) way → IsRefusedBy e refusal
+    refused_due : (refusal : Refusal) → HasStatements files name filled (Err refusal) → Requires (sql_plan device e.disk (Some files) name) way → IsRefusedBy device e refusal
     refused_due refusal has required = elim (script_due (Err refusal) has required) [
       | inl answered ↦ refused e way at _ refusal answered
       | inr cut ↦ inr cut
@@ -176,22 +187,32 @@ module _ {D : Type 0} (device : Device D) (e : Effects D) (files : Files) (name 
 
 -- ---- the clause
 
-module _ {D : Type 0} (device : Device D) (e : Effects D) (files : Files) (clock : Option ℤ) (name : List ℕ) (run : IsRun device e files clock (Sql name)) where
+module _ {D : Type 0} (device : Device D) (e : Call D) (files : Files) (clock : Option ℤ) (name : List ℕ) (run : IsRun device e files clock (Sql name)) where
   left : IsLeft device e files name
   left = by_job device e files clock (Sql name) run (IsLeft device e files name)
       (λ did. left_unopened device e files name run.transparent OutOfMemory did.report did.printed (not_asked device e did.disk))
-      (λ way allows did. end_of (Leaves device e files name run.transparent) (sql_plan device e.disk (Some files) name) way (each_left device e files name run.transparent) allows did)
+      (λ way allows end. end_of (Leaves device e files name run.transparent) (sql_plan device e.disk (Some files) name) way (each_left device e files name run.transparent) allows end.did)
 
   pub selected : AreStatementsAnswered device e files name
   selected = record {
     left = left.left;
     whole = left.whole;
     printed = left.printed;
+    unread = λ refusal unread. (
+      by_due device e files clock (Sql name) run (IsRefusedBy device e refusal) (λ cut. inr cut)
+          (λ way required at. unread_due e files way at nothing_done ScriptOctets (λ octets. octets) name 0 (archive_text_plan device e.disk) refusal unread required),
+      left.quiet refusal unread,
+    );
+    no_archive = λ text refusal has is. (
+      by_due device e files clock (Sql name) run (IsRefusedBy device e refusal) (λ cut. inr cut)
+          (λ way required at. absent_due device e files name run.transparent way at text refusal has is required),
+      no_archive_silent device e refusal left.left.report is,
+    );
     refused = λ filled refusal stands has. (
-      by_due device e files clock (Sql name) run (IsRefusedBy e refusal) (λ cut. inr cut)
+      by_due device e files clock (Sql name) run (IsRefusedBy device e refusal) (λ cut. inr cut)
           (λ way required at. refused_due device e files name run.transparent way at filled stands refusal has required),
       left.silent filled refusal stands has,
     );
-    complete = λ filled statements stands has. by_due device e files clock (Sql name) run (Succeeded e ⊎ WasInterrupted e) (λ cut. inr cut)
+    complete = λ filled statements stands has. by_due device e files clock (Sql name) run (Succeeded e ⊎ WasInterrupted device e) (λ cut. inr cut)
         (λ way required at. complete_due device e files name run.transparent way at filled stands statements has required);
   }

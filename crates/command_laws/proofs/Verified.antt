@@ -1,6 +1,6 @@
 -- The ends of the plan of `verify`.
 use Rattle.std.proofs.Common.{◌≡◌, ◌⊎◌, ◌∙◌, inl, inr, ℤ, [], length, Option, Some, None, refl, sym, ap, subst}
-use Rattle.std.specs.Prelude.{IsTrue}
+use Rattle.std.specs.Prelude.{IsSomeAnd, IsTrue}
 use Rattle.arch_disk.specs.Disk.{Device}
 use Rattle.refusals.specs.declared.refusal.Refusal.{Refusal}
 use Rattle.refusals.specs.declared.refusal.Refusal.TheVariants.{DiskFault, Mismatch, NoArchive, Damaged, OutOfMemory, WriteFault}
@@ -11,27 +11,28 @@ use Rattle.archive_store.proofs.Exact.{filled_once}
 use Rattle.archive_verify.specs.Verified.{HoldCurrentFills}
 use Rattle.archive_verify.proofs.Currents.{mismatch_unsound}
 use Rattle.archive_verify.proofs.Images.{sound_images}
-use Rattle.command_plans.specs.Plan.{OfDisk, OfMemory, OfOutput, EachEnd, Requires, Way, refusal_at}
+use Rattle.command_plans.specs.Plan.{EachEnd, Requires, Way}
 use Rattle.command_plans.proofs.Plans.{each_end, end_of}
 use Rattle.command_words.specs.Job.{Verify}
 use Rattle.command_runs.specs.declared.report.Report.{Report}
-use Rattle.command_runs.specs.Command.{ArchiveFound, DamageFound, Effects, HasEffects, NoneFound, OpeningResult, Progress, after_opening, opening_plan}
+use Rattle.command_runs.specs.Command.{ArchiveFound, DamageFound, HasEffects, NoneFound, IsOpeningResult, OpeningResult, Progress, after_opening, opening_plan}
 use Rattle.command_runs.specs.ReadOnly.{IsReadAsBefore, IsReadOnly}
+use Rattle.command_runs.proofs.Openings.{held_once}
 use Rattle.command_runs.specs.Report.{read_only, unopened}
 use Rattle.archive_commands.specs.Verify.{IsCompared, after_comparing, compare_plan, verify_line, verify_plan}
-use Rattle.command_laws.specs.Calls.{HeldArchive, IsRun, LeavesAll, Prints, PrintsSome, Succeeded, WasInterrupted}
+use Rattle.command_laws.specs.Calls.{Call, HeldArchive, IsRefusedBy, IsRun, LeavesAll, Prints, PrintsSome, Succeeded, WasInterrupted, effects}
 use Rattle.command_laws.specs.Verify.{IsMismatch, IsUnsound, IsVerified}
 use Rattle.command_laws.proofs.Left.{all_opened, all_unopened, not_asked}
-use Rattle.command_laws.proofs.Runs.{all_is_some, by_due, by_job, none_is_some, none_or_some, or_interrupted, same_refusal, succeeded}
+use Rattle.command_laws.proofs.Runs.{IsEndOf, all_is_some, by_due, by_job, cut_off, disk_ended, memory_ended, no_archive_silent, none_is_some, none_or_some, opening_due, or_disk_failed, or_no_memory, or_unwritten, output_ended, same_refusal, succeeded, told}
 
 -- all but that a sound archive is found so
-record IsLeft {D : Type 0} (device : Device D) (e : Effects D) : Type 0 where
+record IsLeft {D : Type 0} (device : Device D) (e : Call D) : Type 0 where
   left : LeavesAll device e
   sound : Succeeded e → HeldArchive device e (λ filled. IsSoundImage (device.reads e.disk) × Prints e (verify_line filled))
   unsound : (refusal : Refusal) → e.report.refusal ≡ Some refusal → IsMismatch refusal → IsUnsound device e refusal
   printed : (filled : FilledArchive) → StandsFilled (device.reads e.disk) filled → PrintsSome e (verify_line filled)
 
-module _ {D : Type 0} (device : Device D) (e : Effects D) where
+module _ {D : Type 0} (device : Device D) (e : Call D) where
   -- no archive was opened
   left_unopened : (refusal : Refusal) → (IsMismatch refusal → ⊥) → e.report ≡ unopened (Some refusal) → Prints e [] → IsReadAsBefore device e.disk e.disk' → IsLeft device e
   left_unopened refusal other report silent kept =
@@ -61,7 +62,7 @@ module _ {D : Type 0} (device : Device D) (e : Effects D) where
 
   module _ (known : IsTrue device.is_transparent) where
     abbrev HasLeft : Way Progress ⊥ → Type 0
-    HasLeft way = HasEffects device e way → IsLeft device e
+    HasLeft way = HasEffects device (effects e) way → IsLeft device e
 
     opening_left : (held : OpeningResult) → EachEnd HasLeft (after_opening 0 held)
     opening_left NoneFound = λ did. left_unopened NoArchive (λ m. m) did.report did.printed (did.disk.1 known)
@@ -100,31 +101,68 @@ module _ {D : Type 0} (device : Device D) (e : Effects D) where
 
   -- ---- what is due of a sound archive
 
-  module _ (filled : FilledArchive) (stands : StandsFilled (device.reads e.disk) filled) (held : HoldCurrentFills filled) (way : Way Progress ⊥) (at : refusal_at way ≡ e.report.refusal) where
+  module _ (filled : FilledArchive) (stands : StandsFilled (device.reads e.disk) filled) (held : HoldCurrentFills filled) (way : Way Progress ⊥) (at : IsEndOf device e way) where
     abbrev cut : Type 0
     cut = Succeeded e
 
-    printing_due : Requires (after_comparing filled None) way → Succeeded e ⊎ WasInterrupted e
-    printing_due (inl is) = or_interrupted e way at cut _ OfOutput is
+    printing_due : Requires (after_comparing filled None) way → Succeeded e ⊎ WasInterrupted device e
+    printing_due (inl is) = or_unwritten e way at cut _ is
     printing_due (inr is) = succeeded e way at _ is
 
-    comparing_due : Requires (compare_plan filled) way → Succeeded e ⊎ WasInterrupted e
-    comparing_due (inl is) = or_interrupted e way at cut _ OfMemory is
+    comparing_due : Requires (compare_plan filled) way → Succeeded e ⊎ WasInterrupted device e
+    comparing_due (inl is) = or_no_memory e way at cut _ is
     comparing_due (inr found) = printing_due (found None held)
 
-    verifying_due : Requires (verify_plan device e.disk) way → Succeeded e ⊎ WasInterrupted e
-    verifying_due (inl is) = or_interrupted e way at cut _ OfMemory is
-    verifying_due (inr (inl is)) = or_interrupted e way at cut _ OfMemory is
-    verifying_due (inr (inr (inl is))) = or_interrupted e way at cut _ OfDisk is
+    verifying_due : Requires (verify_plan device e.disk) way → Succeeded e ⊎ WasInterrupted device e
+    verifying_due (inl is) = or_no_memory e way at cut _ is
+    verifying_due (inr (inl is)) = or_no_memory e way at cut _ is
+    verifying_due (inr (inr (inl is))) = or_disk_failed e way at cut _ is (λ never. cc (never))
     verifying_due (inr (inr (inr asked))) = comparing_due (asked (ArchiveFound filled) (λ known. stands))
+
+-- ---- what is told of an archive that isn't sound
+
+module _ {D : Type 0} (device : Device D) (e : Call D) (known : IsTrue device.is_transparent) (filled : FilledArchive) (stands : StandsFilled (device.reads e.disk) filled)
+    (unsound : IsSoundImage (device.reads e.disk) → ⊥) where
+  abbrev Found : Type 0
+  Found = IsSomeAnd e.report.refusal IsMismatch ⊎ WasInterrupted device e
+
+  abbrev HasFound : Way Progress ⊥ → Type 0
+  HasFound way = IsEndOf device e way → Found
+
+  -- an archive was found
+  never : {Q : Type 0} (held : OpeningResult) → (◌≡◌ {A = OpeningResult} held (ArchiveFound filled) → ⊥) → IsOpeningResult (device.reads e.disk) held → Q
+  never held apart h = absurd (apart (held_once device e.disk held (ArchiveFound filled) h stands))
+
+  opening_found : (held : OpeningResult) → IsOpeningResult (device.reads e.disk) held → EachEnd HasFound (after_opening 0 held)
+  opening_found NoneFound h = λ end. never NoneFound (λ same. cc (same)) h
+  opening_found (DamageFound file at) h = λ end. never (DamageFound file at) (λ same. cc (same)) h
+  opening_found (ArchiveFound other) h = tt
+
+  comparing_found : (other : FilledArchive) (found : Option Refusal) → IsCompared other found → EachEnd HasFound (after_comparing other found)
+  comparing_found other None held = (
+    λ end. inr (output_ended e _ end),
+    λ end. absurd (unsound ((sound_images (device.reads e.disk) other (end.did.disk.1 known).stands).0 held)),
+  )
+  comparing_found other (Some (Mismatch i n k s r)) named = λ end. inl (subst (λ (t : Option Refusal). IsSomeAnd t IsMismatch) (sym (told e _ end)) tt)
+  comparing_found other (Some another) none = absurd none
+
+  pub each_found : EachEnd HasFound (verify_plan device e.disk)
+  each_found = (
+    λ end. inr (memory_ended e _ end),
+    each_end HasFound (opening_plan 0 device e.disk) compare_plan (
+      λ end. inr (memory_ended e _ end),
+      (λ end. inr (disk_ended e _ end (λ apart. cc (apart))), λ held h. opening_found held (h known)),
+    )
+        (λ other. (λ end. inr (memory_ended e _ end), λ found is. comparing_found other found is)),
+  )
 
 -- ---- the clause
 
-module _ {D : Type 0} (device : Device D) (e : Effects D) (files : Files) (clock : Option ℤ) (run : IsRun device e files clock Verify) where
+module _ {D : Type 0} (device : Device D) (e : Call D) (files : Files) (clock : Option ℤ) (run : IsRun device e files clock Verify) where
   left : IsLeft device e
   left = by_job device e files clock Verify run (IsLeft device e)
       (λ did. left_unopened device e OutOfMemory (λ m. m) did.report did.printed (not_asked device e did.disk))
-      (λ way allows did. end_of (HasLeft device e run.transparent) (verify_plan device e.disk) way (each_left device e run.transparent) allows did)
+      (λ way allows end. end_of (HasLeft device e run.transparent) (verify_plan device e.disk) way (each_left device e run.transparent) allows end.did)
 
   pub verified : IsVerified device e
   verified = record {
@@ -132,6 +170,13 @@ module _ {D : Type 0} (device : Device D) (e : Effects D) (files : Files) (clock
     sound = left.sound;
     unsound = left.unsound;
     printed = left.printed;
-    complete = λ found. by_due device e files clock Verify run (Succeeded e ⊎ WasInterrupted e) (λ interrupted. inr interrupted)
+    no_archive = λ refusal is. (
+      by_due device e files clock Verify run (IsRefusedBy device e refusal) (λ cut. inr cut) (λ way required at. opening_due e way at 0 compare_plan refusal is required),
+      no_archive_silent device e refusal left.left.report is,
+    );
+    complete = λ found. by_due device e files clock Verify run (Succeeded e ⊎ WasInterrupted device e) (λ interrupted. inr interrupted)
         (λ way required at. verifying_due device e found.0 found.1 ((sound_images (device.reads e.disk) found.0 found.1).1 found.2) way at required);
+    found = λ held. by_job device e files clock Verify run (IsSomeAnd e.report.refusal IsMismatch ⊎ WasInterrupted device e)
+        (λ did. inr (cut_off device e OutOfMemory (ap (λ (r : Report). r.refusal) did.report) tt))
+        (λ way allows end. end_of (HasFound device e run.transparent held.0 held.1 held.2) (verify_plan device e.disk) way (each_found device e run.transparent held.0 held.1 held.2) allows end);
   }

@@ -2,6 +2,8 @@ pub mod Answers
 pub mod Calls
 pub mod Create
 pub mod Dumps
+pub mod HandedBack
+pub mod Load
 pub mod NamedFiles
 pub mod Query
 pub mod Recover

@@ -1,5 +1,5 @@
 -- What the files of the names that a command is given hold.
-use Rattle.std.specs.Prelude.{◌≡◌, ◌≤◌, ℕ, List, [], length, Option, Some, None, Result}
+use Rattle.std.specs.Prelude.{◌≡◌, ◌⊎◌, ◌<◌, ◌≤◌, ℕ, List, [], ◌∷◌, length, IsNone, IsSomeAnd, Option, Some, None, Result}
 use Rattle.std.specs.FinMap.{get}
 use Rattle.asks.specs.declared.ask.Ask.{Ask}
 use Rattle.mdb_items.specs.declared.sheet.RawMdb.{RawMdb}
@@ -7,6 +7,7 @@ use Rattle.mdb_sheets.specs.Asks.{asks_of}
 use Rattle.mdb_sheets.specs.Sheets.{Fields, sheet_of}
 use Rattle.outer_traits.specs.Outside.{Files}
 use Rattle.refusals.specs.declared.refusal.Refusal.{Refusal}
+use Rattle.refusals.specs.declared.refusal.Refusal.TheVariants.{Limit, Missing}
 use Rattle.refusals.specs.declared.refusal.Which.{Which}
 use Rattle.refusals.specs.declared.refusal.Which.TheVariants.{ScriptOctets, SheetOctets}
 use Rattle.refusals.specs.Limits.{limit_of}
@@ -15,6 +16,24 @@ use Rattle.refusals.specs.Limits.{limit_of}
 pub record HasFile (files : Files) (which : Which) (name octets : List ℕ) : Type 0 where
   pub there : get files name ≡ Some octets
   pub short : length octets ≤ limit_of which
+
+-- why a file of this name isn't read: it isn't there, or is longer than it may be
+abbrev pub IsUnreadFor : Files → Which → List ℕ → Refusal → Type 0
+IsUnreadFor files which name refusal =
+    (IsNone (get files name) × (refusal ≡ Missing name))
+    ⊎ (IsSomeAnd (get files name) (λ octets. limit_of which < length octets) × (refusal ≡ Limit which (limit_of which)))
+
+-- why the first of these files that isn't read isn't: those before it are there, within their limits
+abbrev pub IsFirstUnread : Files → List (Which × List ℕ) → Refusal → Type 0
+IsFirstUnread files [] refusal = ⊥
+IsFirstUnread files (file ∷ later) refusal =
+    IsUnreadFor files file.0 file.1 refusal
+    ⊎ ((octets : List ℕ) × HasFile files file.0 file.1 octets × IsFirstUnread files later refusal)
+
+-- the file of a name, where one is named
+abbrev pub named_file : Which → Option (List ℕ) → List (Which × List ℕ)
+named_file which None = []
+named_file which (Some name) = (which, name) ∷ []
 
 -- it is a sheet of these records
 pub record HasSheet (files : Files) (name : List ℕ) (records : List Fields) : Type 0 where

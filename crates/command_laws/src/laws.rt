@@ -1,6 +1,7 @@
 //! The clauses of the commands, carried by functions that do nothing.
 
 ghost use Rattle.command_laws.specs.Create.{CreateClause};
+ghost use Rattle.command_laws.specs.Load.{LoadClause};
 ghost use Rattle.command_laws.specs.Query.{QueryClause};
 ghost use Rattle.command_laws.specs.Recover.{RecoverClause};
 ghost use Rattle.command_laws.specs.Scan.{ScanClause};
@@ -25,12 +26,19 @@ pub fn create_clause<D: Disk>()
     ensures { CreateClause D.device }
 {}
 
+/// `load` lets the history grow by first arrivals of its dump, answers over what was reached, and leaves no interval
+/// late; a crash at any moment leaves a history on the way there.
+pub fn load_clause<D: Disk>()
+    ensures { LoadClause D.device }
+{}
+
 /// `query --sql` answers each statement over the whole history, and changes neither that nor the disk.
 pub fn sql_clause<D: Disk>()
     ensures { SqlClause D.device }
 {}
 
-/// `query --ask` answers each ask over the whole history, and changes neither that nor the disk.
+/// `query --ask` answers each ask by the fills and the rows of late intervals, which is the answer over the whole
+/// history where the image is sound; it changes neither that nor the disk.
 pub fn query_clause<D: Disk>()
     ensures { QueryClause D.device }
 {}
@@ -40,7 +48,7 @@ pub fn recover_clause<D: Disk>()
     ensures { RecoverClause D.device }
 {}
 
-/// `verify` leaves all, and finds exactly a sound archive sound.
+/// `verify` leaves all, finds exactly a sound archive sound, and tells the first mismatch of any other.
 pub fn verify_clause<D: Disk>()
     ensures { VerifyClause D.device }
 {}
