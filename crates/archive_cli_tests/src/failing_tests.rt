@@ -34,11 +34,13 @@ fn call<D: Disk>(alloc: Global, line: &str, disk: D) -> (u8, u64, D) {
     }
 }
 
-/// A disk that tells how many calls were made, and what its crashes leave now.
-trait Crashing: Disk + Drop {
+/// A disk that tells how many calls were made, how many of them are kept, and what its crashes leave behind so many of these.
+pub(crate) trait Crashing: Disk + Drop {
     fn calls(&self) -> u64;
 
-    fn image(&self, crash: Crash) -> Option<MemDisk>;
+    fn kept(&self) -> usize;
+
+    fn image_at(&self, moment: usize, crash: Crash) -> Option<MemDisk>;
 }
 
 impl Crashing for MemDisk {
@@ -46,8 +48,15 @@ impl Crashing for MemDisk {
         self.made()
     }
 
-    fn image(&self, crash: Crash) -> Option<MemDisk> {
-        match self.crashed(self.moments(), crash) {
+    fn kept(&self) -> usize {
+        self.moments()
+    }
+
+    fn image_at(&self, moment: usize, crash: Crash) -> Option<MemDisk> {
+        if moment > self.moments() {
+            return None;
+        }
+        match self.crashed(moment, crash) {
             Ok(image) => Some(image),
             Err(_) => None,
         }
@@ -62,7 +71,7 @@ fn recovered<D: Disk + Drop>(alloc: Global, disk: D) -> (u8, u64) {
 
 /// The same of what a crash leaves.
 fn recovered_behind<D: Crashing>(alloc: Global, disk: &D, crash: Crash) -> Option<(u8, u64)> {
-    let image = disk.image(crash)?;
+    let image = disk.image_at(disk.kept(), crash)?;
     Some(recovered(alloc, image))
 }
 

@@ -6,6 +6,8 @@ mod archive_tests;
 #[cfg(test)]
 mod calls;
 #[cfg(test)]
+mod day_tests;
+#[cfg(test)]
 mod failing_tests;
 #[cfg(test)]
 mod faults;

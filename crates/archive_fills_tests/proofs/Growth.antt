@@ -11,7 +11,8 @@ use Rattle.store_fills.proofs.RightFills.{right_fill_stays}
 use Rattle.archive_store.specs.declared.head.Head.{Head}
 use Rattle.archive_store.specs.StoreView.{StoreView}
 use Rattle.archive_store.proofs.PendingFaults.{prefix_self}
-use Rattle.archive_fills_tests.specs.Growth.{GoesOnFrom, IsRightFor}
+use Rattle.archive_store.specs.Installs.{IsRightFor}
+use Rattle.archive_fills_tests.specs.Growth.{GoesOnFrom}
 
 prefix_on : {A : Type 0} (xs ys zs : List A) → IsPrefix xs ys → IsPrefix ys zs → IsPrefix xs zs
 prefix_on {A = A} xs ys zs first next = (first.0 ++ next.0, sym (append_assoc xs first.0 next.0) ∙ ap (λ (l : List A). l ++ next.0) first.1 ∙ next.1)

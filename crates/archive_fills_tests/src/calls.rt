@@ -1,6 +1,7 @@
 // Single calls of a store, each with its answer. Each is made in one function, since its clauses stand in the goals of each that makes it.
 ghost use Rattle.std.specs.Prelude.{IfSome};
-ghost use Rattle.archive_fills_tests.specs.Growth.{GoesOnFrom, IsRightFor};
+ghost use Rattle.archive_fills_tests.specs.Growth.{GoesOnFrom};
+ghost use Rattle.archive_store.specs.Installs.{IsRightFor};
 
 use crate::parts::{Incoming, batch, packet_octets, text_of};
 use crate::plans::{Over, shows};

@@ -1,7 +1,6 @@
 // Fills of intervals without a store, one in place of another, among fills of other intervals.
-use crate::parts::{head, none_other};
-use intervals::{Exponent, Interval};
-use mdb_model::Mdb;
+use crate::parts::none_other;
+use intervals::Interval;
 use param_segments::SetBuilder;
 use std::alloc::{AllocError, Global};
 use std::sync::Arc;
@@ -30,35 +29,17 @@ fn bases() -> &'static [(i64, Option<u64>)] {
 }
 
 /// Puts a fill with a set of no rows.
-fn put(
-    alloc: Global,
-    sets: &mut LastFills,
-    mdb: &Mdb,
-    interval: i64,
-    base: u64,
-) -> Result<(), AllocError> {
+fn put(alloc: Global, sets: &mut LastFills, interval: i64, base: u64) -> Result<(), AllocError> {
     let set = SetBuilder::new(alloc).set(alloc)?;
     let shared = Arc::new(alloc, set)?;
     sets.reserve()?;
-    let slot = LastFill {
-        base,
-        exponent: Exponent::of_format_1(),
-        mdb: mdb.copy()?,
-        own: true,
-        set: shared,
-    };
-    sets.put(Interval(interval), slot);
+    sets.put(Interval(interval), LastFill { base, set: shared });
     Ok(())
 }
 
-fn put_all(
-    alloc: Global,
-    sets: &mut LastFills,
-    mdb: &Mdb,
-    fills: &[(i64, u64)],
-) -> Result<(), AllocError> {
+fn put_all(alloc: Global, sets: &mut LastFills, fills: &[(i64, u64)]) -> Result<(), AllocError> {
     for (interval, base) in fills {
-        put(alloc, sets, mdb, *interval, *base)?;
+        put(alloc, sets, *interval, *base)?;
     }
     Ok(())
 }
@@ -84,9 +65,7 @@ fn other(sets: &LastFills, bases: &[(i64, Option<u64>)]) -> Option<i64> {
 /// The same once these fills are put. Where memory is wanting for one the last isn't put, so that its interval has another.
 fn other_behind(alloc: Global, fills: &[(i64, u64)], bases: &[(i64, Option<u64>)]) -> Option<i64> {
     let mut sets = LastFills::new(alloc);
-    if let Some(head) = head(alloc) {
-        let _ = put_all(alloc, &mut sets, &head.mdb, fills);
-    }
+    let _ = put_all(alloc, &mut sets, fills);
     other(&sets, bases)
 }
 

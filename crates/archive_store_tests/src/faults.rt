@@ -25,10 +25,7 @@ fn ingest_and_reopen<D: Disk>(alloc: Global, store: &mut Store<D>, batch: &Batch
         → (c : Image) → D.device.images store.new.disk c → StandsFilled c (filled_of store.new) }
 {
     match store.ingest(alloc, batch) {
-        // It tells the proof what the type keeps.
-        Ok(_ingested) => {
-            let _ = store.front();
-        }
+        Ok(_ingested) => store.is_kept(),
         Err(_) => {
             let _ = store.reopen();
         }

@@ -8,7 +8,7 @@ use std::alloc::{AllocError, Global};
 use std::test::Fail;
 
 /// The body of a record.
-enum Body {
+pub(crate) enum Body {
     Head,
     /// Rows in tables and with packet names, each the packet 0 of link 1, behind this kind and before so many octets more.
     Rows(u8, &'static [(u8, u8)], usize),
@@ -204,7 +204,7 @@ fn put_all(alloc: Global, out: &mut Vec<u8>, bodies: &[Body]) -> Result<(), Allo
 }
 
 /// A journal of records with these bodies.
-fn journal_of(alloc: Global, bodies: &[Body]) -> Result<Vec<u8>, AllocError> {
+pub(crate) fn journal_of(alloc: Global, bodies: &[Body]) -> Result<Vec<u8>, AllocError> {
     let mut journal = Vec::new(alloc);
     put_all(alloc, &mut journal, bodies)?;
     Ok(journal)

@@ -82,6 +82,26 @@ fn compared() -> Worked {
     COMPARED
 }
 
+// Children that begin by asking `a` for a number, two for one and two for another, among others.
+const NUMBERED: Worked = (
+    "name,coding,bits,calibration|a,uint,8,|b,uint,8,",
+    "name,kind,x,y",
+    "container,parent,condition,archive,entry,position|R,,,,a,0|,,,,b,|P,R,a==1;b==2,yes,,|Q,R,b==5,yes,,|S,R,a==1,yes,,|U,R,a==2;b>3,yes,,|V,R,a>1,yes,,|W,R,a==2,yes,,",
+    "0102: 1: 0 1: 0=1 1=2
+0105: 2: 0 2: 0=1 1=5
+0107: 3: 0 3: 0=1 1=7
+0205: 2: 0 2: 0=2 1=5
+0204: 4: 0 4: 0=2 1=4
+0201: 5: 0 5: 0=2 1=1
+0300: 5: 0 5: 0=3 1=0
+0009: 0: 0: 0=0 1=9
+01: 0: 0: 0=1",
+);
+
+fn numbered() -> Worked {
+    NUMBERED
+}
+
 // A flag on each container of a chain.
 const FLAGGED: Worked = (
     "name,coding,bits,calibration|a,uint,8,",
@@ -236,12 +256,13 @@ fn other_of_all(alloc: Global, tables: &[Worked]) -> Option<&'static str> {
 }
 
 /// Each is a call, so that no table stands in a goal.
-fn tables() -> [Worked; 7] {
+fn tables() -> [Worked; 8] {
     [
         flight(),
         widest(),
         calibrated(),
         compared(),
+        numbered(),
         flagged(),
         nine_bits(),
         square(),

@@ -303,6 +303,35 @@ fn segments_have_keys(alloc: Global, set: &SegSet, mdb: &Mdb, rows: &[Row]) -> b
     true
 }
 
+/// Whether a set has so many raw cells of the parameter 0.
+fn has_raw_cells(alloc: Global, set: &SegSet, count: usize) -> bool {
+    match set.raw_cells(alloc, 0) {
+        Ok(cells) => cells.len() == count,
+        Err(_) => false,
+    }
+}
+
+/// How many raw cells of the parameter 0 the first segment of a set has.
+fn first_raw_cells<L: Ledger>(alloc: Global, blank: Blank, set: &SegSet) -> Option<usize>
+    requires name { blank.name ≡ L.name }
+    requires parts { blank.parts ≡ L.parts }
+    requires some { 0 < blank.parts }
+{
+    if set.segments() == 0 {
+        return None;
+    }
+    let (book, share) = blank.open::<L>();
+    let mut steps = Steps::new(book, share);
+    let cells = set.raw_cells_in_segment(alloc, 0, 0, &mut steps).ok()?;
+    Some(cells.len())
+}
+
+/// Whether a set of one group has a raw cell for each of its rows, and the first 4,096 of them in its first segment.
+fn are_raw_cells(alloc: Global, set: &SegSet, count: usize) -> bool {
+    has_raw_cells(alloc, set, count)
+        && first_raw_cells::<Brand>(alloc, Blank::new(1), set) == Some(count.min(4_096))
+}
+
 /// Whether rows are in so many segments, and each has a cell in its segment and in a copy of the set.
 fn are_in_segments(alloc: Global, rows: &Rows, mdb: &Mdb, segments: u32) -> bool {
     match built(alloc, Interval(0), rows, mdb) {
@@ -310,6 +339,7 @@ fn are_in_segments(alloc: Global, rows: &Rows, mdb: &Mdb, segments: u32) -> bool
             set.segments() == segments
                 && segments_have_keys(alloc, &set, mdb, rows.as_slice())
                 && copy_has_keys(alloc, &set, mdb, rows.as_slice())
+                && are_raw_cells(alloc, &set, rows.len())
         }
         _ => false,
     }

@@ -15,14 +15,14 @@ use Rattle.arch_types.proofs.Ordered.{filter-order}
 use Rattle.arch_types.proofs.InOrder.{order_sorted}
 use Rattle.arch_types.proofs.Histories.{keeps_history}
 use Rattle.partitions.specs.declared.partition.Partition.{Partition}
-use Rattle.partitions.specs.Rows.{is_of_partition, partition_at}
-use Rattle.replay_merge.specs.RowSource.{IsKeyedRow, IsRowOf, AreRowsOf, IsRowSourceHistory}
+use Rattle.partitions.specs.Rows.{is_of_partition}
+use Rattle.replay_merge.specs.RowSource.{AreRowSourceHistories, IsKeyedRow, IsRowOf, AreRowsOf, IsRowSourceHistory, rows_of_partition}
 use Rattle.replay_merge.proofs.Sorting.{ascending, same_sorted}
 use Rattle.replay_merge.proofs.Tied.{is_tied, AtMostOne, one_tied, one_after, ordered_one, first_rows}
 use Rattle.replay_merge.proofs.Reading.{all_both}
 use Rattle.replay_merge.proofs.Pieces.{all_first}
 use Rattle.replay_merge.proofs.Sources.{strictly}
-use Rattle.select_tests.specs.MemSource.{known_history, is_in_table_and_partition}
+use Rattle.select_tests.specs.MemSource.{is_in_table_and_partition, known_rows, rows_at_fronts}
 use Rattle.text_forms.specs.ClockTime.{IsClockTime, is_clock_time}
 use Rattle.std.proofs.lemmas.Int.{ints}
 
@@ -62,7 +62,7 @@ module _ (table : ℕ) (partition : Partition) (rows found sorted : List Row) (h
   are_sorted = same_sorted rows_rank sorted (order_by is_before found) (ascending rows_rank sorted in_order) (ascending rows_rank (order_by is_before found) (order_sorted found))
       (λ z. stable z ∙ sym (filter-order rows_rank (is_tied z) found ∙ ordered_one (filter (is_tied z) found) (one z)))
 
-  pub are_partition : (front : ℕ) (all : List Row) → rows ≡ take front all → sorted ≡ partition_at front table partition all
+  pub are_partition : (front : ℕ) (all : List Row) → rows ≡ take front all → sorted ≡ rows_of_partition table partition (take front all)
   are_partition front all is =
       are_sorted ∙ ap (order_by is_before) twice ∙ sym (filter-order rows_rank (is_of_partition partition) (filter (is_in_table table) rows))
       ∙ ap (λ (l : List Row). filter (is_of_partition partition) (table_of table l)) is
@@ -84,8 +84,8 @@ added rows row history keyed none = record {
 pub first_known : (n : ℕ) (rows : List Row) → IsRowSourceHistory rows → IsRowSourceHistory (take n rows)
 first_known n rows history = record { once = first_rows n rows history.once; each = all_first IsKeyedRow n rows history.each }
 
-pub known_sound : (is_known : Bool) (rows : List Row) → IsRowSourceHistory rows → IfSome (known_history is_known rows) IsRowSourceHistory
-known_sound true rows history = history
+pub known_sound : (is_known : Bool) (rows : List Row) → IsRowSourceHistory rows → IfSome (rows_at_fronts (known_rows is_known rows)) AreRowSourceHistories
+known_sound true rows history = λ front. first_known front rows history
 known_sound false rows history = tt
 
 pub clock_true : (time : ℤ) → is_clock_time time ≡ true → IsClockTime time

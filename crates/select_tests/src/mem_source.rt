@@ -5,10 +5,9 @@ ghost use Rattle.arch_types.specs.declared.row.Row.{Row};
 ghost use Rattle.std.specs.List.{list_any};
 ghost use Rattle.arch_types.specs.Packet.{IsPacket};
 ghost use Rattle.arch_types.specs.History.{is_duplicate_of};
-ghost use Rattle.partitions.specs.Rows.{partition_at};
-ghost use Rattle.replay_merge.specs.RowSource.{IsKeyedRow, IsRowSourceHistory, AreRowsOf, IsRowFault, UsedRowSource};
+ghost use Rattle.replay_merge.specs.RowSource.{AreRowSourceHistories, IsKeyedRow, IsRowSourceHistory, AreRowsOf, IsRowFault, UsedRowSource, rows_of_partition};
 ghost use Rattle.text_forms.specs.ClockTime.{is_clock_time};
-ghost use Rattle.select_tests.specs.MemSource.{known_history, is_in_table_and_partition};
+ghost use Rattle.select_tests.specs.MemSource.{is_in_table_and_partition, known_rows, source_state};
 
 use arch_types::octets::Octets;
 use arch_types::row::{Row, Rows};
@@ -33,12 +32,14 @@ pub(crate) struct MemSource {
 }
 
 impl Model for MemSource {
-    ghost use Rattle.replay_merge.specs.RowSource.{RowSourceState, IsRowSourceHistory};
-    ghost use Rattle.select_tests.specs.MemSource.{known_history};
+    ghost use Rattle.std.specs.Prelude.{List, Option, ℕ};
+    ghost use Rattle.arch_types.specs.declared.row.Row.{Row};
+    ghost use Rattle.replay_merge.specs.RowSource.{IsRowSourceHistory};
+    ghost use Rattle.select_tests.specs.MemSource.{known_rows};
 
-    ghost Value = { RowSourceState };
+    ghost Value = { Option (List Row) × ℕ };
 
-    ghost view = { λ s. record { history = known_history s.is_known s.history.items; faults = s.faults } };
+    ghost view = { λ s. (known_rows s.is_known s.history.items, s.faults) };
 
     ghost invariant = { λ s. IsRowSourceHistory s.history.items };
 }
@@ -46,7 +47,7 @@ impl Model for MemSource {
 impl MemSource {
     /// No row.
     pub(crate) fn new(alloc: Global, is_known: bool) -> Self
-        ensures { result ≡ record { history = known_history is_known []; faults = 0 } }
+        ensures { result ≡ (known_rows is_known [], 0) }
     {
         MemSource {
             history: Vec::new(alloc),
@@ -91,9 +92,9 @@ impl MemSource {
     /// Refuses the call that is to fail.
     #[tactic(auto, using(crate::proofs::Found::known_sound))]
     fn fail_in_turn(&mut self) -> Result<(), RowFault>
-        ensures history { IfSome self.old.history IsRowSourceHistory }
-        ensures refused { IfErr result (IsRowFault self.old self.new) }
-        ensures source { UsedRowSource self.old self.new }
+        ensures history { IfSome (source_state self.old).history AreRowSourceHistories }
+        ensures refused { IfErr result (IsRowFault (source_state self.old) (source_state self.new)) }
+        ensures source { UsedRowSource (source_state self.old) (source_state self.new) }
     {
         match self.calls {
             Some(0) => {
@@ -114,7 +115,9 @@ impl MemSource {
 }
 
 impl RowSource for MemSource {
-    ghost state = { λ s. s };
+    ghost use Rattle.select_tests.specs.MemSource.{source_state};
+
+    ghost state = { λ s. source_state s };
 
     fn rows(
         &mut self,
@@ -190,7 +193,7 @@ fn part_rows(
 ) -> Result<Vec<Row>, AllocError>
     requires { IsRowSourceHistory rows.now }
     ensures rows { IfOk result (λ found. (front : ℕ) (history : List Row) → rows.now ≡ take front history
-        → found.items ≡ partition_at front table partition.now history) }
+        → found.items ≡ rows_of_partition table partition.now (take front history)) }
     ensures each { IfOk result (λ found. AreRowsOf table partition.now found.items) }
 {
     let mut found = matching(alloc, rows, table, partition)?;

@@ -2,7 +2,7 @@
 
 use super::files::{does_in, failures};
 use super::folders::{has_octets, make_anew, path_of, take_away, write_file};
-use super::steps::{Step, Task, answers, does};
+use super::steps::{Step, Task, answers, does, gives_back};
 use crate::ends::{none_other, other};
 use std::fs::{self, File, Permissions};
 use std::os::unix::fs::PermissionsExt;
@@ -53,6 +53,12 @@ fn file_made_by_another_is_not_written(rt: &HostRuntime) -> bool {
         && take_away(rt, "outer_real_other")
 }
 
+fn lock_is_given_back(rt: &HostRuntime) -> bool {
+    make_anew(rt, "outer_real_back")
+        && gives_back(rt, "outer_real_back", two_octets())
+        && take_away(rt, "outer_real_back")
+}
+
 #[test]
 fn locks(rt: HostRuntime) -> Result<(), Fail> {
     none_other(other(&[
@@ -62,6 +68,7 @@ fn locks(rt: HostRuntime) -> Result<(), Fail> {
             does_in(&rt, "outer_real_new", &Task::Two(write(), locked())),
         ),
         ("a disk that is gone", lock_goes_with_its_disk(&rt)),
+        ("a lock that is given back", lock_is_given_back(&rt)),
         ("another's file", file_made_by_another_is_not_written(&rt)),
         (
             "file 0 beside many",

@@ -4,7 +4,7 @@
 
 use super::folders::{path_of, take_file_away, write_file};
 use arch_disk::Disk;
-use outer_real::RealDisk;
+use outer_real::{ArchiveLock, RealDisk};
 use std::marker::Send;
 
 /// A call of a disk, and what it answers.
@@ -93,7 +93,7 @@ fn carried<T: Send>(value: T) -> T {
 
 fn disk_in<'a>(rt: &'a HostRuntime, folder: &str) -> Option<RealDisk<'a, HostRuntime>> {
     match path_of(rt, folder) {
-        Some(path) => Some(carried(RealDisk::new(rt.alloc(), rt, path))),
+        Some(path) => Some(carried(RealDisk::new(rt.alloc(), rt, path, None))),
         None => None,
     }
 }
@@ -158,4 +158,17 @@ pub(super) fn does(rt: &HostRuntime, folder: &str, task: &Task) -> bool {
         Some(mut disk) => is_done(rt, folder, &mut disk, task),
         None => false,
     }
+}
+
+/// Whether two octets are written to file 0 of a folder and its lock is given back, another program works there then, and the first one's calls
+/// fail.
+pub(super) fn gives_back(rt: &HostRuntime, folder: &str, others: &[Step]) -> bool {
+    let Some(path) = path_of(rt, folder) else {
+        return false;
+    };
+    let lock = ArchiveLock::new();
+    let mut disk = RealDisk::new(rt.alloc(), rt, path, Some(&lock));
+    let is_written = writes(&mut disk, 0, 0, b"ab");
+    lock.give_back();
+    is_written && answers(rt, folder, others) && disk.len(0).is_err() && disk.faults() == 1
 }

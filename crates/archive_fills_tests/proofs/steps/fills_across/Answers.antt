@@ -1,5 +1,5 @@
 use Rattle.std.proofs.Common.{subst, IfSome}
-use Rattle.archive_fills_tests.specs.Growth.{IsRightFor}
+use Rattle.archive_store.specs.Installs.{IsRightFor}
 use Rattle.archive_fills_tests.proofs.Growth.{stays_right}
 use Rattle.archive_fills_tests.proofs.steps.fills_across.Goals as goal
 

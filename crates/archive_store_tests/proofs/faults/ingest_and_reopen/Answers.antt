@@ -24,7 +24,7 @@ healed_or_two {D = D} device old mid new rows e (Err r) none refused ok err tran
 
 -- no failed write is pending after it
 pub returns-in-Ok : goal.returns-in-Ok
-returns-in-Ok g c transparent few image left = c.front.ensures.kept transparent (ap pending_fault_of c.in-Ok.ensures.ingested.fills ∙ c.requires.healed) image left
+returns-in-Ok g c transparent few image left = c.is_kept.ensures.kept transparent (ap pending_fault_of c.in-Ok.ensures.ingested.fills ∙ c.requires.healed) image left
 
 pub returns : goal.returns
 returns g c transparent few image left =

@@ -1,0 +1,322 @@
+//! A day of commands on disks of which each call fails in turn, what a crash leaves at each moment of it, and commands of which each read fails in turn.
+
+use crate::calls::{Outside, call, files_alone, none_other};
+use crate::failing_tests::Crashing;
+use crate::faults::failing;
+use crate::files::files;
+use crate::in_a_row::{CREATE, Call, other_call, other_on, overwritten};
+use crate::late_tests::unfilled;
+use arch_disk::{Crash, Disk, MemDisk};
+use outer_traits::mem_inputs::FailingCall;
+use std::alloc::Global;
+use std::test::Fail;
+
+const DAY: &[&str] = &[
+    CREATE,
+    "load twice",
+    "load --ask asks later",
+    "recover",
+    "verify",
+    "query --ask asks",
+    "query --sql script",
+];
+
+/// A function, as each table below is, so that they stand in no goal of its callers.
+fn day() -> &'static [&'static str] {
+    DAY
+}
+
+/// What the archive of that day answers.
+const EVENING: &[Call] = &[
+    (
+        "query --ask asks",
+        (
+            0,
+            "ask 1 front 3\ncell 1500 140886016 7 7\nend 1\n",
+            "",
+            Some((3, 3)),
+        ),
+    ),
+    (
+        "verify",
+        (0, "sound rows 3 intervals 2 late 0\n", "", Some((3, 3))),
+    ),
+];
+
+fn evening() -> &'static [Call] {
+    EVENING
+}
+
+/// The status of a command, how many rows the archive has afterwards, and the disk.
+fn command<D: Disk>(alloc: Global, line: &str, disk: D) -> (u8, u64, D) {
+    let (outcome, disk) = call(alloc, line, &files_alone(files()), disk);
+    (outcome.status, outcome.after, disk)
+}
+
+/// Whether a command answers that it was done, or that the disk failed. It says the second exactly where a call of the disk failed, and is given once
+/// more then: the archive of a `create` that failed may be there.
+fn goes_on<D: Disk>(alloc: Global, line: &str, disk: D) -> (bool, D) {
+    let before = disk.faults();
+    let (status, _, disk) = command(alloc, line, disk);
+    if disk.faults() == before {
+        return (status == 0, disk);
+    }
+    let (again, _, disk) = command(alloc, line, disk);
+    let is_done = again == 0 || (again == 1 && line == CREATE);
+    (status == 5 && is_done, disk)
+}
+
+/// Whether all commands of a day go on so, and the disk.
+fn all_go_on<D: Disk>(alloc: Global, lines: &[&'static str], disk: D) -> (bool, D) {
+    let mut disk = disk;
+    for line in lines {
+        let (goes, left) = goes_on(alloc, line, disk);
+        disk = left;
+        if !goes {
+            return (false, disk);
+        }
+    }
+    (true, disk)
+}
+
+/// What comes of a day on a disk.
+#[derive(Clone, Copy, PartialEq, Eq)]
+enum Came {
+    /// No call of the disk failed.
+    Unfailed,
+    /// One did, which was told, and the archive answers as on a disk that works.
+    Right,
+    Wrong,
+}
+
+fn came_of<D: Disk + Drop>(alloc: Global, disk: D) -> Came {
+    let (goes, disk) = all_go_on(alloc, day(), disk);
+    if disk.faults() == 0 {
+        return Came::Unfailed;
+    }
+    if goes && other_on(alloc, disk, evening()).is_none() {
+        Came::Right
+    } else {
+        Came::Wrong
+    }
+}
+
+/// The first call of the disk of whose fault something else comes. A day makes some sixty: if these are few, it is call 0.
+fn wrong_day(alloc: Global) -> Option<u64> {
+    for fails in 1..200u64 {
+        match came_of(alloc, failing(alloc, &[fails])) {
+            Came::Right => {}
+            Came::Unfailed => return if fails > 40 { None } else { Some(0) },
+            Came::Wrong => return Some(fails),
+        }
+    }
+    Some(0)
+}
+
+#[test]
+fn each_call_of_the_disk_fails_in_turn(rt: HostRuntime) -> Result<(), Fail> {
+    none_other(wrong_day(rt.alloc()))
+}
+
+/// Whether what a crash left opens and is sound, with as many rows as before a command or behind it; before a `create` there may be none.
+fn opens<D: Disk + Drop>(alloc: Global, image: D, before: Option<u64>, behind: u64) -> bool {
+    let (found, _, image) = command(alloc, "verify", image);
+    let (status, rows, _image) = command(alloc, "recover", image);
+    if status == 1 {
+        return before.is_none();
+    }
+    found == 0 && status == 0 && (before == Some(rows) || rows == behind)
+}
+
+/// The same of each kind of crash at a moment.
+fn all_open<D: Crashing>(
+    alloc: Global,
+    disk: &D,
+    moment: usize,
+    before: Option<u64>,
+    behind: u64,
+) -> bool {
+    for crash in Crash::ALL {
+        let is_so = match disk.image_at(moment, crash) {
+            Some(image) => opens(alloc, image, before, behind),
+            None => false,
+        };
+        if !is_so {
+            return false;
+        }
+    }
+    true
+}
+
+/// The same of each moment behind the first calls.
+fn all_open_since<D: Crashing>(
+    alloc: Global,
+    disk: &D,
+    from: usize,
+    before: Option<u64>,
+    behind: u64,
+) -> bool {
+    for moment in from..disk.kept() {
+        if !all_open(alloc, disk, moment.saturating_add(1), before, behind) {
+            return false;
+        }
+    }
+    true
+}
+
+/// A command, and how many rows the archive has before it, where there is one, and behind it.
+type Step = (&'static str, Option<u64>, u64);
+
+const STEPS: &[Step] = &[
+    (CREATE, None, 0),
+    ("load twice", Some(0), 2),
+    ("load later", Some(2), 3),
+    ("recover", Some(3), 3),
+];
+
+fn steps() -> &'static [Step] {
+    STEPS
+}
+
+/// The fills of two intervals are wanting.
+const FILLS: &[Step] = &[("recover", Some(3), 3)];
+
+fn fills() -> &'static [Step] {
+    FILLS
+}
+
+/// Whether what crashes leave during a command opens so, and the disk.
+fn is_right_across<D: Crashing>(alloc: Global, step: &Step, disk: D) -> (bool, D) {
+    let (line, before, behind) = *step;
+    let from = disk.kept();
+    let (status, rows, disk) = command(alloc, line, disk);
+    let are_open = all_open_since(alloc, &disk, from, before, behind);
+    (status == 0 && rows == behind && are_open, disk)
+}
+
+/// The place of the first of these commands of which it isn't so.
+fn wrong_step<D: Crashing>(alloc: Global, steps: &[Step], disk: D) -> Option<usize> {
+    let mut disk = disk;
+    let mut place = 0usize;
+    for step in steps {
+        let (is_right, left) = is_right_across(alloc, step, disk);
+        disk = left;
+        if !is_right {
+            return Some(place);
+        }
+        place = place.saturating_add(1);
+    }
+    None
+}
+
+/// The same of the recovery of an archive without fills.
+fn wrong_fill<D: Crashing>(alloc: Global, disk: D) -> Option<usize> {
+    let (_, disk) = overwritten(alloc, disk, &unfilled());
+    wrong_step(alloc, fills(), disk)
+}
+
+#[test]
+fn crashes_at_each_moment(rt: HostRuntime) -> Result<(), Fail> {
+    let alloc = rt.alloc();
+    none_other(wrong_step(alloc, steps(), MemDisk::new(alloc)))?;
+    none_other(wrong_fill(alloc, MemDisk::new(alloc)))
+}
+
+/// A command, whether it is given to an archive, and how many inputs it opens.
+type Reader = (&'static str, bool, u64);
+
+const READERS: &[Reader] = &[
+    ("scan twice", false, 1),
+    (
+        "values parameters calibrations containers twice v",
+        false,
+        4,
+    ),
+    ("create parameters calibrations containers copy", false, 4),
+    ("load twice", true, 1),
+    ("load --route all --ask asks twice", true, 3),
+    ("query --ask asks", true, 1),
+    ("query --sql script", true, 1),
+];
+
+fn readers() -> &'static [Reader] {
+    READERS
+}
+
+const MADE: &[Call] = &[(
+    CREATE,
+    (
+        0,
+        "created tables 1 parameters 2 containers 1\n",
+        "",
+        Some((0, 0)),
+    ),
+)];
+
+fn made() -> &'static [Call] {
+    MADE
+}
+
+const UNMADE: &[Call] = &[];
+
+fn unmade() -> &'static [Call] {
+    UNMADE
+}
+
+/// Whether a command tells that a read failed, and prints nothing.
+fn is_told<D: Disk + Drop>(
+    alloc: Global,
+    reader: &Reader,
+    opening: u64,
+    read: u64,
+    disk: D,
+) -> bool {
+    let (line, has_archive, _) = *reader;
+    let calls = if has_archive { made() } else { unmade() };
+    let (_, disk) = other_call(alloc, disk, calls);
+    let outside = Outside {
+        files: files(),
+        reads: &[FailingCall { opening, read }],
+        writes: &[],
+    };
+    let (outcome, _disk) = call(alloc, line, &outside, disk);
+    outcome.status == 3 && outcome.printed == 0
+}
+
+/// The same of each read of one input: that it is opened, its octets, and that there are no more.
+fn all_told(alloc: Global, reader: &Reader, opening: u64) -> bool {
+    for read in 0..3u64 {
+        if !is_told(alloc, reader, opening, read, MemDisk::new(alloc)) {
+            return false;
+        }
+    }
+    true
+}
+
+/// Whether it is so of each input of a command.
+fn is_told_of_each(alloc: Global, reader: &Reader) -> bool {
+    let (_, _, inputs) = *reader;
+    for before in 0..inputs {
+        if !all_told(alloc, reader, before.saturating_add(1)) {
+            return false;
+        }
+    }
+    true
+}
+
+/// The place of the first of these commands of which it isn't.
+fn untold(alloc: Global, readers: &[Reader]) -> Option<usize> {
+    let mut place = 0usize;
+    for reader in readers {
+        if !is_told_of_each(alloc, reader) {
+            return Some(place);
+        }
+        place = place.saturating_add(1);
+    }
+    None
+}
+
+#[test]
+fn each_read_fails_in_turn(rt: HostRuntime) -> Result<(), Fail> {
+    none_other(untold(rt.alloc(), readers()))
+}
