@@ -14,7 +14,8 @@ mkdir -p "$crate/src" "$crate/specs" "$crate/proofs"
 for name in main turns ingests; do cp "$here/$name.txt" "$crate/src/$name.rt"; done
 renamed() { sed 's/live_tests/turn_bench/g' "$@"; }
 renamed "$top/crates/live_tests/src/parts.rt" "$here/parts.txt" >"$crate/src/parts.rt"
-for file in specs/Lib specs/Heads proofs/parts/arrival/Answers proofs/parts/created/Answers proofs/parts/in_turns/Answers; do
+files='specs/Lib specs/Heads proofs/Sending proofs/parts/arrival/Answers proofs/parts/batch/Answers proofs/parts/created/Answers'
+for file in $files proofs/parts/in_turns/Answers; do
   mkdir -p "$(dirname "$crate/$file")"
   renamed "$top/crates/live_tests/$file.antt" >"$crate/$file.antt"
 done
@@ -26,9 +27,11 @@ lib Lib
 arrivals parts/arrivals_of/Answers
 arrivals_loop parts/arrivals_of/Invariants
 batch parts/batch_of/Answers
+by_two ingests/by_two/Answers
 ingest ingests/ingest/Answers
 ingest_loop ingests/ingest/Invariants
 take_turns turns/take_turns/Invariants
+rounds turns/rounds/Invariants
 LIST
 rustc --edition 2021 -C opt-level=3 -o "$dir/mutex" "$here/mutex.rs"
 cd "$crate"
