@@ -64,6 +64,13 @@ impl Name {
         self.octets.as_slice()
     }
 
+    /// It is a name. This does nothing but tell a proof so.
+    pub fn is_name(&self)
+        ensures { is_name self.now ≡ true }
+    {
+        let _ = &self.octets;
+    }
+
     /// An equal value.
     pub fn copy(&self) -> Result<Self, AllocError>
         ensures { IfOk result (λ copy. copy ≡ self.now) }

@@ -83,7 +83,7 @@ fn last_after(last: Option<u64>, position: u64, passes: bool) -> Option<u64>
     if passes { Some(position) } else { last }
 }
 
-/// The position of an interval's last row.
+/// The position of what changed an interval last: among rows alone, its last row.
 pub(crate) fn last_in(rows: &[Row], interval: Interval, exponent: Exponent) -> Option<u64>
     ensures { result ≡ last_in exponent interval (items_of rows.now) }
 {

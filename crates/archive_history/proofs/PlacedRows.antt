@@ -1,5 +1,5 @@
 -- The tables of a history, as it grows.
-use Rattle.std.proofs.Common.{◌≡◌, ◌≢◌, ⊎_elim, ℕ, zero, suc, pos, Some, ◌+◌, ◌<◌, ◌≤◌, List, [], ◌∷◌, ◌++◌, length, set, true, false, refl, sym, ◌∙◌, ap, subst, arith}
+use Rattle.std.proofs.Common.{◌≡◌, ◌≢◌, ⊎_elim, ℕ, zero, suc, pos, Some, ◌+◌, ◌<◌, ◌≤◌, List, [], ◌∷◌, ◌++◌, length, set, take, true, false, refl, sym, ◌∙◌, ap, subst, arith}
 use Rattle.std.specs.Prelude.{slice_index_or, slice_get, vec_len, vec_capacity, replicate}
 use Rattle.std.specs.Global.{Vec}
 use Rattle.std.specs.declared.snapshot.Snapshot.{Snapshot}
@@ -13,7 +13,7 @@ use Rattle.arch_types.specs.declared.key.Key.{Key}
 use Rattle.arch_types.specs.declared.row.Row.{Row}
 use Rattle.arch_types.specs.History.{is_in_table, is_duplicate_of, with_row}
 use Rattle.history_items.specs.declared.items.Item.{Item}
-use Rattle.history_items.specs.Items.{items_of, row_item}
+use Rattle.history_items.specs.Items.{items_of, prefix, row_item, rows_in}
 use Rattle.history_items.proofs.ItemLists.{any_row_of}
 use Rattle.yarch_table.specs.declared.table.Stored.{Stored}
 use Rattle.yarch_table.specs.Stored.{TableView, IsInserted, IsKeptAt, rows_of}
@@ -136,6 +136,12 @@ tables_with_known old T was order room room' row position p within hold here at 
 -- the table at an index has its rows of the history
 pub table_rows : (tables : List TableView) (order : Vec (Snapshot Row)) (room t : ℕ) (there : TableView) → AreRowTables 0 tables order room → t < length tables → there ≡ slice_index_or tables t there → there.stored ≡ placed t (noted_rows order.items)
 table_rows tables order room t there hold within is = ap (λ (h : TableView). h.stored) (is ∙ default_free tables t there no_table within) ∙ hold.placed_in t within
+
+-- the rows below a front
+pub rows_cut : (front : ℕ) (rows : List Row) → rows_in (prefix front (items_of rows)) ≡ take front rows
+rows_cut zero rows = refl
+rows_cut (suc front) [] = refl
+rows_cut (suc front) (row ∷ rows) = ap (λ (l : List Row). row ∷ l) (rows_cut front rows)
 
 -- ---- the row of a key
 

@@ -1,5 +1,5 @@
 -- A history in memory.
-use Rattle.std.specs.Prelude.{◌≡◌, ℕ, ◌≤◌, ◌&&◌, ◌==◌, List, filter, Bool}
+use Rattle.std.specs.Prelude.{◌≡◌, ℕ, ℤ, ◌≤◌, ◌&&◌, ◌==◌, List, filter, Bool}
 use Rattle.std.specs.Global.{Vec}
 use Rattle.std.specs.declared.snapshot.Snapshot.{Snapshot}
 use Rattle.std.specs.Ordering.{is_eq}
@@ -8,8 +8,11 @@ use Rattle.arch_types.specs.declared.key.Key.{Key}
 use Rattle.arch_types.specs.declared.row.Row.{Row}
 use Rattle.arch_types.specs.History.{IsHistory, is_in_table}
 use Rattle.arch_types.specs.Order.{key_cmp}
+use Rattle.arch_types.specs.Table.{range_of, table_of}
 use Rattle.history_items.specs.declared.items.Item.{Item}
 use Rattle.history_items.specs.Items.{is_row_with, rows_in}
+use Rattle.partitions.specs.declared.partition.Partition.{Partition}
+use Rattle.partitions.specs.Rows.{is_of_partition, is_of_parts}
 use Rattle.yarch_table.specs.Stored.{TableView}
 use Rattle.archive_history.specs.Limits.{octets_of, interval_rows, IsWithin}
 use Rattle.archive_history.specs.LimitCounts.{LimitCountsView, interval_row_count}
@@ -30,6 +33,14 @@ is_at_key table key = is_row_with (λ row. (table == row.table) && is_eq (key_cm
 -- the rows of a table, in the order of the history
 abbrev pub rows_in_table : ℕ → List Item → List Row
 rows_in_table table items = filter (is_in_table table) (rows_in items)
+
+-- the rows of a partition of a table among items, in the order of their keys
+abbrev pub rows_in_partition : ℕ → Partition → List Item → List Row
+rows_in_partition table partition items = filter (is_of_partition partition) (table_of table (rows_in items))
+
+-- those of several partitions with from <= time < to, in the order of their keys
+abbrev pub rows_in_parts : ℕ → List Partition → ℤ → ℤ → List Item → List Row
+rows_in_parts table parts from to items = filter (is_of_parts parts) (range_of table from to (rows_in items))
 
 -- the rows are a history that passes no limit, and the counts are theirs, with room for more
 pub record AreCounted (exponent : ℕ) (items : List Item) (room : ℕ) (limit_counts : LimitCountsView) : Type 0 where

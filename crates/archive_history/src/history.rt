@@ -7,14 +7,14 @@ ghost use Rattle.arch_types.specs.History.{IsHistory};
 ghost use Rattle.intervals.specs.Interval.{interval_of};
 ghost use Rattle.arch_types.specs.Table.{range_of};
 ghost use Rattle.history_items.specs.declared.items.Item.{Item};
-ghost use Rattle.history_items.specs.Items.{after_row, after_rows, items_of, row_item, rows_in};
+ghost use Rattle.history_items.specs.Items.{after_row, after_rows, items_of, prefix, row_item, rows_in};
 ghost use Rattle.archive_history.specs.PartitionedTable.{named_times_of};
-ghost use Rattle.archive_history.specs.History.{is_at_key, rows_in_table};
+ghost use Rattle.archive_history.specs.History.{is_at_key, rows_in_partition, rows_in_parts, rows_in_table};
 ghost use Rattle.histogram.specs.Times.{spans_of_times, times_of};
 ghost use Rattle.partitions.specs.declared.partition.Partition.{Partition as APartition};
 ghost use Rattle.partitions.specs.Bounds.{MayHold};
 ghost use Rattle.partitions.specs.Partitions.{AreRising};
-ghost use Rattle.partitions.specs.Rows.{partition_at, partitions_of, parts_between};
+ghost use Rattle.partitions.specs.Rows.{partitions_of};
 ghost use Rattle.archive_history.specs.RowLimits.{row_limit};
 ghost use Rattle.archive_history.specs.declared.row_limit.RowLimit.TheVariants as limits;
 ghost use Rattle.archive_history.specs.Limits.{octets_of, interval_rows, IsWithin, PassesFirst};
@@ -138,6 +138,14 @@ impl History {
         ensures history { IsHistory (rows_in self.now.items) }
     {
         self.order.len()
+    }
+
+    /// Its rows are a history within the limits. This does nothing but tell a proof so.
+    pub fn is_kept(&self)
+        ensures within { IsWithin self.now.exponent (rows_in self.now.items) }
+        ensures history { IsHistory (rows_in self.now.items) }
+    {
+        let _ = &self.order;
     }
 
     /// The exponent of its intervals.
@@ -280,13 +288,13 @@ impl History {
         front: u64,
     ) -> Result<Rows, AllocError>
         requires { table < self.now.tables }
-        ensures { IfOk result (λ rows. rows ≡ partition_at front table partition.now (rows_in self.now.items)) }
+        ensures { IfOk result (λ rows. rows ≡ rows_in_partition table partition.now (prefix front self.now.items)) }
     {
         self.tables[table as usize].partition_rows(alloc, partition, front)
     }
 
-    /// The rows of some partitions of a table at a front, which rise, with `from <= time < to`, in the order of their keys. The
-    /// one error is want of memory.
+    /// The rows of some partitions of a table at a front, which rise, with `from <= time < to`, in the order of their
+    /// keys. The one error is want of memory.
     pub fn rows_between(
         &self,
         alloc: Global,
@@ -298,7 +306,7 @@ impl History {
     ) -> Result<Rows, AllocError>
         requires table { table < self.now.tables }
         requires rising { AreRising parts.now }
-        ensures { IfOk result (λ rows. rows ≡ parts_between front table parts.now from to (rows_in self.now.items)) }
+        ensures { IfOk result (λ rows. rows ≡ rows_in_parts table parts.now from to (prefix front self.now.items)) }
     {
         self.tables[table as usize].rows_between(alloc, parts, from, to, front)
     }

@@ -10,7 +10,7 @@ ghost use Rattle.partitions.specs.Bounds.{MayHold};
 ghost use Rattle.partitions.specs.Partitions.{AreRising};
 ghost use Rattle.partitions.specs.Rows.{is_of_partition, is_of_parts, partitions_of};
 ghost use Rattle.yarch_table.specs.Stored.{seen_at, seen_between, rows_of, IsInserted, IsKeptAt};
-ghost use Rattle.archive_history.specs.PartitionedTable.{named_times_of, rows_at_places, IsHistogramWith};
+ghost use Rattle.archive_history.specs.PartitionedTable.{named_times_of, rows_at_places, HaveOwnKeys, IsHistogramWith};
 
 use crate::ranged::{rows_all_of_parts, rows_in_steps};
 use arch_types::inserted::Inserted;
@@ -219,6 +219,13 @@ impl PartitionedTable {
         rows_in_steps(alloc, range, parts, self.partitions.steps_of(parts))
     }
 
+    /// Each row has a key of its own. This does nothing but tell a proof so.
+    fn has_own_keys(&self)
+        ensures { HaveOwnKeys (rows_of self.now.stored) }
+    {
+        let _ = &self.table;
+    }
+
     /// The same by the places of the partitions.
     fn rows_by_partitions(
         &self,
@@ -232,8 +239,7 @@ impl PartitionedTable {
         ensures { IfOk result (λ rows. rows
             ≡ filter (is_of_parts parts.now) (seen_between front from to self.now.stored)) }
     {
-        // It tells the proof that each row has a key of its own.
-        let _table = &self.table;
+        self.has_own_keys();
         let mut rows = Vec::new(alloc);
         for partition in parts {
             let part_rows = self.partition_rows(alloc, partition, front)?;

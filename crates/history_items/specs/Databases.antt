@@ -34,4 +34,5 @@ names_in first history = fold with_names_of (names_of_database first) (databases
 
 -- the places of the names of the database in force
 abbrev pub places_in : Database → List Item → List ℕ
-places_in first history = filter_map (λ name. place_of name (names_in first history)) (names_of_database (database_in first history))
+places_in first history =
+    filter_map (λ name. place_of name (names_in first history)) (names_of_database (database_in first history))

@@ -49,14 +49,19 @@ pub record IsLate (exponent : ℕ) (interval : Interval) (history : List Item) (
 -- the position of what changed the interval last, where it has a row
 abbrev pub last_in : ℕ → Interval → List Item → Option ℕ
 last_in exponent interval history =
-    if list_any (is_row_of_interval exponent interval) history then last_place (changes_interval exponent interval) history else None
+    if list_any (is_row_of_interval exponent interval) history
+    then last_place (changes_interval exponent interval) history
+    else None
 
 -- the interval has no row, or it has one, and what changes it stands at this position and nowhere after it
 abbrev pub IsLastIn : ℕ → Interval → List Item → Option ℕ → Type 0
 IsLastIn exponent interval history None = HasRow exponent interval history → ⊥
 IsLastIn exponent interval history (Some last) =
-    HasRow exponent interval history × ChangesAt exponent interval last history × ((position : ℕ) → ChangesAt exponent interval position history → position ≤ last)
+    HasRow exponent interval history
+    × ChangesAt exponent interval last history
+    × ((position : ℕ) → ChangesAt exponent interval position history → position ≤ last)
 
 -- whether an interval is late: it has a row, and is late by its last change
 abbrev pub is_late_in : ℕ → Interval → List Item → List Fill → Bool
-is_late_in exponent interval history fills = option_map_or (λ last. is_late_by last (base_in interval fills)) (last_in exponent interval history) false
+is_late_in exponent interval history fills =
+    option_map_or (λ last. is_late_by last (base_in interval fills)) (last_in exponent interval history) false

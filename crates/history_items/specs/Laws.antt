@@ -69,12 +69,14 @@ OneOutcomePerRow = (history : List Item) (rows : List Row) → length (outcomes_
 
 -- an outcome is answered for a row exactly where it says the truth of the row and what stands before it
 abbrev pub OutcomesSay : Type 0
-OutcomesSay = (history : List Item) (rows : List Row) (i : ℕ) (row : Row) (outcome : Inserted) → IsHistory (rows_in history) → slice_get rows i ≡ Some row →
+OutcomesSay = (history : List Item) (rows : List Row) (i : ℕ) (row : Row) (outcome : Inserted) →
+    IsHistory (rows_in history) → slice_get rows i ≡ Some row →
     (slice_get (outcomes_of history rows) i ≡ Some outcome) ↔ Says (after_rows history (take i rows)) row outcome
 
 -- an ingest puts the rows that are new behind the history
 abbrev pub FreshRowsAreAdded : Type 0
-FreshRowsAreAdded = (history : List Item) (rows : List Row) → after_rows history rows ≡ history ++ items_of (fresh_of history rows)
+FreshRowsAreAdded = (history : List Item) (rows : List Row) →
+    after_rows history rows ≡ history ++ items_of (fresh_of history rows)
 
 -- what an ingest puts behind the history are rows of the batch, in its order
 abbrev pub IngestAddsRowsInOrder : Type 0
@@ -84,7 +86,8 @@ IngestAddsRowsInOrder = (history : List Item) (rows : List Row) →
 -- the rows that are new are a batch of which each is new
 abbrev pub FreshRowsAreNew : Type 0
 FreshRowsAreNew = (history : List Item) (rows : List Row) →
-    (after_rows history (fresh_of history rows) ≡ history ++ items_of (fresh_of history rows)) × (length (fresh_of history rows) ≤ length rows)
+    (after_rows history (fresh_of history rows) ≡ history ++ items_of (fresh_of history rows))
+    × (length (fresh_of history rows) ≤ length rows)
 
 -- each row of two batches is new exactly where each of the first is, and each of the second after them
 abbrev pub NewInTurn : Type 0
@@ -97,21 +100,25 @@ NewInTurn = (history : List Item) (first second : List Row) →
 
 -- where an interval has a row, the position of its last change is that of what changes it, and the greatest
 abbrev pub LastIsGreatest : Type 0
-LastIsGreatest = (exponent : ℕ) (interval : Interval) (history : List Item) → IsLastIn exponent interval history (last_in exponent interval history)
+LastIsGreatest = (exponent : ℕ) (interval : Interval) (history : List Item) →
+    IsLastIn exponent interval history (last_in exponent interval history)
 
 -- one row more
 abbrev pub LastAfterRow : Type 0
 LastAfterRow = (exponent : ℕ) (interval : Interval) (history : List Item) (row : Row) →
-    last_in exponent interval (history ++ row_item row ∷ []) ≡ (if is_of_interval exponent interval row then Some (length history) else last_in exponent interval history)
+    last_in exponent interval (history ++ row_item row ∷ [])
+    ≡ (if is_of_interval exponent interval row then Some (length history) else last_in exponent interval history)
 
 -- one database more
 abbrev pub LastAfterDatabase : Type 0
 LastAfterDatabase = (exponent : ℕ) (interval : Interval) (history : List Item) (database : Database) →
-    last_in exponent interval (history ++ database_item database ∷ []) ≡ option_map (λ last. length history) (last_in exponent interval history)
+    last_in exponent interval (history ++ database_item database ∷ [])
+    ≡ option_map (λ last. length history) (last_in exponent interval history)
 
 -- the last change decides whether an interval is late
 abbrev pub LateByLast : Type 0
-LateByLast = (exponent : ℕ) (interval : Interval) (history : List Item) (fills : List Fill) → IsTrue (is_late_in exponent interval history fills) ↔ IsLate exponent interval history fills
+LateByLast = (exponent : ℕ) (interval : Interval) (history : List Item) (fills : List Fill) →
+    IsTrue (is_late_in exponent interval history fills) ↔ IsLate exponent interval history fills
 
 -- ---- fill lists
 
@@ -121,14 +128,16 @@ BaseIsOfLastDone = (interval : Interval) (fills : List Fill) →
     ((base : ℕ) → (base_in interval fills ≡ Some base) ↔ IsLastDone interval base fills)
     × ((base_in interval fills ≡ None) ↔ ((place base : ℕ) → slice_get fills place ≡ Some (Done interval base) → ⊥))
 
--- an interval is in flight, with a base, exactly where a Begun of it with that base stands in the list and nothing that ends the flight behind
+-- an interval is in flight, with a base, exactly where a Begun of it with that base stands in the list and nothing that
+-- ends the flight behind
 abbrev pub FlightIsBegunLast : Type 0
 FlightIsBegunLast = (interval : Interval) (base : ℕ) (fills : List Fill) →
     (in_flight interval fills ≡ Some base) ↔ IsBegunLast interval base fills
 
 -- the list of flights has an interval exactly where it is in flight
 abbrev pub FlightsAreInFlight : Type 0
-FlightsAreInFlight = (interval : Interval) (fills : List Fill) → list_any (is_same interval) (flights_of fills) ≡ is_some (in_flight interval fills)
+FlightsAreInFlight = (interval : Interval) (fills : List Fill) →
+    list_any (is_same interval) (flights_of fills) ≡ is_some (in_flight interval fills)
 
 -- one item more
 abbrev pub BasesAfterItem : Type 0
@@ -139,15 +148,20 @@ BasesAfterItem = (interval : Interval) (fills : List Fill) (item : Fill) →
 -- what more items hold comes after what is held, and the first count that stands stays
 abbrev pub FaultsAfterItems : Type 0
 FaultsAfterItems = (fills more : List Fill) →
-    (rows_of_faults (fills ++ more) ≡ rows_of_faults fills ++ rows_of_faults more) × (pending_fault_of (fills ++ more) ≡ option_or (pending_fault_of fills) (pending_fault_of more))
+    (rows_of_faults (fills ++ more) ≡ rows_of_faults fills ++ rows_of_faults more)
+    × (pending_fault_of (fills ++ more) ≡ option_or (pending_fault_of fills) (pending_fault_of more))
 
 -- counts go on rising over items whose counts rise from above the last count
 abbrev pub CountsGoOn : Type 0
-CountsGoOn = (low high next : ℕ) (fills more : List Fill) → low ≤ above high → high ≤ next → Rising low high fills → Rising (above high) next more → Rising low next (fills ++ more)
+CountsGoOn = (low high next : ℕ) (fills more : List Fill) → low ≤ above high → high ≤ next →
+    Rising low high fills → Rising (above high) next more → Rising low next (fills ++ more)
 
 -- a reopen takes away the pending fault, and nothing else
 abbrev pub ReopenSettles : Type 0
 ReopenSettles = (fills : List Fill) →
-    (pending_fault_of (reopened fills) ≡ None) × (rows_of_faults (reopened fills) ≡ rows_of_faults fills) × (length (reopened fills) ≡ length fills)
+    (pending_fault_of (reopened fills) ≡ None)
+    × (rows_of_faults (reopened fills) ≡ rows_of_faults fills)
+    × (length (reopened fills) ≡ length fills)
     × ((low high : ℕ) → Rising low high fills → Rising low high (reopened fills))
-    × ((interval : Interval) → (base_in interval (reopened fills) ≡ base_in interval fills) × (in_flight interval (reopened fills) ≡ in_flight interval fills))
+    × ((interval : Interval) → (base_in interval (reopened fills) ≡ base_in interval fills)
+    × (in_flight interval (reopened fills) ≡ in_flight interval fills))

@@ -2,6 +2,7 @@ pub mod Places
 pub mod Items
 pub mod Databases
 pub mod Outcomes
+pub mod Noted
 pub mod Fills
 pub mod FillList
 pub mod Late

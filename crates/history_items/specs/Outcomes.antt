@@ -21,11 +21,12 @@ abbrev pub outcomes_of : List Item → List Row → List Inserted
 outcomes_of history [] = []
 outcomes_of history (row ∷ rows) = outcome_of history row ∷ outcomes_of (after_row history row) rows
 
--- what an outcome says of a row that comes to a history: it is appended at this position, or the row at this position has its table
--- and key
+-- what an outcome says of a row that comes to a history: it is appended at this position, or the row at this position
+-- has its table and key
 abbrev pub Says : List Item → Row → Inserted → Type 0
 Says history row (New position) = (after_row history row ≡ history ++ row_item row ∷ []) × (position ≡ length history)
-Says history row (Duplicate position) = (there : Item) × (slice_get history position ≡ Some there) × (has_key_of row there ≡ true)
+Says history row (Duplicate position) =
+    (there : Item) × (slice_get history position ≡ Some there) × (has_key_of row there ≡ true)
 
 -- the rows that are answered New
 abbrev pub answered_new : List Inserted → List Row → List Row

@@ -50,8 +50,8 @@ pub fn one_outcome_per_row()
     ensures { OneOutcomePerRow }
 {}
 
-/// New is answered exactly where the row is appended at that position, and Duplicate exactly where the row at that position has its
-/// table and key.
+/// New is answered exactly where the row is appended at that position, and Duplicate exactly where the row at that
+/// position has its table and key.
 pub fn outcomes_say()
     ensures { OutcomesSay }
 {}

@@ -1,6 +1,6 @@
 //! The partitions of rows.
 
-ghost use Rattle.std.specs.Prelude.{◌≡◌, ◌+◌, ◌<◌, ◌≤◌, ◌≤ℤ◌, ◌↔◌, [], ◌∷◌, ◌++◌, length, true, max, IfOk, OnOk, OnErr, Contains};
+ghost use Rattle.std.specs.Prelude.{◌≡◌, ◌+◌, ◌^◌, ◌<◌, ◌≤◌, ◌≤ℤ◌, ◌↔◌, [], ◌∷◌, ◌++◌, length, true, max, IfOk, OnOk, OnErr, Contains};
 ghost use Rattle.partitions.specs.Partition.{partition_of};
 ghost use Rattle.partitions.specs.NameDay.{name_day};
 ghost use Rattle.partitions.specs.Bounds.{MayHold};
@@ -105,12 +105,18 @@ impl Partitions {
         Places::new(self.links.as_slice(), self.by_day.get(partition))
     }
 
+    /// Places have 32 bits. This does nothing but tell a proof so.
+    fn has_places(&self)
+        ensures { length self.now.noted < 2 ^ 32 }
+    {
+        let _ = &self.links;
+    }
+
     /// How many rows were noted in a partition. They are counted along its chain.
     pub fn row_count(&self, partition: Partition) -> usize
         ensures { result ≡ length (places_in partition self.now.noted) }
     {
-        // It tells the proof that places have 32 bits.
-        let _links = &self.links;
+        self.has_places();
         let mut places = self.places_of(partition);
         let mut count = 0;
         while let Some(_) = places.next() {

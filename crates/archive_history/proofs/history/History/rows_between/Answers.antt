@@ -1,16 +1,14 @@
-use Rattle.std.proofs.Common.{◌≡◌, ◌<◌, length, take, w64, sym, ◌∙◌, ap, arith}
+use Rattle.std.proofs.Common.{◌≡◌, ◌<◌, length, w64, sym, ◌∙◌, ap, arith}
 use Rattle.std.proofs.lemmas.Int.{to_z-of_z}
 use Rattle.arch_types.specs.Table.{range_of}
-use Rattle.arch_types.specs.declared.row.Row.{Row}
-use Rattle.history_items.specs.Items.{rows_in}
-use Rattle.history_items.proofs.ItemLists.{rows_of_rows}
+use Rattle.history_items.specs.Items.{prefix, rows_in}
 use Rattle.yarch_table.specs.declared.table.Stored.{Stored}
 use Rattle.yarch_table.specs.Stored.{seen_between}
 use Rattle.yarch_table.proofs.Histories.{seen_between-placed}
 use Rattle.std.specs.Prelude.{List}
 use Rattle.archive_history.specs.History.{HistoryView}
 use Rattle.archive_history.specs.Tables.{noted_rows}
-use Rattle.archive_history.proofs.PlacedRows.{table_rows}
+use Rattle.archive_history.proofs.PlacedRows.{rows_cut, table_rows}
 use Rattle.archive_history.proofs.history.History.rows_between.Goals as goal
 
 pub returns : goal.returns
@@ -24,6 +22,6 @@ returns c =
     let high = to_z-of_z w64 to c.ranges.to in
     let within : t < length s.tables.items = omega (arith, c.requires.table, ap (λ (x : HistoryView). x.tables) c.self.view_is) in
     let rows = table_rows s.tables.items s.order s.room t c.index.result.now c.self.invariant.tables_hold within c.index.ensures in
-    let seen : seen_between front from to c.index.result.now.stored ≡ range_of t from to (take front (rows_in c.args.self.now.items)) =
-    ap (λ (l : List Stored). seen_between front from to l) rows ∙ seen_between-placed front t from to (noted_rows s.order.items) ∙ ap (λ (r : List Row). range_of t from to (take front r)) (sym (rows_of_rows (noted_rows s.order.items))) ∙ ap (λ (x : HistoryView). range_of t from to (take front (rows_in x.items))) c.self.view_is in
+    let seen : seen_between front from to c.index.result.now.stored ≡ range_of t from to (rows_in (prefix front c.args.self.now.items)) =
+    ap (λ (l : List Stored). seen_between front from to l) rows ∙ seen_between-placed front t from to (noted_rows s.order.items) ∙ ap (range_of t from to) (sym (rows_cut front (noted_rows s.order.items))) ∙ ap (λ (x : HistoryView). range_of t from to (rows_in (prefix front x.items))) c.self.view_is in
     rw seen at (rw (low, high) at c.rows_between.ensures)

@@ -1,4 +1,4 @@
-use Rattle.std.proofs.Common.{◌≡◌, get_or, take, w64, to_z, of_z, ◌∙◌, ap, subst}
+use Rattle.std.proofs.Common.{◌≡◌, get_or, take, w64, to_z, of_z, ◌∙◌, ap}
 use Rattle.std.specs.Prelude.{IsPermutation, IsSortedByKey, filter}
 use Rattle.std.proofs.lemmas.Int.{to_z-of_z}
 use Rattle.std.proofs.lemmas.List.{take_all}
@@ -6,8 +6,7 @@ use Rattle.arch_types.specs.declared.row.Row.{Row}
 use Rattle.arch_types.specs.Order.{key_cmp}
 use Rattle.partitions.specs.Rows.{is_of_parts}
 use Rattle.partitions.proofs.Parted.{no_partition}
-use Rattle.yarch_table.specs.Stored.{TableView, rows_of, seen_between}
-use Rattle.archive_history.specs.PartitionedTable.{HaveOwnKeys}
+use Rattle.yarch_table.specs.Stored.{seen_between}
 use Rattle.archive_history.proofs.RangeRows.{by_partitions, one_read, parts_in_order}
 use Rattle.archive_history.proofs.Steps.{default_free, if_ok_both}
 use Rattle.archive_history.proofs.partitioned_table.PartitionedTable.rows_by_partitions.Goals as goal
@@ -30,8 +29,7 @@ returns c =
     let gathered = c.loop-partition.rows.items in
     let low = to_z-of_z w64 from c.ranges.from in
     let high = to_z-of_z w64 to c.ranges.to in
-    let own : HaveOwnKeys (rows_of stored) = subst (λ (t : TableView). HaveOwnKeys (rows_of t.stored)) c.self.view_is c.self.invariant.own_keys in
     let some : gathered ≡ by_partitions stored front from to parts (take c.loop-partition.partition-index parts) = rw (low, high) at c.loop-partition.invariant in
     let all : gathered ≡ by_partitions stored front from to parts parts = some ∙ ap (by_partitions stored front from to parts) (take_all c.loop-partition.partition-index parts c.loop-partition-test.false) in
     if_ok_both c.merged_by_key.result (IsPermutation gathered) (IsSortedByKey (λ (row : Row). row.key) key_cmp) (λ rows. rows ≡ filter (is_of_parts parts) (seen_between front from to stored))
-    (λ rows moved up. parts_in_order stored front from to parts gathered rows own c.requires all moved up) c.merged_by_key.ensures.same c.merged_by_key.ensures.sorted
+    (λ rows moved up. parts_in_order stored front from to parts gathered rows c.has_own_keys.ensures c.requires all moved up) c.merged_by_key.ensures.same c.merged_by_key.ensures.sorted
