@@ -6,10 +6,9 @@ use Rattle.std.specs.List.Sorted.{IsSortedBy}
 use Rattle.std.proofs.Math.Seq.{take-suc}
 use Rattle.std.proofs.lemmas.Grind.{flat_map-append}
 use Rattle.std.proofs.lemmas.List.{take_all, nil_from_length, append-nil}
-use Rattle.std.proofs.lemmas.List.Elements.{recursion_from_All, All-from_recursion}
 use Rattle.std.proofs.lemmas.List.Folds.{list_any_at}
 use Rattle.std.proofs.lemmas.List.Kept.{IsSortedBy-filter}
-use Rattle.std.proofs.lemmas.List.Sorted.{All-permutation, length_permutation}
+use Rattle.std.proofs.lemmas.List.Sorted.{length_permutation}
 use Rattle.arch_types.specs.declared.row.Row.{Row}
 use Rattle.arch_types.specs.Order.{is_before}
 use Rattle.arch_types.specs.History.{IsHistory, is_in_table}
@@ -88,11 +87,6 @@ between_read (Some history) table front from to parts gathered rows rising got (
     let range = range_of table from to (history front) in
     let no_rows : rows ≡ [] = nil_from_length rows (length_permutation gathered rows same ∙ ap length none) in
     no_rows ∙ sym (none_in_parts parts range (sym got ∙ none))
-
-pub each_moved : (table : ℕ) (from to : ℤ) (parts : List Partition) (gathered rows : List Row) → IsPermutation gathered rows →
-    AllByRecursion (IsRowBetween table parts from to) gathered → AllByRecursion (IsRowBetween table parts from to) rows
-each_moved table from to parts gathered rows same each =
-    recursion_from_All (IsRowBetween table parts from to) rows (All-permutation (IsRowBetween table parts from to) gathered rows same (All-from_recursion (IsRowBetween table parts from to) gathered each))
 
 -- ---- what a source whose rows are a history gives
 

@@ -3,10 +3,11 @@ pub mod Sorting
 pub mod Days
 pub mod Tied
 pub mod Reading
+pub mod Sources
+pub mod Giving
 pub mod Pieces
 pub mod Opening
 pub mod LookUps
 pub mod Bounds
-pub mod Sources
 pub mod Gathered
 pub mod Cut

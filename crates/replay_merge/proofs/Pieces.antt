@@ -1,16 +1,20 @@
 -- Pieces of a replay.
-use Rattle.std.proofs.Common.{◌≡◌, ℕ, zero, suc, ◌-◌, ◌<◌, ◌≤◌, List, [], ◌∷◌, ◌++◌, length, take, drop, Option, Some, None, Bool, true, false, refl, sym, ap, ◌∙◌, append_assoc, arith, ◌+◌, subst}
-use Rattle.std.specs.Prelude.{IfSome, reverse, nat_le, ◌==◌}
+use Rattle.std.proofs.Common.{◌≡◌, inl, inr, ℕ, zero, suc, ◌-◌, ◌<◌, ◌≤◌, List, [], ◌∷◌, ◌++◌, length, take, drop, Option, Some, None, Bool, true, false, refl, sym, ap, ◌∙◌, append_assoc, arith, ◌+◌, subst}
+use Rattle.std.specs.Prelude.{IfSome, Contains, reverse, nat_le, ◌==◌}
 use Rattle.std.specs.List.{AllByRecursion}
 use Rattle.std.specs.List.Sorted.{IsSortedBy}
 use Rattle.std.proofs.lemmas.Bool.Decides.{nat_tests}
 use Rattle.std.proofs.lemmas.List.{take-append-drop, take_all, drop_all, take_at, drop_at, reverse-append, length-reverse, length-drop, length-take, get_or-take, get_or-drop}
+use Rattle.std.proofs.lemmas.List.Elements.{recursion_from_All, All-contains_itself}
 use Rattle.arch_types.specs.declared.row.Row.{Row}
 use Rattle.arch_types.specs.Directions.{truncated}
 use Rattle.partitions.specs.declared.partition.Partition.{Partition}
 use Rattle.replay_merge.specs.declared.wanted.Wanted.{Wanted}
-use Rattle.replay_merge.specs.Cursor.{CursorView, rest_of, still_ahead, left_after}
+use Rattle.replay_merge.specs.Cursor.{CursorView, MayHandOn, rest_of, still_ahead, left_after}
 use Rattle.replay_merge.specs.Fetch.{wanted_in}
+use Rattle.replay_merge.specs.RowSource.{RowSourceState}
+use Rattle.replay_merge.proofs.Reading.{all_both}
+use Rattle.replay_merge.proofs.Giving.{each_follows}
 
 -- what contracts see of a cursor
 abbrev pub standing : Wanted → Option ℕ → List Partition → List Row → CursorView
@@ -130,6 +134,25 @@ pub still_all : (P : Row → Type 0) (left : Option ℕ) (rows : List Row) → A
 still_all P None rows all = all
 still_all P (Some zero) rows all = tt
 still_all P (Some (suc n)) rows all = rw (above_none n) all
+
+-- the first rows of some and those of the others that are kept
+pub all_kept : (P : Row → Type 0) (most : ℕ) (left : Option ℕ) (day rows ahead kept : List Row) → rows ≡ take most day → ahead ≡ drop most day → kept ≡ still_ahead left ahead →
+    AllByRecursion P day → AllByRecursion P (rows ++ kept)
+all_kept P most left day rows ahead kept first rest still all =
+    let given = subst (AllByRecursion P) (sym first) (all_first P most day all) in
+    let behind = subst (AllByRecursion P) (sym rest) (all_rest P most day all) in
+    all_both P rows kept given (subst (AllByRecursion P) (sym still) (still_all P left ahead behind))
+
+-- ---- rows that may be handed on
+
+pub all_among : (rows : List Row) → AllByRecursion (Contains rows) rows
+all_among rows = recursion_from_All (Contains rows) rows (All-contains_itself rows)
+
+pub ahead_handed : (c : CursorView) (source : RowSourceState) → AllByRecursion (MayHandOn c source) c.ahead
+ahead_handed c source = each_follows (Contains c.ahead) (MayHandOn c source) (λ row in_it. inl in_it) c.ahead (all_among c.ahead)
+
+pub read_handed : (c : CursorView) (source : RowSourceState) (rows : List Row) → AllByRecursion source.may_give rows → AllByRecursion (MayHandOn c source) rows
+read_handed c source rows all = each_follows source.may_give (MayHandOn c source) (λ row may. inr may) rows all
 
 none_in_order : (lt : Row → Row → Bool) → IsSortedBy lt []
 none_in_order lt k d low h = absurd (omega arith)

@@ -7,6 +7,7 @@ use Rattle.partitions.specs.declared.partition.Partition.{Partition}
 use Rattle.partitions.specs.Partitions.{AreRising}
 use Rattle.partitions.specs.Rows.{is_of_parts}
 use Rattle.replay_merge.specs.Replay.{is_listed_name, rows_asked, IsReplayedRow}
+use Rattle.replay_merge.specs.RowSource.{RowSourceState}
 
 -- what contracts see of a cursor
 pub record CursorView : Type 0 where
@@ -51,6 +52,10 @@ pub record EndsExactly (limit : ℕ) (old new : CursorView) (rows : List Row) : 
 -- a row that is of what was asked
 abbrev pub IsRowAsked : CursorView → Row → Type 0
 IsRowAsked c row = IsReplayedRow c.table c.from c.to c.names row
+
+-- a row that a step may hand on: one that was read before, or that the source may give
+abbrev pub MayHandOn : CursorView → RowSourceState → Row → Type 0
+MayHandOn c source row = Contains c.ahead row ⊎ source.may_give row
 
 -- a cursor before the first row of a request to a table at a front, over these partitions and packet names
 pub record IsCursorOf (request : ReplayRequest) (table front : ℕ) (parts : List Partition) (names : Option (List ℕ)) (c : CursorView) : Type 0 where

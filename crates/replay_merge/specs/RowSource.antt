@@ -15,10 +15,11 @@ use Rattle.arch_disk.specs.Disk.{raised}
 use Rattle.partitions.specs.declared.partition.Partition.{Partition}
 use Rattle.partitions.specs.Rows.{is_of_partition, is_of_parts}
 
--- the history that a source tells, by the rows below each front in the order in which they came to stay, and how often it has
--- failed: whatever else has a position in the history, a front counts it too
-pub record RowSourceState : Type 0 where
+-- the history that a source tells, by the rows below each front in the order in which they came to stay, the rows that it
+-- may give, also where it tells none, and how often it has failed: whatever else has a position, a front counts it too
+pub record RowSourceState : Type 1 where
   pub history : Option (ℕ → List Row)
+  pub may_give : Row → Type 0
   pub faults : ℕ
 
 -- a whole packet, received within the clock's range, with the key that it gives then
@@ -72,7 +73,8 @@ IsRowFault old new DiskFault = raised old.faults ≤ new.faults
 IsRowFault old new (Damaged file at) = IsNone old.history
 IsRowFault old new OutOfMemory = Unit {0}
 
--- a source tells what it told, and its count of faults hasn't fallen
+-- a source tells what it told, it may give no other rows, and its count of faults hasn't fallen
 pub record UsedRowSource (old new : RowSourceState) : Type 0 where
   pub told : new.history ≡ old.history
+  pub no_others : (row : Row) → new.may_give row → old.may_give row
   pub later : old.faults ≤ new.faults

@@ -8,6 +8,7 @@ ghost use Rattle.partitions.specs.Partitions.{AreRising};
 ghost use Rattle.replay_merge.specs.RowSource.{AreInKeyOrder, IsRowFault, UsedRowSource};
 ghost use Rattle.replay_merge.specs.Replay.{rows_asked, HoldsEachRow};
 ghost use Rattle.replay_merge.specs.Cursor.{rest_of, steps_at_most, AsksTheSame, EndsExactly, IsRowAsked, IsCursorOf, left_after};
+ghost use Rattle.replay_merge.specs.Cursor.{MayHandOn};
 
 use crate::ahead::{Ahead, split_first};
 use crate::fetch::fetch;
@@ -104,6 +105,9 @@ impl Cursor {
         ensures end { IfOk result (EndsExactly limit self.old self.new) }
         ensures nearer { IfOk result (λ rows. (rows ≡ [] → ⊥) → steps_at_most self.new < steps_at_most self.old) }
         ensures few { IfOk result (λ rows. length rows ≤ limit) }
+        // Those that are kept for later, too.
+        ensures given { IfOk result (λ rows.
+            AllByRecursion (MayHandOn self.old (R.state source.old)) (rows ++ self.new.ahead)) }
         ensures each { IfOk result (λ rows. AllByRecursion (IsRowAsked self.old) rows) }
         ensures in_key_order { IfOk result AreInKeyOrder }
         ensures asked { AsksTheSame self.old self.new }

@@ -66,6 +66,7 @@ pub fn rows_on_days<R: RowSource>(
     requires { AreRising parts.now }
     ensures told { IfOk result (λ rows. IfSome (R.state source.old).history (λ history.
         rows ≡ range_of_parts table parts.now from to (history front))) }
+    ensures given { IfOk result (AllByRecursion (R.state source.old).may_give) }
     ensures each { IfOk result (AllByRecursion (IsRowBetween table parts.now from to)) }
     ensures in_key_order { IfOk result AreInKeyOrder }
     ensures refused { IfErr result (IsRowFault (R.state source.old) (R.state source.new)) }

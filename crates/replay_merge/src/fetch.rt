@@ -59,6 +59,7 @@ fn read_day<R: RowSource>(
     ensures in_order { IfOk result (λ day. AreInKeyOrder day.1) }
     ensures rows { IfOk result (λ day. IfSome (R.state source.old).history (λ history.
         wanted_in wanted.now parts.now history ≡ day.1 ++ wanted_in wanted.now (drop day.0 parts.now) history)) }
+    ensures given { IfOk result (λ day. AllByRecursion (R.state source.old).may_give day.1) }
     ensures each { IfOk result (λ day. AllByRecursion (IsWanted wanted.now) day.1) }
     ensures refused { IfErr result (IsRowFault (R.state source.old) (R.state source.new)) }
     ensures source { UsedRowSource (R.state source.old) (R.state source.new) }
@@ -93,6 +94,7 @@ pub(crate) fn fetch<R: RowSource>(
     ensures none { IfOk result (λ day. parts.now ≡ [] → day.1 ≡ []) }
     ensures read { IfOk result (λ day. (day.1 ≡ [] → ⊥) → 0 < day.0) }
     ensures in_order { IfOk result (λ day. AreInKeyOrder day.1) }
+    ensures given { IfOk result (λ day. AllByRecursion (R.state source.old).may_give day.1) }
     ensures each { IfOk result (λ day. AllByRecursion (IsWanted wanted.now) day.1) }
     ensures refused { IfErr result (IsRowFault (R.state source.old) (R.state source.new)) }
     ensures source { UsedRowSource (R.state source.old) (R.state source.new) }

@@ -13,7 +13,7 @@ use std::alloc::Global;
 
 /// What has the rows of tables.
 pub trait RowSource {
-    /// The history that it tells, and how often it has failed.
+    /// The history that it tells, the rows that it may give, and how often it has failed.
     ghost state: { Self → RowSourceState };
 
     /// The rows of a partition of a table with a position below the front, in the order of their keys. Refused with `DiskFault`,
@@ -27,6 +27,7 @@ pub trait RowSource {
     ) -> Result<Rows, RowFault>
         ensures told { IfOk result (λ rows. IfSome (state self.old).history (λ history.
             rows ≡ rows_of_partition table partition.now (history front))) }
+        ensures given { IfOk result (AllByRecursion (state self.old).may_give) }
         ensures each { IfOk result (AreRowsOf table partition.now) }
         ensures history { IfSome (state self.old).history AreRowSourceHistories }
         ensures refused { IfErr result (IsRowFault (state self.old) (state self.new)) }
@@ -48,6 +49,7 @@ pub trait RowSource {
         requires { AreRising parts.now }
         ensures told { IfOk result (λ rows. IfSome (state self.old).history (λ history.
             rows ≡ range_of_parts table parts.now from to (history front))) }
+        ensures given { IfOk result (AllByRecursion (state self.old).may_give) }
         ensures each { IfOk result (AllByRecursion (IsRowBetween table parts.now from to)) }
         ensures in_key_order { IfOk result AreInKeyOrder }
         ensures refused { IfErr result (IsRowFault (state self.old) (state self.new)) }

@@ -1,13 +1,12 @@
 -- The rows of several tables, merged.
 use Rattle.std.proofs.Common.{◌≡◌, ℕ, suc, ℤ, ◌+◌, ◌<◌, ◌≤◌, List, [], ◌∷◌, ◌++◌, length, get_or, take, arith, Option, Some, None, Bool, true, false, not, refl, sym, ap, ◌∙◌, append-nil, append_assoc, subst}
-use Rattle.std.specs.Prelude.{filter, flat_map, fold, IfSome, IsPermutation, ◌&&◌}
+use Rattle.std.specs.Prelude.{filter, flat_map, fold, IfSome, ◌&&◌}
 use Rattle.std.specs.List.{AllByRecursion}
 use Rattle.std.specs.List.Sorted.{IsSortedBy}
 use Rattle.std.proofs.Math.Seq.{take-suc}
 use Rattle.std.proofs.lemmas.Grind.{flat_map-append}
 use Rattle.std.proofs.lemmas.List.{take_all}
-use Rattle.std.proofs.lemmas.List.Elements.{filter-append, filter_passes, recursion_from_All, All-from_recursion}
-use Rattle.std.proofs.lemmas.List.Sorted.{All-permutation}
+use Rattle.std.proofs.lemmas.List.Elements.{filter-append, filter_passes, recursion_from_All}
 use Rattle.arch_types.specs.declared.row.Row.{Row}
 use Rattle.arch_types.specs.Order.{is_before, place_by}
 use Rattle.arch_types.specs.Table.{sorted, range_of}
@@ -125,6 +124,3 @@ merged_in_parts tables parts from to history =
 pub keyed_between : (table : ℕ) (parts : List Partition) (from to : ℤ) (rows : List Row) → AllByRecursion (IsRowBetween table parts from to) rows → AllByRecursion IsKeyedRow rows
 keyed_between table parts from to [] all = tt
 keyed_between table parts from to (row ∷ rows) all = (all.0.keyed, keyed_between table parts from to rows all.1)
-
-pub keyed_moved : (given rows : List Row) → IsPermutation given rows → AllByRecursion IsKeyedRow given → AllByRecursion IsKeyedRow rows
-keyed_moved given rows same each = recursion_from_All IsKeyedRow rows (All-permutation IsKeyedRow given rows same (All-from_recursion IsKeyedRow given each))

@@ -1,5 +1,5 @@
 -- What is selected of the rows in the bounds of a condition is all that is selected.
-use Rattle.std.proofs.Common.{◌≡◌, ◌↔◌, ℕ, ℤ, ◌+◌, ◌≤◌, List, [], ◌∷◌, ◌++◌, length, reverse, Option, Some, None, Bool, true, false, cond, refl, sym, ap, ◌∙◌, length-append, subst, arith}
+use Rattle.std.proofs.Common.{◌≡◌, ◌↔◌, ℕ, ℤ, ◌+◌, ◌≤◌, List, [], ◌∷◌, ◌++◌, length, reverse, Option, Some, None, Bool, true, false, cond, refl, sym, ap, ◌∙◌, subst, arith}
 use Rattle.std.specs.Prelude.{filter, flat_map, Result, Ok, Err, IfOk, IfSome, Contains, int_lt}
 use Rattle.std.specs.List.{AllByRecursion}
 use Rattle.std.proofs.lemmas.Int.{ints}
@@ -30,7 +30,7 @@ use Rattle.ssql_conditions.specs.ConditionBounds.{bounds_of}
 use Rattle.ssql_conditions.specs.Laws.{BoundsHold}
 use Rattle.ssql_types.specs.declared.query.TypedSelect.{TypedSelect}
 use Rattle.arch_types.specs.Directions.{in_direction, truncated}
-use Rattle.ssql_select.specs.Selection.{is_selected, selected_of, selected_rows, selection_of, IsHeld, HoldsSelected, rows_in_parts, rows_of_sources, merged_between, selected_between}
+use Rattle.ssql_select.specs.Selection.{is_selected, selected_of, selected_rows, selection_of, IsHeld, HoldsSelected, rows_between_of, rows_looked_at, merged_between, selected_between}
 use Rattle.ssql_select.proofs.Merged.{filter_flat}
 use Rattle.ssql_select.proofs.Selecting.{last_kept}
 
@@ -179,50 +179,31 @@ module _ (given rising : List Partition) (same : (partition : Partition) → Con
       got ∙ ap (λ (b : Bounds). truncated statement.limit (selected_between statement rising b.from b.to (history front))) is
       ∙ all_selected hold statement rising (history front) (held_by_these (selected_rows statement.condition statement.sources (history front)) held)
 
-  few_of_table : (from to : ℤ) (table : ℕ) (history : List Row) → length (filter (is_of_parts rising) (range_of table from to history)) ≤ length (rows_in_parts given history table)
-  few_of_table from to table history =
-      let r = is_in_time_range from to in
-      let rows = table_of table history in
-      let swapped : filter (is_of_parts rising) (filter r rows) ≡ filter r (filter (is_of_parts given) rows) = filter_swap (is_of_parts rising) r rows ∙ ap (filter r) (filter_agree (is_of_parts rising) (is_of_parts given) same_parts rows) in
-      rw swapped (fewer r (filter (is_of_parts given) rows))
-    where
-      fewer : (q : Row → Bool) (rows : List Row) → length (filter q rows) ≤ length rows
-      fewer q [] = omega arith
-      fewer q (row ∷ rows) = by (q row) (fewer q rows)
-        where
-          by : (b : Bool) → length (filter q rows) ≤ length rows → length (cond b (row ∷ filter q rows) (filter q rows)) ≤ length (row ∷ rows)
-          by true le = omega (arith, le)
-          by false le = omega (arith, le)
+  same_of_tables : (from to : ℤ) (tables : List ℕ) (history : List Row) → flat_map (λ table. filter (is_of_parts rising) (range_of table from to history)) tables ≡ rows_between_of tables given from to history
+  same_of_tables from to [] history = refl
+  same_of_tables from to (table ∷ tables) history =
+      let first = filter_agree (is_of_parts rising) (is_of_parts given) same_parts (range_of table from to history) in
+      let later = same_of_tables from to tables history in
+      rw (first, later) refl
 
-  few_of_tables : (from to : ℤ) (tables : List ℕ) (history : List Row) → length (flat_map (λ table. filter (is_of_parts rising) (range_of table from to history)) tables) ≤ length (rows_of_sources tables given history)
-  few_of_tables from to [] history = omega arith
-  few_of_tables from to (table ∷ tables) history =
-      let first = few_of_table from to table history in
-      let later = few_of_tables from to tables history in
-      let a = length-append (filter (is_of_parts rising) (range_of table from to history)) (flat_map (λ table. filter (is_of_parts rising) (range_of table from to history)) tables) in
-      let b = length-append (rows_in_parts given history table) (rows_of_sources tables given history) in
-      omega (arith, first, later, a, b)
-
-  few_merged : (from to : ℤ) (tables : List ℕ) (history : List Row) → length (filter (is_of_parts rising) (merged_between tables from to history)) ≤ length (rows_of_sources tables given history)
-  few_merged from to tables history =
+  as_many_merged : (from to : ℤ) (tables : List ℕ) (history : List Row) → length (filter (is_of_parts rising) (merged_between tables from to history)) ≡ length (rows_between_of tables given from to history)
+  as_many_merged from to tables history =
       let ranges = flat_map (λ table. range_of table from to history) tables in
       let p = is_of_parts rising in
-      let moved : length (filter p (sorted ranges)) ≡ length (flat_map (λ table. filter p (range_of table from to history)) tables) =
       ap length (filter-order rows_rank p ranges)
       ∙ (length_permutation (filter p ranges) (sorted (filter p ranges)) (order_same is_before (filter p ranges)))
-      ∙ ap length (filter_flat p (λ table. range_of table from to history) tables) in
-      omega (arith, moved, few_of_tables from to tables history)
+      ∙ ap length (filter_flat p (λ table. range_of table from to history) tables ∙ same_of_tables from to tables history)
 
-  -- the steps are no more than rows stand in the partitions
-  pub steps_told : (told : Option (ℕ → List Row)) (tables : List ℕ) (front : ℕ) (from to : ℤ) (first now : ℕ) →
-      IfSome told (λ history. now ≤ first + length (filter (is_of_parts rising) (merged_between tables from to (history front)))) →
-      IfSome told (λ history. now ≤ first + length (rows_of_sources tables given (history front)))
-  steps_told None tables front from to first now h = tt
-  steps_told (Some history) tables front from to first now h = omega (arith, h, few_merged from to tables (history front))
-
-pub no_steps_told : (told : Option (ℕ → List Row)) (tables : List ℕ) (given : List Partition) (front first : ℕ) → IfSome told (λ history. first ≤ first + length (rows_of_sources tables given (history front)))
-no_steps_told None tables given front first = tt
-no_steps_told (Some history) tables given front first = omega arith
+  -- the steps are no more than rows stand in the partitions, with a time in the bounds
+  pub steps_told : (told : Option (ℕ → List Row)) (statement : TypedSelect) (front : ℕ) (bounds : Bounds) (first now : ℕ) → bounds ≡ bounds_of statement.condition →
+      IfSome told (λ history. now ≤ first + length (filter (is_of_parts rising) (merged_between statement.sources bounds.from bounds.to (history front)))) →
+      IfSome told (λ history. now ≤ first + length (rows_looked_at statement given (history front)))
+  steps_told None statement front bounds first now is h = tt
+  steps_told (Some history) statement front bounds first now is h =
+      let as_many = as_many_merged bounds.from bounds.to statement.sources (history front) in
+      let looked_at : length (rows_between_of statement.sources given bounds.from bounds.to (history front)) ≡ length (rows_looked_at statement given (history front)) =
+      ap (λ (b : Bounds). length (rows_between_of statement.sources given b.from b.to (history front))) is in
+      omega (arith, h, as_many, looked_at)
 
 -- ---- pruned partitions
 

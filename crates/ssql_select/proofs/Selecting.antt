@@ -11,6 +11,9 @@ use Rattle.partitions.specs.declared.partition.Partition.{Partition}
 use Rattle.partitions.specs.Rows.{is_of_parts}
 use Rattle.partitions.proofs.Filters.{none_pass}
 use Rattle.replay_merge.specs.RowSource.{AreInKeyOrder}
+use Rattle.replay_merge.proofs.Pieces.{all_first}
+use Rattle.replay_merge.proofs.Reading.{all_both}
+use Rattle.replay_merge.proofs.Sources.{each_tested}
 use Rattle.arch_types.proofs.InOrder.{order_sorted}
 use Rattle.arch_types.specs.declared.direction.Direction.{Direction}
 use Rattle.arch_types.specs.declared.direction.Direction.TheVariants.{Ascending, Descending}
@@ -89,6 +92,23 @@ reverse_keeps P (row ∷ rows) all =
     joined : (xs : List Row) → AllByRecursion P xs → AllByRecursion P (xs ++ row ∷ [])
     joined [] each = (all.0, tt)
     joined (x ∷ xs) each = (each.0, joined xs each.1)
+
+-- ---- the rows that are added of a day
+
+directed_keeps : (P : Row → Type 0) (direction : Direction) (rows : List Row) → AllByRecursion P rows → AllByRecursion P (in_direction direction rows)
+directed_keeps P Ascending rows all = all
+directed_keeps P Descending rows all = reverse_keeps P rows all
+
+truncated_keeps : (P : Row → Type 0) (limit : Option ℕ) (rows : List Row) → AllByRecursion P rows → AllByRecursion P (truncated limit rows)
+truncated_keeps P None rows all = all
+truncated_keeps P (Some n) rows all = all_first P n rows all
+
+pub day_given : (P : Row → Type 0) (q : Row → Bool) (limit : Option ℕ) (direction : Direction) (found new rows turned : List Row) → reverse turned ≡ in_direction direction rows →
+    new ≡ truncated limit (found ++ filter q (reverse turned)) → AllByRecursion P found → AllByRecursion P rows → AllByRecursion P new
+day_given P q limit direction found new rows turned is added before day =
+    let directed = subst (AllByRecursion P) (sym is) (directed_keeps P direction rows day) in
+    let tested = each_tested P P q (λ row may met. may) (reverse turned) directed in
+    subst (AllByRecursion P) (sym added) (truncated_keeps P limit (found ++ filter q (reverse turned)) (all_both P found (filter q (reverse turned)) before tested))
 
 -- ---- a day
 

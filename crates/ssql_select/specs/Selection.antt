@@ -7,6 +7,7 @@ use Rattle.arch_types.specs.Table.{sorted, table_of, range_of}
 use Rattle.partitions.specs.declared.partition.Partition.{Partition}
 use Rattle.partitions.specs.Rows.{is_of_parts}
 use Rattle.arch_types.specs.Directions.{in_direction, truncated}
+use Rattle.ssql_conditions.specs.ConditionBounds.{bounds_of}
 use Rattle.ssql_conditions.specs.Formulas.{Formula}
 use Rattle.ssql_conditions.specs.Truth.{is_true}
 use Rattle.ssql_types.specs.declared.query.TypedSelect.{TypedSelect}
@@ -37,14 +38,6 @@ pub record IsHeld (parts : List Partition) (row : Row) : Type 0 where
 abbrev pub HoldsSelected : TypedSelect → List Partition → List Row → Type 0
 HoldsSelected statement parts history = AllByRecursion (IsHeld parts) (selected_rows statement.condition statement.sources history)
 
--- the rows of a table that stand in some partitions
-abbrev pub rows_in_parts : List Partition → List Row → ℕ → List Row
-rows_in_parts parts history table = filter (is_of_parts parts) (table_of table history)
-
--- those of several tables
-abbrev pub rows_of_sources : List ℕ → List Partition → List Row → List Row
-rows_of_sources tables parts history = flat_map (rows_in_parts parts history) tables
-
 -- ---- what is read
 
 -- those of a table with from <= time < to
@@ -54,6 +47,11 @@ ranged_in_parts parts from to history table = filter (is_of_parts parts) (range_
 -- those of several tables, one table behind the other
 abbrev pub rows_between_of : List ℕ → List Partition → ℤ → ℤ → List Row → List Row
 rows_between_of tables parts from to history = flat_map (ranged_in_parts parts from to history) tables
+
+-- those of a query's sources, with the times in the bounds of its condition
+abbrev pub rows_looked_at : TypedSelect → List Partition → List Row → List Row
+rows_looked_at statement parts history =
+    let bounds = bounds_of statement.condition in rows_between_of statement.sources parts bounds.from bounds.to history
 
 -- all rows of several tables with from <= time < to, in the order of their keys
 abbrev pub merged_between : List ℕ → ℤ → ℤ → List Row → List Row

@@ -1,9 +1,11 @@
 -- The text of a selection.
-use Rattle.std.specs.Prelude.{ℕ, List, [], ◌∷◌, ◌++◌, length, flat_map, slice_get, unwrap_or, codes, decimal}
+use Rattle.std.specs.Prelude.{◌≡◌, ℕ, List, [], ◌∷◌, ◌++◌, length, flat_map, slice_get, unwrap_or, codes, decimal}
 use Rattle.hex.specs.Hex.{encode_lower}
 use Rattle.time_text.specs.Spelling.{time_text_of}
+use Rattle.std.specs.List.{AllByRecursion}
 use Rattle.arch_types.specs.declared.row.Row.{Row}
 use Rattle.arch_types.specs.Packet.{apid_of}
+use Rattle.replay_merge.specs.RowSource.{RowSourceState}
 use Rattle.ssql_tokens.specs.declared.symbols.Column.{Column}
 use Rattle.ssql_tokens.specs.declared.symbols.Column.TheVariants as col
 use Rattle.ssql_types.specs.declared.query.TypedSelect.{TypedSelect}
@@ -44,6 +46,13 @@ select_line count = codes "select " ++ decimal count ++ codes "\n"
 -- the lines of rows, and how many there are
 abbrev pub selection_lines : List (List ℕ) → List Column → List Row → List ℕ
 selection_lines names columns rows = flat_map (selected_line names columns) rows ++ select_line (length rows)
+
+-- the lines of some rows that a source may give
+pub record IsTextOfGiven (source : RowSourceState) (names : List (List ℕ)) (columns : List Column) (text : List ℕ)
+    : Type 0 where
+  pub rows : List Row
+  pub given : AllByRecursion source.may_give rows
+  pub lines : text ≡ selection_lines names columns rows
 
 -- the text of what a query selects of a history
 abbrev pub selection_text : List (List ℕ) → TypedSelect → List Row → List ℕ

@@ -42,6 +42,7 @@ fn rows_by_table<R: RowSource>(
     requires { AreRising parts.now }
     ensures rows { IfOk result (λ rows. IfSome (R.state source.old).history (λ history.
         rows.items ≡ rows_between_of tables.now parts.now bounds.now.from bounds.now.to (history front))) }
+    ensures given { IfOk result (λ rows. AllByRecursion (R.state source.old).may_give rows.items) }
     ensures each { IfOk result (λ rows. AllByRecursion IsKeyedRow rows.items) }
     ensures refused { IfErr result (IsRowFault (R.state source.old) (R.state source.new)) }
     ensures source { UsedRowSource (R.state source.old) (R.state source.new) }
@@ -67,6 +68,7 @@ pub(crate) fn merged_rows<R: RowSource>(
     requires { AreRising parts.now }
     ensures rows { IfOk result (λ rows. IfSome (R.state source.old).history (λ history. rows.items
         ≡ sorted (rows_between_of tables.now parts.now bounds.now.from bounds.now.to (history front)))) }
+    ensures given { IfOk result (λ rows. AllByRecursion (R.state source.old).may_give rows.items) }
     ensures each { IfOk result (λ rows. AllByRecursion IsKeyedRow rows.items) }
     ensures refused { IfErr result (IsRowFault (R.state source.old) (R.state source.new)) }
     ensures source { UsedRowSource (R.state source.old) (R.state source.new) }

@@ -7,8 +7,8 @@ ghost use Rattle.partitions.specs.Rows.{is_of_parts};
 ghost use Rattle.replay_merge.specs.RowSource.{IsKeyedRow, IsRowFault, UsedRowSource};
 ghost use Rattle.ssql_select.specs.Selection as spec;
 ghost use Rattle.arch_types.specs.Directions.{in_direction, truncated};
-ghost use Rattle.ssql_select.specs.Selection.{HoldsSelected, is_selected, merged_between, selected_between, selection_of, rows_of_sources};
-ghost use Rattle.ssql_select.specs.SelectionText.{selection_text};
+ghost use Rattle.ssql_select.specs.Selection.{HoldsSelected, is_selected, merged_between, selected_between, selection_of, rows_looked_at};
+ghost use Rattle.ssql_select.specs.SelectionText.{IsTextOfGiven, selection_text};
 
 use crate::days::{rising_once, split_day};
 use crate::merge::merged_rows;
@@ -110,6 +110,7 @@ fn select_days<R: RowSource, L: Ledger>(
     requires { AreRising parts.now }
     ensures rows { IfOk result (λ rows. IfSome (R.state source.old).history (λ history. rows.items ≡ truncated statement.now.limit
         (selected_between statement.now parts.now bounds.now.from bounds.now.to (history front)))) }
+    ensures given { IfOk result (λ rows. AllByRecursion (R.state source.old).may_give rows.items) }
     ensures each { IfOk result (λ rows. AllByRecursion IsKeyedRow rows.items) }
     ensures steps { IfSome (R.state source.old).history (λ history. steps.new ≤ steps.old + length (filter
         (is_of_parts parts.now) (merged_between statement.now.sources bounds.now.from bounds.now.to (history front)))) }
@@ -149,9 +150,10 @@ fn select_rows<R: RowSource, L: Ledger>(
 ) -> Result<Vec<Row>, RowFault>
     ensures rows { IfOk result (λ rows. IfSome (R.state source.old).history (λ history.
         HoldsSelected statement.now parts.now (history front) → rows.items ≡ selection_of statement.now (history front))) }
+    ensures given { IfOk result (λ rows. AllByRecursion (R.state source.old).may_give rows.items) }
     ensures each { IfOk result (λ rows. AllByRecursion IsKeyedRow rows.items) }
     ensures steps { IfSome (R.state source.old).history (λ history. steps.new ≤ steps.old + length
-        (rows_of_sources statement.now.sources parts.now (history front))) }
+        (rows_looked_at statement.now parts.now (history front))) }
     ensures refused { IfErr result (IsRowFault (R.state source.old) (R.state source.new)) }
     ensures source { UsedRowSource (R.state source.old) (R.state source.new) }
 {
@@ -173,8 +175,7 @@ fn select_rows<R: RowSource, L: Ledger>(
 ///
 /// `parts` are partitions in any order, also more than once: together those that may hold a row in the bounds of the condition, for
 /// each source. `names` are the packet names by number; a number without one prints as nothing. Takes at most one step for each row
-/// of a source in these partitions: only the times in the bounds are read, and no day once the limit is reached. Refused as the
-/// source refuses.
+/// of a source in these partitions with a time in the bounds, and none of a day behind the limit. Refused as the source refuses.
 pub fn select<'a, R: RowSource, L: Ledger>(
     alloc: Global,
     statement: &'a TypedSelect,
@@ -188,13 +189,12 @@ pub fn select<'a, R: RowSource, L: Ledger>(
     ensures text { IfOk result (λ text. IfSome (R.state source.old).history (λ history.
         HoldsSelected statement.now parts.now (history front)
         → text ≡ selection_text names.now statement.now (history front))) }
+    ensures given { IfOk result (IsTextOfGiven (R.state source.old) names.now statement.now.columns) }
     ensures steps { IfSome (R.state source.old).history (λ history. steps.new ≤ steps.old + length
-        (rows_of_sources statement.now.sources parts.now (history front))) }
+        (rows_looked_at statement.now parts.now (history front))) }
     ensures refused { IfErr result (IsRowFault (R.state source.old) (R.state source.new)) }
     ensures source { UsedRowSource (R.state source.old) (R.state source.new) }
 {
-    match select_rows(alloc, statement, source, parts, front, steps) {
-        Ok(rows) => Ok(SelectionText::of(statement.columns.as_slice(), names, rows)),
-        Err(refusal) => Err(refusal),
-    }
+    let rows = select_rows(alloc, statement, source, parts, front, steps)?;
+    Ok(SelectionText::of(statement.columns.as_slice(), names, rows))
 }

@@ -1,6 +1,6 @@
 //! What is written of a row.
 
-ghost use Rattle.std.specs.Prelude.{◌≡◌, ◌++◌, ◌∷◌, [], flat_map, OnOk};
+ghost use Rattle.std.specs.Prelude.{◌≡◌, ◌<◌, ◌++◌, ℕ, ◌∷◌, [], flat_map, slice_index, OnOk};
 ghost use Rattle.hex.specs.Hex.{encode_lower};
 ghost use Rattle.arch_types.specs.GenerationTime.{generation_time};
 ghost use Rattle.arch_types.specs.Packet.{IsPacket, apid_of};
@@ -51,6 +51,13 @@ fn put_hex(line: &mut Vec<u8>, octets: &[u8]) -> Result<(), AllocError>
     Ok(())
 }
 
+/// Octets are below 256. This does nothing but tell a proof so.
+fn are_octets(packet: &[u8])
+    ensures { (i : ℕ) → slice_index packet.now i < 256 }
+{
+    let _ = packet.first();
+}
+
 /// A generation time, which the clock has.
 fn clock_time(packet: &[u8], rectime: i64, time: i64) -> i64
     requires clock { IsClockTime rectime }
@@ -58,8 +65,7 @@ fn clock_time(packet: &[u8], rectime: i64, time: i64) -> i64
     ensures time { result ≡ time }
     ensures clock { IsClockTime result }
 {
-    // an octet seen is below 256: from that the proof has that the time is the clock's
-    let _octet = packet.first();
+    are_octets(packet);
     time
 }
 

@@ -1,17 +1,19 @@
-use Rattle.std.proofs.Common.{◌≡◌, ℕ, List, Option, get_or, w64, SFits, ◌∙◌, sym, subst, arith, rules}
+use Rattle.std.proofs.Common.{◌≡◌, ℕ, List, Option, get_or, w64, SFits, sym, subst, rules}
 use Rattle.std.proofs.lemmas.Int.{to_z-of_z}
 use Rattle.std.specs.Prelude.{IfSome}
 use Rattle.std.specs.List.{AllByRecursion}
 use Rattle.arch_types.specs.declared.row.Row.{Row}
 use Rattle.partitions.proofs.Parted.{default_free}
 use Rattle.replay_merge.specs.RowSource.{IsKeyedRow, range_of_parts}
+use Rattle.replay_merge.proofs.Giving.{given_before, used_twice}
 use Rattle.replay_merge.proofs.Reading.{all_both}
 use Rattle.ssql_select.proofs.Merged.{one_table_more, keyed_between}
 use Rattle.ssql_select.proofs.merge.rows_by_table.Goals as goal
 
 pub loop-table-preserved : goal.loop-table-preserved
 loop-table-preserved g c =
-    let told = (g.R.RowSource.state c.args.source.now).history in
+    let state = g.R.RowSource.state c.args.source.now in
+    let told = state.history in
     let loop = c.loop-table in
     let tables = c.args.tables.now in
     let parts = c.args.parts.now in
@@ -30,8 +32,9 @@ loop-table-preserved g c =
     let all = c.in_ok-rows.rows.items in
     let used = loop.invariant.used in
     record {
-      used = record { told = got.source.told ∙ used.told; later = omega (arith, used.later, got.source.later) };
+      used = used_twice used got.source;
       rows = one_table_more parts bounds.from bounds.to c.args.front told tables i table loop.rows.items more all c.loop-table-test.true is loop.invariant.rows
           (subst (λ (o : Option (ℕ → List Row)). IfSome o (λ history. more ≡ range_of_parts table parts bounds.from bounds.to (history c.args.front))) used.told given) c.in_ok-rows.ensures;
+      given = subst (AllByRecursion state.may_give) (sym c.in_ok-rows.ensures) (all_both state.may_give loop.rows.items more loop.invariant.given (given_before used more got.given));
       each = subst (AllByRecursion IsKeyedRow) (sym c.in_ok-rows.ensures) (all_both IsKeyedRow loop.rows.items more loop.invariant.each (keyed_between table parts bounds.from bounds.to more each_given));
     }

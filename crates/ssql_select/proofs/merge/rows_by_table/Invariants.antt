@@ -10,5 +10,6 @@ invariant-loop-table g l = record {
   used : UsedRowSource (g.R.RowSource.state l.fn.source) (g.R.RowSource.state l.source);
   rows : IfSome (g.R.RowSource.state l.fn.source).history (λ history.
       l.rows.items ≡ rows_between_of (take l.table-index l.tables) l.parts l.bounds.from l.bounds.to (history l.front));
+  given : AllByRecursion (g.R.RowSource.state l.fn.source).may_give l.rows.items;
   each : AllByRecursion IsKeyedRow l.rows.items;
 }

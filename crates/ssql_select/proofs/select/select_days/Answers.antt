@@ -1,11 +1,12 @@
-use Rattle.std.proofs.Common.{◌≡◌, ◌∙◌, ℕ, List, Option, reverse, true, sym, subst, arith}
+use Rattle.std.proofs.Common.{◌≡◌, ◌∙◌, ℕ, List, Option, reverse, true, sym, subst}
 use Rattle.std.specs.Prelude.{filter, IfSome}
 use Rattle.arch_types.specs.declared.row.Row.{Row}
 use Rattle.arch_types.specs.Table.{sorted}
 use Rattle.partitions.specs.Rows.{is_of_parts}
 use Rattle.ssql_select.specs.Selection.{is_enough, is_selected, merged_between, rows_between_of}
 use Rattle.ssql_select.proofs.Limits.{still_within}
-use Rattle.ssql_select.proofs.Selecting.{day_told, day_counted, steps_within, days_done, days_enough, none_left}
+use Rattle.replay_merge.proofs.Giving.{given_before, used_twice}
+use Rattle.ssql_select.proofs.Selecting.{day_given, day_told, day_counted, steps_within, days_done, days_enough, none_left}
 use Rattle.ssql_select.proofs.select.select_days.Goals as goal
 
 pub days-preserved : goal.days-preserved
@@ -26,9 +27,11 @@ days-preserved g c =
     let got = subst (λ (o : Option (ℕ → List Row)). IfSome o (λ history. rows ≡ sorted (rows_between_of statement.sources day bounds.from bounds.to (history front)))) used.told given in
     let new = c.add_met.new.selected.items in
     record {
-      used = record { told = c.in_ok-rows.ensures.source.told ∙ used.told; later = omega (arith, used.later, c.in_ok-rows.ensures.source.later) };
+      used = used_twice used c.in_ok-rows.ensures.source;
       rising = c.split_day.ensures.rest;
       within = still_within statement.limit found new (filter (is_selected statement.condition) (reverse turned)) c.in_ok-add_met.ensures.rows;
+      given = day_given (g.R.RowSource.state c.args.source.now).may_give (is_selected statement.condition) statement.limit statement.direction found new rows turned
+          c.turned-rows.ensures.rows c.in_ok-add_met.ensures.rows c.days.invariant.given (given_before used rows c.in_ok-rows.ensures.given);
       found = c.in_ok-add_met.ensures.each;
       rows = day_told statement left day rest bounds.from bounds.to front rows turned c.split_day.ensures.rows told found new parts got c.turned-rows.ensures.rows c.in_ok-add_met.ensures.rows c.days.invariant.rows;
       steps = day_counted statement left day rest bounds.from bounds.to front rows turned c.split_day.ensures.rows told c.days.steps c.add_met.new.steps c.args.steps.now parts got c.turned-rows.ensures.len c.add_met.ensures.steps c.days.invariant.steps;

@@ -15,6 +15,7 @@ invariant-days g l =
       used : UsedRowSource (g.R.RowSource.state l.fn.source) (g.R.RowSource.state l.source);
       rising : AreRising l.left;
       within : truncated l.statement.limit l.selected.items ≡ l.selected.items;
+      given : AllByRecursion (g.R.RowSource.state l.fn.source).may_give l.selected.items;
       found : AllByRecursion IsKeyedRow l.selected.items;
       rows : IfSome told (λ history. truncated l.statement.limit (l.selected.items ++ selected_between l.statement l.left l.bounds.from l.bounds.to (history l.front))
           ≡ truncated l.statement.limit (selected_between l.statement l.parts l.bounds.from l.bounds.to (history l.front)));

@@ -11,5 +11,5 @@ returns-clause-rows g c =
 pub returns-clause-steps : goal.returns-clause-steps
 returns-clause-steps g c =
     let told = (g.R.RowSource.state c.args.source.now).history in
-    let bounds = c.in_ok-bounds.bounds in
-    steps_told c.args.parts.now c.in_ok-parts.parts.items c.in_ok-parts.ensures.same told c.args.statement.now.sources c.args.front bounds.from bounds.to c.args.steps.now c.select_days.new.steps (rw c.as_slice.ensures.value at c.select_days.ensures.steps)
+    steps_told c.args.parts.now c.in_ok-parts.parts.items c.in_ok-parts.ensures.same told c.args.statement.now c.args.front c.in_ok-bounds.bounds c.args.steps.now c.select_days.new.steps c.in_ok-bounds.ensures
+    (rw c.as_slice.ensures.value at c.select_days.ensures.steps)

@@ -1,8 +1,9 @@
-use Rattle.std.proofs.Common.{◌≡◌, ℕ, ◌++◌, List, get_or, Option, ◌∙◌, ap, subst, arith}
+use Rattle.std.proofs.Common.{◌≡◌, ℕ, ◌++◌, List, get_or, Option, ap, subst, ◌∙◌}
 use Rattle.std.specs.Prelude.{IfSome}
 use Rattle.arch_types.specs.declared.row.Row.{Row}
 use Rattle.partitions.proofs.Parted.{no_partition, default_free}
 use Rattle.replay_merge.specs.RowSource.{rows_of_partition}
+use Rattle.replay_merge.proofs.Giving.{used_twice}
 use Rattle.ssql_select.specs.ShowText.{line_of_rows}
 use Rattle.ssql_select.proofs.ShownRows.{one_part_more}
 use Rattle.ssql_select.proofs.show.partition_lines.Goals as goal
@@ -20,7 +21,7 @@ loop-partition-preserved g c =
     let got = c.in_ok-rows.ensures in
     let used = c.loop-partition.invariant.used in
     record {
-      used = record { told = got.source.told ∙ used.told; later = omega (arith, used.later, got.source.later) };
+      used = used_twice used got.source;
       lines = one_part_more front table told c.args.parts.now i partition lines rows c.add_partition.new.lines.items c.loop-partition-test.true is c.loop-partition.invariant.lines
           (subst (λ (o : Option (ℕ → List Row)). IfSome o (λ history. rows ≡ rows_of_partition table partition (history front))) used.told got.told)
           (c.in_ok-add_partition.ensures ∙ ap (λ (r : List Row). lines ++ line_of_rows partition r) c.as_slice.ensures);

@@ -3,11 +3,11 @@ use Rattle.std.specs.List.{AllByRecursion}
 use Rattle.std.proofs.lemmas.List.{take_rest, nil_from_length, length-drop}
 use Rattle.arch_types.specs.declared.row.Row.{Row}
 use Rattle.arch_types.specs.Order.{is_before}
-use Rattle.replay_merge.specs.Cursor.{left_after}
+use Rattle.replay_merge.specs.Cursor.{MayHandOn, left_after}
 use Rattle.replay_merge.specs.RowSource.{AreInKeyOrder}
 use Rattle.replay_merge.specs.Fetch.{IsWanted}
 use Rattle.replay_merge.proofs.Reading.{rising_rest, day_fetched}
-use Rattle.replay_merge.proofs.Pieces.{given, same_rest, nothing_ahead, all_first, all_rest, first_in_order, rest_in_order, still_all, still_in_order, still_short}
+use Rattle.replay_merge.proofs.Pieces.{standing, given, same_rest, nothing_ahead, all_first, all_rest, all_kept, ahead_handed, read_handed, first_in_order, rest_in_order, still_all, still_in_order, still_short}
 use Rattle.replay_merge.proofs.cursor.Cursor.next.Goals as goal
 
 pub fetch-requires : goal.fetch-requires
@@ -34,6 +34,15 @@ pub returns-then-len-eq0-clause-each : goal.returns-then-len-eq0-clause-each
 returns-then-len-eq0-clause-each g c =
     rw (← c.self.view_is) (subst (λ (l : List Row). AllByRecursion (IsWanted c.self.inside.wanted) l) (sym c.in_ok-rows.ensures.first) (all_first (IsWanted c.self.inside.wanted) c.given_at_most-most.result c.in_ok-count.day c.in_ok-count.ensures.each))
 
+pub returns-then-most-eq0-clause-given : goal.returns-then-most-eq0-clause-given
+returns-then-most-eq0-clause-given g c = rw c.new.ensures (ahead_handed c.args.self.now (g.R.RowSource.state c.args.source.now))
+
+pub returns-then-len-eq0-clause-given : goal.returns-then-len-eq0-clause-given
+returns-then-len-eq0-clause-given g c =
+    let source = g.R.RowSource.state c.args.source.now in
+    all_kept (MayHandOn c.args.self.now source) c.given_at_most-most.result c.left_after-self-inside.result c.in_ok-count.day c.in_ok-rows.rows c.in_ok-rows.ahead c.keep_within.new.self
+    c.in_ok-rows.ensures.first c.in_ok-rows.ensures.rest c.keep_within.ensures (read_handed c.args.self.now source c.in_ok-count.day c.in_ok-count.ensures.given)
+
 pub returns-clause-rows : goal.returns-clause-rows
 returns-clause-rows g c =
     let told = (g.R.RowSource.state c.args.source.now).history in
@@ -42,6 +51,15 @@ returns-clause-rows g c =
     rw (← c.self.view_is)
     (given told inside.wanted inside.left c.left_after-self-inside-2.result parts parts inside.ahead c.take_first.new.self c.keep_within-2.new.self inside.ahead c.in_ok-rows-2.rows c.given_at_most-most.result c.given_at_most-most.ensures.left (same_rest told inside.wanted parts inside.ahead)
     c.in_ok-rows-2.ensures.rows c.in_ok-rows-2.ensures.rest (c.left_after-self-inside-2.ensures ∙ ap (left_after inside.left) c.len-2.ensures) c.keep_within-2.ensures)
+
+pub returns-clause-given : goal.returns-clause-given
+returns-clause-given g c =
+    let source = g.R.RowSource.state c.args.source.now in
+    let inside = c.self.inside in
+    let before = standing inside.wanted inside.left (drop inside.read inside.parts.items) inside.ahead in
+    rw (← c.self.view_is)
+    (all_kept (MayHandOn before source) c.given_at_most-most.result c.left_after-self-inside-2.result inside.ahead c.in_ok-rows-2.rows c.take_first.new.self c.keep_within-2.new.self
+    c.in_ok-rows-2.ensures.rows c.in_ok-rows-2.ensures.rest c.keep_within-2.ensures (ahead_handed before source))
 
 pub returns-clause-each : goal.returns-clause-each
 returns-clause-each g c =

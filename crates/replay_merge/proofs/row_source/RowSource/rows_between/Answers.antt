@@ -1,15 +1,18 @@
-use Rattle.std.proofs.Common.{◌≡◌, inr, ℕ, List, Option, get_or, w64, to_z, of_z, ◌∙◌, subst, arith}
+use Rattle.std.proofs.Common.{◌≡◌, inr, ℕ, List, Option, get_or, w64, to_z, of_z, subst}
 use Rattle.std.specs.Prelude.{IfSome}
 use Rattle.std.proofs.lemmas.Int.{to_z-of_z}
 use Rattle.arch_types.specs.declared.row.Row.{Row}
+use Rattle.arch_types.specs.Table.{is_in_time_range}
 use Rattle.partitions.proofs.Parted.{no_partition, default_free}
-use Rattle.replay_merge.specs.RowSource.{AreRowSourceHistories, rows_of_partition}
-use Rattle.replay_merge.proofs.Gathered.{one_part_more, each_part_more, all_gathered, between_read, each_moved}
+use Rattle.replay_merge.specs.RowSource.{AreRowSourceHistories, IsRowBetween, rows_of_partition}
+use Rattle.replay_merge.proofs.Gathered.{one_part_more, each_part_more, all_gathered, between_read}
+use Rattle.replay_merge.proofs.Giving.{each_moved, given_before, tested_behind, used_twice}
 use Rattle.replay_merge.proofs.row_source.RowSource.rows_between.Goals as goal
 
 pub loop-partition-preserved : goal.loop-partition-preserved
 loop-partition-preserved g c =
-    let told = (g.Self.RowSource.state c.args.self.now).history in
+    let state = g.Self.RowSource.state c.args.self.now in
+    let told = state.history in
     let loop = c.loop-partition in
     let parts = c.args.parts.now in
     let i = loop.partition-index in
@@ -22,10 +25,11 @@ loop-partition-preserved g c =
     let high = to_z w64 (of_z w64 c.args.to) in
     let used = loop.invariant.used in
     record {
-      used = record { told = got.source.told ∙ used.told; later = omega (arith, used.later, got.source.later) };
+      used = used_twice used got.source;
       rows = one_part_more c.args.table c.args.front low high parts i partition c.loop-partition-test.true is told loop.rows.items given all loop.invariant.rows
           (subst (λ (o : Option (ℕ → List Row)). IfSome o (λ history. given ≡ rows_of_partition c.args.table partition (history c.args.front))) used.told got.told) c.in_ok-rows.ensures;
       each = each_part_more c.args.table c.args.front low high parts i partition c.loop-partition-test.true is loop.rows.items given all loop.invariant.each got.each.each c.in_ok-rows.ensures;
+      given = tested_behind state.may_give (is_in_time_range low high) loop.rows.items given all loop.invariant.given (given_before used given got.given) c.in_ok-rows.ensures;
       told = inr (subst (λ (o : Option (ℕ → List Row)). IfSome o AreRowSourceHistories) used.told got.history);
     }
 
@@ -44,4 +48,8 @@ pub returns-clause-each : goal.returns-clause-each
 returns-clause-each g c =
     let low = to_z-of_z w64 c.args.from c.ranges.from in
     let high = to_z-of_z w64 c.args.to c.ranges.to in
-    each_moved c.args.table c.args.from c.args.to c.args.parts.now c.loop-partition.rows.items c.in_ok-merged_by_key.field-0 c.in_ok-merged_by_key.ensures.same (rw (low, high) at c.loop-partition.invariant.each)
+    each_moved (IsRowBetween c.args.table c.args.parts.now c.args.from c.args.to) c.loop-partition.rows.items c.in_ok-merged_by_key.field-0 c.in_ok-merged_by_key.ensures.same (rw (low, high) at c.loop-partition.invariant.each)
+
+pub returns-clause-given : goal.returns-clause-given
+returns-clause-given g c =
+    each_moved (g.Self.RowSource.state c.args.self.now).may_give c.loop-partition.rows.items c.in_ok-merged_by_key.field-0 c.in_ok-merged_by_key.ensures.same c.loop-partition.invariant.given

@@ -13,5 +13,6 @@ invariant-loop-partition g l = record {
   rows : IfSome (g.Self.RowSource.state l.fn.self).history (λ history.
       l.rows.items ≡ by_parts (take l.partition-index l.parts) (range_of l.table l.from l.to (history l.front)));
   each : AllByRecursion (IsRowBetween l.table l.parts l.from l.to) l.rows.items;
+  given : AllByRecursion (g.Self.RowSource.state l.fn.self).may_give l.rows.items;
   told : IsToldHistory (g.Self.RowSource.state l.fn.self).history l.rows.items;
 }
