@@ -23,7 +23,7 @@ pub holds_of_all : {X : Type 0} (P : X → Type 0) (xs : List X) (i : ℕ) → l
 holds_of_all P xs i le so_far = subst (AllByRecursion P) (take_all i xs le) so_far
 
 -- an item that is there is the same beside any other default
-next_default : {X : Type 0} (xs : List X) (i : ℕ) (d e : X) → i < length xs → get_or xs i d ≡ get_or xs i e
+pub next_default : {X : Type 0} (xs : List X) (i : ℕ) (d e : X) → i < length xs → get_or xs i d ≡ get_or xs i e
 next_default [] i d e lt = absurd (omega arith)
 next_default (x ∷ xs) zero d e lt = refl
 next_default (x ∷ xs) (suc i) d e lt = next_default xs i d e (omega arith)

@@ -1,10 +1,12 @@
 -- What stands of segments while they are read one after the other.
-use Rattle.std.proofs.Common.{◌≡◌, ◌∙◌, ℕ, zero, suc, ◌+◌, ◌<◌, ◌≤◌, ◌^◌, List, [], ◌∷◌, ◌++◌, length, take, take_all, drop, drop-cons, get_or, add-one, Option, Some, None, true, sym, ap, arith}
+use Rattle.std.proofs.Common.{◌≡◌, ◌∙◌, ℕ, zero, suc, ◌+◌, ◌<◌, ◌≤◌, ◌^◌, List, [], ◌∷◌, ◌++◌, length, take, take_all, drop, drop-cons, get_or, add-one, append_assoc, append-nil, length-append, Option, Some, None, true, sym, ap, arith}
 use Rattle.std.specs.Prelude.{flat_map}
 use Rattle.std.specs.Int.{w32}
 use Rattle.std.specs.List.{AllByRecursion}
 use Rattle.std.proofs.Math.Seq.{drop-append_seam, take-suc}
-use Rattle.std.proofs.lemmas.List.{drop-drop, drop_at}
+use Rattle.std.proofs.lemmas.List.{drop-drop, drop_all, drop_at}
+use Rattle.std.proofs.lemmas.List.Concat.{flat_map-append}
+use Rattle.octet_fields.specs.Exact.{IsOctets}
 use Rattle.octet_fields.specs.Reading.{number_at}
 use Rattle.octet_fields.specs.Spelling.{counted, number}
 use Rattle.octet_fields.proofs.Exact.{some_is}
@@ -13,7 +15,9 @@ use Rattle.segment_codec.specs.Segment.{HasSegmentAt, segment_octets}
 use Rattle.segment_codec.specs.declared.segment.Segment.{Segment}
 use Rattle.mdb_items.specs.Database.{Database}
 use Rattle.param_segments.specs.RowPlaces.{IsKnownSegment, are_known_parameters}
+use Rattle.param_segments.specs.Octets.{starts_from}
 use Rattle.param_segments.proofs.Contents.{number_length}
+use Rattle.param_segments.proofs.Steps.{starts_append}
 use Rattle.param_segments.proofs.Starts.{no_segment}
 
 pub each_at : {X : Type 0} (P : X → Type 0) (xs : List X) (i : ℕ) (d : X) → AllByRecursion P xs → i < length xs → P (get_or xs i d)
@@ -59,6 +63,41 @@ read_more db count octets read new i at after s lt more ends same so_far = λ se
       more ∙ ap (λ (xs : List Segment). xs ++ s ∷ []) so.0 ∙ ap (λ (x : Segment). take i segments ++ x ∷ []) is ∙ sym (ap (λ (k : ℕ). take k segments) (add-one i) ∙ take-suc segments i no_segment inside),
       ap (λ (k : ℕ). drop k octets) (ends ∙ ap (λ (x : Segment). at + length (segment_octets x)) is) ∙ behind_next octets segments i at inside so.1,
     )
+
+-- ---- what they were read from
+
+octets_more : (ss : List Segment) (s : Segment) → flat_map segment_octets (ss ++ s ∷ []) ≡ flat_map segment_octets ss ++ segment_octets s
+octets_more ss s = flat_map-append segment_octets ss (s ∷ []) ∙ ap (λ (xs : List ℕ). flat_map segment_octets ss ++ xs) (append-nil (segment_octets s))
+
+pub place_more : (ss : List Segment) (s : Segment) (at : ℕ) → at ≡ 4 + length (flat_map segment_octets ss) → at + length (segment_octets s) ≡ 4 + length (flat_map segment_octets (ss ++ s ∷ []))
+place_more ss s at is =
+    let joined = length-append (flat_map segment_octets ss) (segment_octets s) in
+    let whole = ap length (octets_more ss s) in
+    omega (arith, joined, whole, is)
+
+pub spelled_more : (octets : List ℕ) (ss : List Segment) (s : Segment) (at end : ℕ) → HasSegmentAt octets at s → end ≡ at + length (segment_octets s) → drop 4 octets ≡ flat_map segment_octets ss ++ drop at octets →
+    drop 4 octets ≡ flat_map segment_octets (ss ++ s ∷ []) ++ drop end octets
+spelled_more octets ss s at end has ends so_far =
+    let rest = has.1 in
+    let behind : drop end octets ≡ rest =
+    ap (λ (n : ℕ). drop n octets) ends ∙ sym (drop-drop (length (segment_octets s)) at octets) ∙ ap (drop (length (segment_octets s))) has.2 ∙ drop-append_seam (segment_octets s) rest in
+    so_far ∙ ap (λ (xs : List ℕ). flat_map segment_octets ss ++ xs) (has.2 ∙ ap (λ (xs : List ℕ). segment_octets s ++ xs) (sym behind))
+    ∙ sym (append_assoc (flat_map segment_octets ss) (segment_octets s) (drop end octets)) ∙ ap (λ (xs : List ℕ). xs ++ drop end octets) (sym (octets_more ss s))
+
+-- the place where one more begins
+pub starts_more : (ss : List Segment) (s : Segment) (at : ℕ) → at ≡ 4 + length (flat_map segment_octets ss) → starts_from 4 ss ++ at ∷ [] ≡ starts_from 4 (ss ++ s ∷ [])
+starts_more ss s at is = ap (λ (n : ℕ). starts_from 4 ss ++ n ∷ []) is ∙ sym (starts_append 4 ss (s ∷ []))
+
+-- octets are the count of segments and these, where they end behind them
+pub all_counted : (octets : List ℕ) (ss : List Segment) (read : ℕ × List ℕ) (end : ℕ) → IsOctets octets → number_at w32 octets ≡ Some read → length ss ≡ read.0 → drop 4 octets ≡ flat_map segment_octets ss ++ drop end octets → end ≡ length octets →
+    octets ≡ counted w32 segment_octets ss
+unfolding counted
+all_counted octets ss read end are given len spelled ends =
+    let front : octets ≡ number w32 read.0 ++ read.1 = (exact32.takes octets read are given).0 in
+    let behind : drop 4 octets ≡ read.1 = ap (drop 4) front ∙ drop_at (number w32 read.0) read.1 4 (number_length read.0) in
+    let none : drop end octets ≡ [] = ap (λ (n : ℕ). drop n octets) ends ∙ drop_all (length octets) octets (omega arith) in
+    front ∙ ap (λ (xs : List ℕ). number w32 read.0 ++ xs) (sym behind ∙ spelled ∙ ap (λ (xs : List ℕ). flat_map segment_octets ss ++ xs) none ∙ append-nil (flat_map segment_octets ss))
+    ∙ ap (λ (n : ℕ). number w32 n ++ flat_map segment_octets ss) (sym len)
 
 -- all were read
 pub all_read : (db : Database) (count : ℕ) (octets : List ℕ) (read : List Segment) (i at : ℕ) → count ≤ i → AreReadSoFar db count octets read i at →

@@ -11,7 +11,7 @@ use Rattle.segment_codec.specs.KeyColumn.{IsKey}
 use Rattle.param_segments.specs.Rows.{IsSetRow, SetRow, is_earlier}
 use Rattle.param_segments.proofs.Ordering.{IsRising}
 
-is_less : (o : Ordering) → is_lt o ≡ true → o ≡ Less
+pub is_less : (o : Ordering) → is_lt o ≡ true → o ≡ Less
 is_less Less e = refl
 is_less Equal e = absurd cc
 is_less Greater e = absurd cc

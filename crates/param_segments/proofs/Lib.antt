@@ -24,3 +24,5 @@ pub mod Placed
 pub mod Asked
 pub mod SegmentValues
 pub mod ListSteps
+pub mod SetAgain
+pub mod RunSteps

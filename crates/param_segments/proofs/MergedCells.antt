@@ -25,7 +25,7 @@ use Rattle.param_segments.proofs.Stored.{set_is_segments}
 
 -- ---- one segment
 
-own_keys : (ps : List ℕ) (ks : List Key) (cs : List (List ℤ)) → map (λ t. t.key) (rows_from ps ks cs) ≡ ks
+pub own_keys : (ps : List ℕ) (ks : List Key) (cs : List (List ℤ)) → map (λ t. t.key) (rows_from ps ks cs) ≡ ks
 own_keys ps [] cs = refl
 own_keys ps (k ∷ ks) cs = ap (λ (xs : List Key). k ∷ xs) (own_keys ps ks (map column_tail cs))
 

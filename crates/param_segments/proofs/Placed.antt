@@ -34,10 +34,10 @@ use Rattle.param_segments.proofs.Rereading.{rows_sorted}
 
 -- ---- what loops over lists keep
 
-next_dropped : {X : Type 0} (xs : List X) (i : ℕ) (x : X) → i < length xs → x ≡ get_or xs i x → drop i xs ≡ x ∷ drop (i + 1) xs
+pub next_dropped : {X : Type 0} (xs : List X) (i : ℕ) (x : X) → i < length xs → x ≡ get_or xs i x → drop i xs ≡ x ∷ drop (i + 1) xs
 next_dropped {X} xs i x lt is = drop-cons xs i x lt ∙ ap (λ (y : X). y ∷ drop (suc i) xs) (sym is) ∙ ap (λ (k : ℕ). x ∷ drop k xs) (sym (add-one i))
 
-next_taken : {X : Type 0} (xs : List X) (i : ℕ) (x : X) → i < length xs → x ≡ get_or xs i x → take (i + 1) xs ≡ take i xs ++ x ∷ []
+pub next_taken : {X : Type 0} (xs : List X) (i : ℕ) (x : X) → i < length xs → x ≡ get_or xs i x → take (i + 1) xs ≡ take i xs ++ x ∷ []
 next_taken {X} xs i x lt is = ap (λ (k : ℕ). take k xs) (add-one i) ∙ take-suc xs i x lt ∙ ap (λ (y : X). take i xs ++ y ∷ []) (sym is)
 
 -- the places of one segment more
@@ -213,12 +213,12 @@ inside_as_places segments e n (p ∷ ps) all = (all.0, inside_as_places segments
 
 -- ---- a row at a place is one of a set
 
-parameters_again : (ps : List ℕ) (raws : List ℤ) → length raws ≡ length ps → map (λ (v : RawValue). v.parameter) (values_from ps raws) ≡ ps
+pub parameters_again : (ps : List ℕ) (raws : List ℤ) → length raws ≡ length ps → map (λ (v : RawValue). v.parameter) (values_from ps raws) ≡ ps
 parameters_again [] raws len = refl
 parameters_again (p ∷ ps) [] len = absurd (omega (arith, len))
 parameters_again (p ∷ ps) (z ∷ zs) len = ap (λ (xs : List ℕ). p ∷ xs) (parameters_again ps zs (omega (arith, len)))
 
-raws_again : (ps : List ℕ) (raws : List ℤ) → length raws ≡ length ps → map (λ (v : RawValue). v.raw) (values_from ps raws) ≡ raws
+pub raws_again : (ps : List ℕ) (raws : List ℤ) → length raws ≡ length ps → map (λ (v : RawValue). v.raw) (values_from ps raws) ≡ raws
 raws_again [] [] len = refl
 raws_again [] (z ∷ zs) len = absurd (omega (arith, len))
 raws_again (p ∷ ps) [] len = absurd (omega (arith, len))

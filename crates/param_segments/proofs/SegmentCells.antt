@@ -71,7 +71,7 @@ long_at n [] j lt all = absurd (omega arith)
 long_at n (c ∷ cs) zero lt all = all.0
 long_at n (c ∷ cs) (suc j) lt all = long_at n cs j (omega arith) all.1
 
-rests_long : (n : ℕ) (cs : List (List ℤ)) → AllByRecursion (λ c. length c ≡ suc n) cs → AllByRecursion (λ c. length c ≡ n) (map column_tail cs)
+pub rests_long : (n : ℕ) (cs : List (List ℤ)) → AllByRecursion (λ c. length c ≡ suc n) cs → AllByRecursion (λ c. length c ≡ n) (map column_tail cs)
 rests_long n [] all = tt
 rests_long n ([] ∷ cs) all = absurd (let e = all.0 in omega arith)
 rests_long n ((r ∷ rs) ∷ cs) all = (let e = all.0 in omega arith, rests_long n cs all.1)
@@ -107,7 +107,7 @@ by_place : (q : ℕ) (s : Segment) (o : Option ℕ) → column_cells (option_map
 by_place q s None = refl
 by_place q s (Some j) = refl
 
-lengths : (n : ℕ) (cs : List (List ℤ)) → AllByRecursion (IsRawColumn n) cs → AllByRecursion (λ c. length c ≡ n) cs
+pub lengths : (n : ℕ) (cs : List (List ℤ)) → AllByRecursion (IsRawColumn n) cs → AllByRecursion (λ c. length c ≡ n) cs
 lengths n [] all = tt
 lengths n (c ∷ cs) all = (all.0.0, lengths n cs all.1)
 

@@ -1,5 +1,6 @@
 -- A sort of rows whose keys differ gives the one list of them in which the keys rise.
-use Rattle.std.proofs.Common.{◌≡◌, ◌∙◌, ℕ, zero, suc, ◌+◌, ◌<◌, List, [], ◌∷◌, length, map, get_or, Bool, true, false, ◌⊎◌, inl, inr, refl, sym, ap, subst, arith}
+use Rattle.std.proofs.Common.{◌≡◌, ◌∙◌, ℕ, zero, suc, ◌+◌, ◌<◌, List, [], ◌∷◌, length, map, get_or, Bool, true, false, cond, ◌⊎◌, inl, inr, refl, sym, ap, subst, arith}
+use Rattle.std.specs.Prelude.{filter}
 use Rattle.std.specs.List.{AllByRecursion, Contains, IsDistinct}
 use Rattle.std.specs.List.Sorted.{IsPermutation, IsSortedBy, IsStrictlySortedBy}
 use Rattle.std.specs.Ordering.{is_lt, is_eq, eq_by_cmp, ordering_reverse}
@@ -82,6 +83,33 @@ module _ {X : Type 0} (key : X → Key) where
   contains_from z [] m = absurd m
   contains_from z (x ∷ xs) (inl e) = (0, omega arith, sym e)
   contains_from z (x ∷ xs) (inr m) = let h = contains_from z xs m in (suc h.0, omega (arith, h.1), h.2)
+
+  -- ---- a part of them
+
+  in_cases : (p : X → Bool) (x z : X) (xs : List X) (b : Bool) → p x ≡ b → (IsItem z (filter p xs) → IsItem z xs × (p z ≡ true)) → IsItem z (cond b (x ∷ filter p xs) (filter p xs)) → IsItem z (x ∷ xs) × (p z ≡ true)
+  in_cases p x z xs true e more (inl same) = (inl same, ap p same ∙ e)
+  in_cases p x z xs true e more (inr m) = let n = more m in (inr n.0, n.1)
+  in_cases p x z xs false e more m = let n = more m in (inr n.0, n.1)
+
+  in_filter : (p : X → Bool) (xs : List X) (z : X) → IsItem z (filter p xs) → IsItem z xs × (p z ≡ true)
+  in_filter p [] z m = absurd m
+  in_filter p (x ∷ xs) z m = in_cases p x z xs (p x) refl (in_filter p xs z) m
+
+  to_filter : (p : X → Bool) (xs : List X) (z : X) → IsItem z xs → p z ≡ true → IsItem z (filter p xs)
+  to_filter p [] z m passes = absurd m
+  to_filter p (x ∷ xs) z (inl same) passes = subst (λ (b : Bool). IsItem z (cond b (x ∷ filter p xs) (filter p xs))) (sym (ap p (sym same) ∙ passes)) (inl same)
+  to_filter p (x ∷ xs) z (inr m) passes = further (p x) (to_filter p xs z m passes)
+    where
+      further : (b : Bool) → IsItem z (filter p xs) → IsItem z (cond b (x ∷ filter p xs) (filter p xs))
+      further true n = inr n
+      further false n = n
+
+  -- rising items that pass a test are those of the same items in another order, where these rise
+  pub filtered_is : (p : X → Bool) (mixed sorted own : List X) → IsRising earlier (filter p sorted) → IsRising earlier own → IsPermutation mixed sorted → filter p mixed ≡ own → filter p sorted ≡ own
+  filtered_is p mixed sorted own up rises same is =
+      rising_is (filter p sorted) own up rises
+      (λ z m. let n = in_filter p sorted z m in subst (IsItem z) is (to_filter p mixed z (item_of z mixed (Contains-permutation sorted mixed z (IsPermutation-sym mixed sorted same) (contains_from z sorted n.0))) n.1))
+      (λ z m. let n = in_filter p mixed z (subst (IsItem z) (sym is) m) in to_filter p sorted z (item_of z sorted (Contains-permutation mixed sorted z same (contains_from z mixed n.0))) n.1)
 
   -- ---- what a sort gives rises
 

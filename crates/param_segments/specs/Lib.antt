@@ -9,3 +9,4 @@ pub mod GroupContents
 pub mod RowPlaces
 pub mod Laws
 pub mod Plans
+pub mod Runs

@@ -5,6 +5,7 @@ ghost use Rattle.std.specs.Int.{w32};
 ghost use Rattle.std.specs.List.{AllByRecursion};
 ghost use Rattle.octet_fields.specs.Spelling.{counted};
 ghost use Rattle.param_segments.specs.RowPlaces.{IsKnownSegment, are_known_parameters, places_from, places_in_segment, raw_in_row, values_in_row};
+ghost use Rattle.param_segments.specs.Octets.{starts_from};
 ghost use Rattle.segment_codec.specs.Segment.{HasSegmentAt, IsSegment, most_rows, segment_octets};
 ghost use Rattle.octet_fields.specs.declared.fault.DecodeError.TheVariants.{OutOfMemory};
 ghost use Rattle.segment_codec.specs.declared.segment.Segment.{Segment as ASegment};
@@ -32,7 +33,7 @@ fn known_segment_at(
     at: usize,
     mdb: &Mdb,
 ) -> Result<(Segment, usize), NotASegment>
-    ensures sound { IfOk result (λ x. IsSegment x.0) }
+    ensures found { IfOk result (λ x. HasSegmentAt octets.now at x.0) }
     ensures end { IfOk result (λ x. x.1 ≡ at + length (segment_octets x.0)) }
     ensures each { (s : ASegment) → HasSegmentAt octets.now at s →
         are_known_parameters mdb.now s.parameters ≡ true → MatchResult result (λ x. x.0 ≡ s) (λ e. e ≡ OutOfMemory) }
@@ -45,29 +46,51 @@ fn known_segment_at(
     Ok((segment, end))
 }
 
+/// Segments that were read.
+#[derive(Drop)]
+pub(crate) struct ReadSegments {
+    pub(crate) segments: Vec<Segment>,
+    /// The place where each begins.
+    pub(crate) starts: Vec<u32>,
+    /// The place behind the last.
+    pub(crate) end: usize,
+}
+
 /// So many segments, one after the other behind their count. What stands after them isn't asked.
 fn segments_at(
     alloc: Global,
     count: u32,
     octets: &[u8],
     mdb: &Mdb,
-) -> Result<Vec<Segment>, NotASegment>
-    ensures sound { IfOk result (λ segments. AllByRecursion IsSegment segments.items) }
-    ensures count { IfOk result (λ segments. length segments.items ≡ count) }
+) -> Result<ReadSegments, NotASegment>
+    ensures sound { IfOk result (λ read. AllByRecursion IsSegment read.segments.items) }
+    ensures count { IfOk result (λ read. length read.segments.items ≡ count) }
+    ensures spelled { IfOk result (λ read.
+        drop 4 octets.now ≡ flat_map segment_octets read.segments.items ++ drop read.end octets.now) }
+    ensures starts { IfOk result (λ read. read.starts.items ≡ starts_from 4 read.segments.items) }
     ensures each { (segments : List ASegment) → AllByRecursion (IsKnownSegment mdb.now) segments →
         count ≡ length segments → drop 4 octets.now ≡ flat_map segment_octets segments →
-        MatchResult result (λ read. read.items ≡ segments) (λ e. e ≡ OutOfMemory) }
+        MatchResult result (λ read. read.segments.items ≡ segments) (λ e. e ≡ OutOfMemory) }
 {
     let room = room_for(count as usize, octets, LEAST_SEGMENT);
     let mut segments = Vec::with_capacity(alloc, room)?;
+    let mut starts = Vec::with_capacity(alloc, room)?;
     let mut at = COUNT_OCTETS;
     for _ in 0..count {
+        let Ok(start) = u32::try_from(at) else {
+            return Err(NotASegment::OutOfMemory);
+        };
         let (segment, end) = known_segment_at(alloc, octets, at, mdb)?;
         segments.reserve(1)?;
+        starts.push(start)?;
         segments.push_reserved(segment);
         at = end;
     }
-    Ok(segments)
+    Ok(ReadSegments {
+        segments,
+        starts,
+        end: at,
+    })
 }
 
 /// The segments that octets count and spell. What stands after them isn't asked.
@@ -75,12 +98,15 @@ pub(crate) fn counted_segments(
     alloc: Global,
     octets: &[u8],
     mdb: &Mdb,
-) -> Result<Vec<Segment>, NotASegment>
-    ensures sound { IfOk result (λ segments. AllByRecursion IsSegment segments.items) }
-    ensures few { IfOk result (λ segments. length segments.items < 2 ^ 32) }
+) -> Result<ReadSegments, NotASegment>
+    ensures sound { IfOk result (λ read. AllByRecursion IsSegment read.segments.items) }
+    ensures few { IfOk result (λ read. length read.segments.items < 2 ^ 32) }
+    ensures whole { IfOk result (λ read. read.end ≡ length octets.now →
+        octets.now ≡ counted w32 segment_octets read.segments.items) }
+    ensures starts { IfOk result (λ read. read.starts.items ≡ starts_from 4 read.segments.items) }
     ensures each { (segments : List ASegment) → AllByRecursion (IsKnownSegment mdb.now) segments →
         length segments < 2 ^ 32 → octets.now ≡ counted w32 segment_octets segments →
-        MatchResult result (λ read. read.items ≡ segments) (λ e. e ≡ OutOfMemory) }
+        MatchResult result (λ read. read.segments.items ≡ segments) (λ e. e ≡ OutOfMemory) }
 {
     match u32_at(octets) {
         Err(_) => Err(NotASegment::Malformed),

@@ -4,7 +4,8 @@
 //! specs/Rows.antt). Groups, pieces of 4,096 rows and segments are in the spelling alone: `set_of` of specs/Groups.antt
 //! says which segments rows have, so rows have one spelling. A `SetBuilder` takes rows one after the other and gives
 //! their set whenever it's asked; `SegSet::build` extracts the rows of an interval and builds over them; `from_bytes`
-//! reads the rows that octets hold, builds over them, and accepts the octets that this spells; `cells` is what an
+//! reads the rows that octets hold, and accepts the octets that their set spells: where the segments stand as those of a
+//! set they are these (`runs`, proofs/SetAgain.antt), else the set is built again and compared; `cells` is what an
 //! extraction of these rows would give of a parameter, read from the columns. Called by whoever fills an interval, and
 //! by retrievals, whose `Plan` and its parts stand here.
 //!
@@ -45,6 +46,7 @@ mod plan;
 mod raw_cell;
 mod reading;
 mod row_place;
+mod runs;
 mod set;
 
 pub use builder::SetBuilder;

@@ -1,23 +1,27 @@
-//! Reads a set back: the set of the rows that octets hold is built again, and has to be spelled by just these octets.
-//! So no rule of groups and pieces is asked by itself, and none can be forgotten.
+//! Reads a set back: the set of the rows that octets hold has to be spelled by just these octets. Where their segments
+//! stand as those of a set it is; else it's built again, so that no rule of groups and pieces can be forgotten.
 
 ghost use Rattle.std.specs.Prelude.{◌≡◌, ◌<◌, ◌^◌, List, length, map, slice_get, true, Some, IfOk, MatchResult};
 ghost use Rattle.std.specs.List.{AllByRecursion};
-ghost use Rattle.std.specs.List.Sorted.{IsStrictlySortedBy};
+ghost use Rattle.std.specs.Int.{w32};
+ghost use Rattle.std.specs.List.Sorted.{IsPermutation, IsStrictlySortedBy};
+ghost use Rattle.intervals.specs.Interval.{interval_of};
 ghost use Rattle.arch_types.specs.Order.{key_cmp};
 ghost use Rattle.octet_fields.specs.Answers.{ReadsEach, ReadsOnly};
+ghost use Rattle.octet_fields.specs.Spelling.{counted};
 ghost use Rattle.param_segments.specs.Extracted.{IsSetOf};
 ghost use Rattle.param_segments.specs.Groups.{set_of};
-ghost use Rattle.param_segments.specs.Octets.{rows_in_octets, set_octets};
-ghost use Rattle.param_segments.specs.RowPlaces.{IsRowPlace, placed_row};
+ghost use Rattle.param_segments.specs.Octets.{rows_in_octets, set_octets, starts_from};
+ghost use Rattle.param_segments.specs.RowPlaces.{IsRowPlace, IsSegmentOf, placed_row, places_from};
 ghost use Rattle.param_segments.specs.Rows.{SetRow};
-ghost use Rattle.segment_codec.specs.Segment.{IsSegment};
+ghost use Rattle.segment_codec.specs.Segment.{IsSegment, segment_octets};
 ghost use Rattle.octet_fields.specs.declared.fault.DecodeError.TheVariants.{OutOfMemory};
 
 use crate::asking::{are_inside, are_rising, are_segments_of};
 use crate::builder::SetBuilder;
-use crate::decoding::{counted_segments, places_of, write_values};
+use crate::decoding::{ReadSegments, counted_segments, places_of, write_values};
 use crate::row_place::RowPlace;
+use crate::runs::are_set_segments;
 use crate::set::SegSet;
 use arch_types::octets::Octets;
 use intervals::{Exponent, Interval};
@@ -60,19 +64,25 @@ fn rows_built(
     Ok(builder)
 }
 
-/// The set of the rows of segments, where they're rows of a set of the interval and the database (D-164).
-fn built_again(
+/// The places of the rows of segments in the order of their keys, where they're rows of a set of the interval and the
+/// database.
+fn sorted_places(
     alloc: Global,
     interval: Interval,
     exponent: Exponent,
     segments: &[Segment],
     mdb: &Mdb,
-) -> Result<SegSet, NotASegment>
+) -> Result<Vec<RowPlace>, NotASegment>
     requires sound { AllByRecursion IsSegment segments.now }
     requires few { length segments.now < 2 ^ 32 }
-    ensures sound { IfOk result (IsSetOf mdb.now exponent interval.0) }
+    ensures placed { IfOk result (λ places. AllByRecursion (IsRowPlace segments.now) places.items) }
+    ensures whole { IfOk result (λ places. IsPermutation (places_from 0 segments.now) places.items) }
+    ensures rising { IfOk result (λ places. IsStrictlySortedBy key_cmp (map (λ p. p.key) places.items)) }
+    ensures inside { IfOk result (λ places. AllByRecursion
+        (λ p. interval_of exponent p.key.time ≡ interval.0) places.items) }
+    ensures values { IfOk result (λ _. AllByRecursion (IsSegmentOf mdb.now) segments.now) }
     ensures each { (rows : List SetRow) → IsSetOf mdb.now exponent interval.0 rows → segments.now ≡ set_of rows →
-        MatchResult result (λ set. set ≡ rows) (λ e. e ≡ OutOfMemory) }
+        MatchResult result (λ places. map (placed_row segments.now) places.items ≡ rows) (λ e. e ≡ OutOfMemory) }
 {
     // by columns, along which the parameter and its width stay the same
     if !are_segments_of(mdb, segments) {
@@ -86,9 +96,56 @@ fn built_again(
     if !are_inside(interval, exponent, &places) {
         return Err(NotASegment::Malformed);
     }
-    let builder = rows_built(alloc, segments, &places)?;
-    builder.rows_are_sound();
-    let set = builder.set(alloc)?;
+    Ok(places)
+}
+
+/// The set of the rows at places of segments, which are all of their rows. Where they stand as those of a set do it's
+/// over these octets, else it's built again: its octets tell whether they do (D-164).
+fn set_at(
+    alloc: Global,
+    octets: &Octets,
+    read: ReadSegments,
+    places: &[RowPlace],
+) -> Result<SegSet, AllocError>
+    requires sound { AllByRecursion IsSegment read.segments.items }
+    requires few { length read.segments.items < 2 ^ 32 }
+    requires spelled { read.end ≡ length octets.now → octets.now ≡ counted w32 segment_octets read.segments.items }
+    requires starts { read.starts.items ≡ starts_from 4 read.segments.items }
+    requires placed { AllByRecursion (IsRowPlace read.segments.items) places.now }
+    requires whole { IsPermutation (places_from 0 read.segments.items) places.now }
+    requires rising { IsStrictlySortedBy key_cmp (map (λ p. p.key) places.now) }
+    ensures { IfOk result (λ set. set ≡ map (placed_row read.segments.items) places.now) }
+{
+    let ReadSegments {
+        segments,
+        starts,
+        end,
+    } = read;
+    if end == octets.len() && are_set_segments(alloc, &segments, places)? {
+        return Ok(SegSet::of_spelling(octets.copy()?, starts));
+    }
+    rows_built(alloc, &segments, places)?.set(alloc)
+}
+
+/// The set of the rows of segments, where they're rows of a set of the interval and the database.
+fn set_of_read(
+    alloc: Global,
+    interval: Interval,
+    exponent: Exponent,
+    octets: &Octets,
+    read: ReadSegments,
+    mdb: &Mdb,
+) -> Result<SegSet, NotASegment>
+    requires sound { AllByRecursion IsSegment read.segments.items }
+    requires few { length read.segments.items < 2 ^ 32 }
+    requires spelled { read.end ≡ length octets.now → octets.now ≡ counted w32 segment_octets read.segments.items }
+    requires starts { read.starts.items ≡ starts_from 4 read.segments.items }
+    ensures sound { IfOk result (IsSetOf mdb.now exponent interval.0) }
+    ensures each { (rows : List SetRow) → IsSetOf mdb.now exponent interval.0 rows →
+        read.segments.items ≡ set_of rows → MatchResult result (λ set. set ≡ rows) (λ e. e ≡ OutOfMemory) }
+{
+    let places = sorted_places(alloc, interval, exponent, &read.segments, mdb)?;
+    let set = set_at(alloc, octets, read, &places)?;
     Ok(set)
 }
 
@@ -99,25 +156,25 @@ fn fits_u32(octets: &[u8]) -> bool
     octets.len() <= u32::MAX as usize
 }
 
-/// The set that octets spell, in octets of its own.
+/// The set that octets spell.
 fn spelled_set(
     alloc: Global,
     interval: Interval,
     exponent: Exponent,
-    octets: &[u8],
+    octets: &Octets,
     mdb: &Mdb,
 ) -> Result<SegSet, NotASegment>
     ensures spelled { ReadsOnly (IsSetOf mdb.now exponent interval.0) set_octets (λ s. s) octets.now result }
     ensures each { ReadsEach (IsSetOf mdb.now exponent interval.0) set_octets (λ s. s) (λ e. e ≡ OutOfMemory)
         octets.now result }
 {
-    if !fits_u32(octets) {
+    if !fits_u32(octets.as_slice()) {
         return Err(NotASegment::OutOfMemory);
     }
-    let segments = counted_segments(alloc, octets, mdb)?;
-    let set = built_again(alloc, interval, exponent, &segments, mdb)?;
+    let read = counted_segments(alloc, octets.as_slice(), mdb)?;
+    let set = set_of_read(alloc, interval, exponent, octets, read, mdb)?;
     let own = set.to_bytes()?;
-    if own.as_slice() != octets {
+    if own.as_slice() != octets.as_slice() {
         return Err(NotASegment::Malformed);
     }
     Ok(set)
@@ -140,7 +197,8 @@ impl SegSet {
         ensures each { ReadsEach (IsSetOf mdb.now exponent interval.0) set_octets (λ s. s) (λ e. e ≡ OutOfMemory)
             octets.now result }
     {
-        spelled_set(alloc, interval, exponent, octets, mdb)
+        let block = Octets::from_slice(alloc, octets)?;
+        spelled_set(alloc, interval, exponent, &block, mdb)
     }
 
     /// As `from_bytes`, of octets that the set then shares.
@@ -156,7 +214,7 @@ impl SegSet {
             octets result }
         ensures value { IfOk result (λ set. set ≡ rows_in_octets octets) }
     {
-        let own = spelled_set(alloc, interval, exponent, octets.as_slice(), mdb)?;
+        let own = spelled_set(alloc, interval, exponent, &octets, mdb)?;
         Ok(own.over(octets))
     }
 }

@@ -1,6 +1,6 @@
-//! Unsigned varints. They're written from 64 bits: the gap of two keys within weeks has no more.
+//! Unsigned varints. They're written from 64 bits and read in 64 bits: the gap of two keys within weeks has no more.
 
-ghost use Rattle.std.specs.Prelude.{◌≡◌, ◌++◌, ◌∷◌, [], OnOk, MatchResult};
+ghost use Rattle.std.specs.Prelude.{◌≡◌, ◌++◌, ◌∷◌, [], Some, IfOk, OnOk, MatchResult};
 ghost use Rattle.octet_fields.specs.Answers.{Answers};
 ghost use Rattle.segment_codec.specs.Varint.{varint, short_varint_at};
 
@@ -43,8 +43,35 @@ fn octet_at(octets: &[u8]) -> Result<(u8, &[u8]), Short>
     Ok((front[0], rest))
 }
 
-/// The number whose varint of at most 14 octets stands at the front, and the octets after it.
-pub(crate) fn varint_at(octets: &[u8]) -> Result<(u128, &[u8]), Short>
+/// The number whose varint stands at the front, where it has at most nine octets, and the octets after it.
+fn word_at(octets: &[u8]) -> Result<(u64, &[u8]), Short>
+    ensures { IfOk result (λ x. short_varint_at octets.now ≡ Some (x.0, x.1.now)) }
+{
+    let (first, after_first) = octet_at(octets)?;
+    if first < 128 {
+        return Ok((u64::from(first), after_first));
+    }
+    let mut value = u64::from(first - 128);
+    let mut weight: u64 = 128;
+    let mut rest = after_first;
+    for _ in 1u32..9 {
+        let (octet, after) = octet_at(rest)?;
+        if octet == 0 {
+            return Err(Short);
+        }
+        if octet < 128 {
+            return Ok((value + u64::from(octet) * weight, after));
+        }
+        value += u64::from(octet - 128) * weight;
+        weight *= 128;
+        rest = after;
+    }
+    Err(Short)
+}
+
+/// The same for a varint of any length, of which no more than 14 octets are looked at.
+#[inline(never)]
+fn wide_varint_at(octets: &[u8]) -> Result<(u128, &[u8]), Short>
     ensures { Answers (λ x. (x.0, x.1.now)) result (short_varint_at octets.now) }
 {
     let (first, after_first) = octet_at(octets)?;
@@ -67,4 +94,15 @@ pub(crate) fn varint_at(octets: &[u8]) -> Result<(u128, &[u8]), Short>
         rest = after;
     }
     Err(Short)
+}
+
+/// The number whose varint of at most 14 octets stands at the front, and the octets after it: one of nine octets, which
+/// the gap of two keys has within weeks, is read in 64 bits, where it takes half the time.
+pub(crate) fn varint_at(octets: &[u8]) -> Result<(u128, &[u8]), Short>
+    ensures { Answers (λ x. (x.0, x.1.now)) result (short_varint_at octets.now) }
+{
+    match word_at(octets) {
+        Ok((word, rest)) => Ok((u128::from(word), rest)),
+        Err(_) => wide_varint_at(octets),
+    }
 }

@@ -20,8 +20,5 @@ returns-in_err-segment-clause-each c = λ s has known.
     let p = err_from_is_err_and c.from_residual-in_err-segment.result c.from_residual-in_err-segment.ensures.1 in
     rw (p.1, p.2) (c.in_err-segment.ensures.memory s has)
 
-pub returns-clause-sound : goal.returns-clause-sound
-returns-clause-sound c = c.in_ok-segment.ensures.found.0
-
 pub returns-clause-each : goal.returns-clause-each
 returns-clause-each c = λ s has known. c.in_ok-segment.ensures.same s has

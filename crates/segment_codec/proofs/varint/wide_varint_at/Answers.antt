@@ -2,7 +2,7 @@ use Rattle.std.proofs.Common.{◌≡◌, ℕ, ◌+◌, ◌*◌, ◌<◌, List, �
 use Rattle.std.proofs.lemmas.Result.{err_from_is_err_and}
 use Rattle.segment_codec.specs.Varint.{varint_at}
 use Rattle.segment_codec.proofs.Varints.{behind, behind-more, behind_last, short_of, none_of, long_of, weight_le, digit_fits, first_small, weight_end, weight_more, low_more}
-use Rattle.segment_codec.proofs.varint.varint_at.Goals as goal
+use Rattle.segment_codec.proofs.varint.wide_varint_at.Goals as goal
 
 pub returns-in_err-first : goal.returns-in_err-first
 returns-in_err-first c =

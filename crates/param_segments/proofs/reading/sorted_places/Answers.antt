@@ -1,16 +1,15 @@
 use Rattle.std.proofs.Common.{◌≡◌, ◌∙◌, List, ap, map, subst, sym}
 use Rattle.std.specs.List.{AllByRecursion}
-use Rattle.std.specs.List.Sorted.{IsSortedBy, IsStrictlySortedBy}
+use Rattle.std.specs.List.Sorted.{IsPermutation, IsSortedBy, IsStrictlySortedBy}
 use Rattle.intervals.specs.Interval.{interval_of}
 use Rattle.arch_types.specs.Order.{key_cmp}
 use Rattle.param_segments.specs.declared.row_place.RowPlace.{RowPlace}
-use Rattle.param_segments.specs.Cells.{AreValuesOf}
-use Rattle.param_segments.specs.RowPlaces.{IsRowPlace, IsSegmentOf, placed_row}
-use Rattle.param_segments.specs.Rows.{AreSetRows, SetRow}
-use Rattle.param_segments.proofs.Placed.{inside_as_rows, is_place_earlier, rise_as_rows, rows_again_sorted, set_is, sorted_inside}
+use Rattle.param_segments.specs.RowPlaces.{IsSegmentOf}
+use Rattle.param_segments.specs.Rows.{SetRow}
+use Rattle.param_segments.proofs.Placed.{inside_as_rows, is_place_earlier, rise_as_rows, rows_again_sorted, sorted_inside}
 use Rattle.param_segments.proofs.SegmentCells.{then_false}
-use Rattle.param_segments.proofs.SegmentValues.{placed_values, set_of_values}
-use Rattle.param_segments.proofs.reading.built_again.Goals as goal
+use Rattle.param_segments.proofs.SegmentValues.{set_of_values}
+use Rattle.param_segments.proofs.reading.sorted_places.Goals as goal
 
 -- the segments of rows of a set have values of its database
 pub returns-then-not-are_segments_of-clause-each : goal.returns-then-not-are_segments_of-clause-each
@@ -41,36 +40,26 @@ returns-then-not-are_inside-clause-each c = λ rows is of. absurd (
     let not_so = c.if-not-are_inside.true in
     cc)
 
-pub rows_built-requires : goal.rows_built-requires
-rows_built-requires c =
-    let segments = c.args.segments.now in
-    let sorted = c.sort.new.self.items in
-    let rising = c.are_rising.ensures.0 c.if-not-are_rising.false in
-    record {
-      sound = c.requires.sound;
-      placed = subst (AllByRecursion (IsRowPlace segments)) (sym c.deref-3.ensures.value) (sorted_inside segments c.in_ok-places.places.items sorted c.requires.sound c.in_ok-places.ensures c.sort.ensures.permutation);
-      rising = subst (λ (ps : List RowPlace). IsStrictlySortedBy key_cmp (map (λ (p : RowPlace). p.key) ps)) (c.deref.ensures.value ∙ sym c.deref-3.ensures.value) rising;
-    }
+pub returns-clause-placed : goal.returns-clause-placed
+returns-clause-placed c = sorted_inside c.args.segments.now c.in_ok-places.places.items c.sort.new.self.items c.requires.sound c.in_ok-places.ensures c.sort.ensures.permutation
 
-pub returns-clause-sound : goal.returns-clause-sound
-returns-clause-sound c =
-    let db = c.args.mdb.now in
-    let n = c.args.interval.0 in
-    let segments = c.args.segments.now in
-    let places = c.deref-3.result.now in
-    let set = c.in_ok-set.set in
-    let same = c.in_ok-set.ensures in
-    let are = same ∙ c.in_ok-builder.ensures in
-    let inside = c.are_inside.ensures.0 c.if-not-are_inside.false in
-    let placed : AllByRecursion (IsRowPlace segments) places = subst (AllByRecursion (IsRowPlace segments)) (sym c.deref-3.ensures.value) (sorted_inside segments c.in_ok-places.places.items c.sort.new.self.items c.requires.sound c.in_ok-places.ensures c.sort.ensures.permutation) in
-    let values = placed_values db segments places c.requires.sound (c.are_segments_of.ensures.0 c.if-not-are_segments_of.false) placed in
-    set_is db c.args.exponent n segments places set are (subst AreSetRows (sym same) c.rows_are_sound.ensures)
-    (subst (AllByRecursion (λ (p : RowPlace). interval_of c.args.exponent p.key.time ≡ n)) (c.deref-2.ensures.value ∙ sym c.deref-3.ensures.value) inside) (subst (AreValuesOf db) (sym are) values)
+pub returns-clause-whole : goal.returns-clause-whole
+returns-clause-whole c = subst (λ (ps : List RowPlace). IsPermutation ps c.sort.new.self.items) c.in_ok-places.ensures c.sort.ensures.permutation
+
+pub returns-clause-rising : goal.returns-clause-rising
+returns-clause-rising c =
+    subst (λ (ps : List RowPlace). IsStrictlySortedBy key_cmp (map (λ (p : RowPlace). p.key) ps)) c.deref.ensures.value (c.are_rising.ensures.0 c.if-not-are_rising.false)
+
+pub returns-clause-inside : goal.returns-clause-inside
+returns-clause-inside c =
+    subst (AllByRecursion (λ (p : RowPlace). interval_of c.args.exponent p.key.time ≡ c.args.interval.0)) c.deref-2.ensures.value (c.are_inside.ensures.0 c.if-not-are_inside.false)
+
+pub returns-clause-values : goal.returns-clause-values
+returns-clause-values c = c.are_segments_of.ensures.0 c.if-not-are_segments_of.false
 
 pub returns-clause-each : goal.returns-clause-each
 returns-clause-each c = λ rows is of.
     let segments = c.args.segments.now in
     let sorted = c.sort.new.self.items in
     let up : IsSortedBy is_place_earlier sorted = λ k d low high. then_false _ _ (c.in_ok-sort.ensures.sorted k d low high) in
-    c.in_ok-set.ensures ∙ c.in_ok-builder.ensures ∙ ap (map (placed_row segments)) c.deref-3.ensures.value
-    ∙ rows_again_sorted segments rows c.in_ok-places.places.items sorted is.rows of c.in_ok-places.ensures c.sort.ensures.permutation up
+    rows_again_sorted segments rows c.in_ok-places.places.items sorted is.rows of c.in_ok-places.ensures c.sort.ensures.permutation up

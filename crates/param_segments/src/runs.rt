@@ -1,0 +1,193 @@
+//! Whether segments stand as those of a set: the rows of each group in full segments but for the last, and groups in the
+//! order of their first rows. Then the set of their rows is spelled as they are, and nothing has to be built again.
+
+ghost use Rattle.std.specs.Prelude.{◌≡◌, ◌+◌, ◌<◌, ◌≤◌, ◌++◌, ◌∷◌, [], List, length, map, nat_eq, if◌then◌else◌, ◌==◌, None, Some, true, IfOk, IfSome, OnOk};
+ghost use Rattle.std.specs.List.{AllByRecursion, position};
+ghost use Rattle.std.specs.List.Sorted.{IsPermutation, IsStrictlySortedBy};
+ghost use Rattle.std.specs.Ordering.{is_lt};
+ghost use lib.Pointwise.{pointwise};
+ghost use Rattle.arch_types.specs.Order.{key_cmp};
+ghost use Rattle.segment_codec.specs.Segment.{IsSegment, most_rows};
+ghost use Rattle.segment_codec.specs.declared.segment.Segment.{Segment as ASegment};
+ghost use Rattle.param_segments.specs.Groups.{set_of};
+ghost use Rattle.param_segments.specs.RowPlaces.{IsRowPlace, placed_row, places_from};
+ghost use Rattle.param_segments.specs.Runs.{AreRuns, AreRunsSoFar, IsLast, count_in_order, place_group};
+
+use crate::group_numbers::GroupNumbers;
+use crate::row_place::RowPlace;
+use arch_types::key::Key;
+use segment_codec::{MOST_ROWS, Segment};
+use std::alloc::{AllocError, Global};
+
+/// The groups of segments, and where the last of these ends.
+#[derive(Drop)]
+pub struct Runs {
+    /// The lists of parameters of the groups, in the groups' order.
+    pub groups: GroupNumbers,
+    /// How many groups there are.
+    pub count: usize,
+    /// For each segment the number of its group.
+    pub numbers: Vec<usize>,
+    /// How many rows the last segment has.
+    pub rows: usize,
+    /// The key of its last row.
+    pub last: Key,
+}
+
+/// The last of some keys.
+fn last_key(keys: &[Key]) -> Key
+    requires { 1 ≤ length keys.now }
+    ensures { IsLast keys.now result }
+{
+    keys[keys.len() - 1]
+}
+
+/// The first of some keys.
+fn first_key(keys: &[Key]) -> Key
+    requires { 1 ≤ length keys.now }
+    ensures { (rest : List Key) × (keys.now ≡ result ∷ rest) }
+{
+    keys[0]
+}
+
+/// A segment of the group with a number goes on with the last one: it's of the last group, behind a full segment, and
+/// its first key is behind the last.
+fn goes_on(runs: &Runs, number: usize, first: Key) -> bool
+    ensures group { result ≡ true → number + 1 ≡ runs.now.count }
+    ensures full { result ≡ true → runs.now.rows ≡ most_rows }
+    ensures rising { result ≡ true → is_lt (key_cmp runs.now.last first) ≡ true }
+{
+    if number >= runs.count || runs.count - number != 1 {
+        return false;
+    }
+    if runs.rows != usize::from(MOST_ROWS) {
+        return false;
+    }
+    runs.last < first
+}
+
+impl Runs {
+    /// No segment.
+    fn none(alloc: Global) -> Runs
+        ensures { AreRunsSoFar [] result }
+    {
+        Runs {
+            groups: GroupNumbers::new(alloc),
+            count: 0,
+            numbers: Vec::new(alloc),
+            rows: 0,
+            last: Key { time: 0, seq: 0 },
+        }
+    }
+
+    /// Takes a segment of the group with a number.
+    fn take(&mut self, number: usize, keys: &[Key]) -> Result<(), AllocError>
+        requires { 1 ≤ length keys.now }
+        ensures groups { self.new.groups ≡ self.old.groups }
+        ensures count { self.new.count ≡ self.old.count }
+        ensures numbers { OnOk result (self.new.numbers.items ≡ self.old.numbers.items ++ number ∷ []) }
+        ensures rows { OnOk result (self.new.rows ≡ length keys.now) }
+        ensures last { OnOk result (IsLast keys.now self.new.last) }
+    {
+        self.numbers.push(number)?;
+        self.rows = keys.len();
+        self.last = last_key(keys);
+        Ok(())
+    }
+
+    /// Takes the first segment of a group.
+    fn take_first(&mut self, alloc: Global, segment: &Segment) -> Result<(), AllocError>
+        requires segment { IsSegment segment.now }
+        requires new { position (pointwise nat_eq segment.now.parameters) self.old.groups ≡ None }
+        ensures { OnOk result ((before : List ASegment) → AreRunsSoFar before self.old →
+            AreRunsSoFar (before ++ segment.now ∷ []) self.new) }
+    {
+        let number = self.count;
+        let Some(count) = number.checked_add(1) else {
+            return Err(AllocError);
+        };
+        let parameters = Vec::from_slice(alloc, segment.parameters.as_slice())?;
+        self.groups.add(parameters)?;
+        self.count = count;
+        self.take(number, segment.keys.as_slice())
+    }
+
+    /// Takes a segment behind the others, where it may stand there, and tells whether it may.
+    fn take_next(&mut self, alloc: Global, segment: &Segment) -> Result<bool, AllocError>
+        requires { IsSegment segment.now }
+        ensures { IfOk result (λ taken. taken ≡ true → (before : List ASegment) → AreRunsSoFar before self.old →
+            AreRunsSoFar (before ++ segment.now ∷ []) self.new) }
+    {
+        match self.groups.number(segment.parameters.as_slice()) {
+            None => {
+                self.take_first(alloc, segment)?;
+                Ok(true)
+            }
+            Some(number) => {
+                let keys = segment.keys.as_slice();
+                if !goes_on(self, number, first_key(keys)) {
+                    return Ok(false);
+                }
+                self.take(number, keys)?;
+                Ok(true)
+            }
+        }
+    }
+}
+
+/// The groups of segments, where these stand group by group.
+fn runs_of(alloc: Global, segments: &[Segment]) -> Result<Option<Runs>, AllocError>
+    requires { AllByRecursion IsSegment segments.now }
+    ensures { IfOk result (λ found. IfSome found (λ runs. AreRunsSoFar segments.now runs)) }
+{
+    let mut runs = Runs::none(alloc);
+    for segment in segments {
+        if !runs.take_next(alloc, segment)? {
+            return Ok(None);
+        }
+    }
+    Ok(Some(runs))
+}
+
+/// How many groups came, with one that is no new one or the next.
+fn seen_with(seen: usize, number: usize) -> usize
+    requires { number < 18446744073709551615 }
+    ensures { result ≡ (if number == seen then seen + 1 else seen) }
+{
+    if number == seen { seen + 1 } else { seen }
+}
+
+/// Whether so many groups come in the order of their numbers, where rows stand at places.
+fn come_in_order(numbers: &[usize], count: usize, places: &[RowPlace]) -> bool
+    requires { AllByRecursion (λ p. p.segment < length numbers.now) places.now }
+    ensures { result ≡ true → count_in_order 0 (map (place_group numbers.now) places.now) ≡ Some count }
+{
+    let mut seen = 0;
+    for place in places {
+        let number = numbers[place.segment as usize];
+        if number >= count || number > seen {
+            return false;
+        }
+        seen = seen_with(seen, number);
+    }
+    seen == count
+}
+
+/// The segments are those of the set of their rows, which stand at places in the order of their keys. Where they are, it
+/// most often tells so.
+pub(crate) fn are_set_segments(
+    alloc: Global,
+    segments: &[Segment],
+    places: &[RowPlace],
+) -> Result<bool, AllocError>
+    requires sound { AllByRecursion IsSegment segments.now }
+    requires placed { AllByRecursion (IsRowPlace segments.now) places.now }
+    requires whole { IsPermutation (places_from 0 segments.now) places.now }
+    requires rising { IsStrictlySortedBy key_cmp (map (λ p. p.key) places.now) }
+    ensures { IfOk result (λ are. are ≡ true → set_of (map (placed_row segments.now) places.now) ≡ segments.now) }
+{
+    match runs_of(alloc, segments)? {
+        None => Ok(false),
+        Some(runs) => Ok(come_in_order(&runs.numbers, runs.count, places)),
+    }
+}
