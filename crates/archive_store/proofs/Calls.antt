@@ -14,7 +14,7 @@ use Rattle.history_items.specs.Fills.{pending_fault_of}
 use Rattle.history_items.specs.Outcomes.{fresh_of}
 use Rattle.archive_store.specs.Limits.{IsLimit, IsBelowLimits}
 use Rattle.disk_journal.specs.Calls.{IsJournalCreateFailed, CountsNeverFall}
-use Rattle.archive_store.specs.Calls.{IsFailure, IsIngestRefusal, IsRowsRefusal, IsStoreReopened, IsStoreReopenRefusal, IsStoreOpenRefusal, IsStoreCreateRefusal, IsDecidedByImage}
+use Rattle.archive_store.specs.Calls.{IsOutsideRefusal, IsIngestRefusal, IsRowsRefusal, IsStoreReopened, IsStoreReopenRefusal, IsStoreOpenRefusal, IsStoreCreateRefusal, IsDecidedByImage}
 use Rattle.archive_store.specs.Stands.{StandsFor}
 use Rattle.archive_store.specs.StoreView.{StoreView, AddsFault, archive_of}
 use Rattle.archive_store.proofs.Exact.{stands_once, stands_not_damaged, damaged_once, none_not_damaged, none_not_stands}
@@ -200,10 +200,10 @@ module _ {D : Type 0} (device : Device D) where
   -- the disk decides
   pub decided_refused : (before after : D) (e : Refusal) → IsTrue device.is_transparent → IsStoreOpenRefusal device before after e → IsDecidedByImage (device.reads before) (Err (after, e))
   decided_refused before after e transparent is = let reads = device.reads before in record {
-    none = λ none. open_cases before after (λ r. (r ≡ NoArchive) ⊎ IsFailure r) e is (λ r. inl refl) (λ file at r. absurd (none_not_damaged reads at none (r.damaged transparent).1)) (λ r. inr (inl refl)) (λ r. inr (inr refl));
-    damaged = λ at there. open_cases before after (λ r. (r ≡ Damaged 0 at) ⊎ IsFailure r) e is (λ r. absurd (none_not_damaged reads at (r.none transparent) there))
+    none = λ none. open_cases before after (λ r. (r ≡ NoArchive) ⊎ IsOutsideRefusal r) e is (λ r. inl refl) (λ file at r. absurd (none_not_damaged reads at none (r.damaged transparent).1)) (λ r. inr (inl refl)) (λ r. inr (inr refl));
+    damaged = λ at there. open_cases before after (λ r. (r ≡ Damaged 0 at) ⊎ IsOutsideRefusal r) e is (λ r. absurd (none_not_damaged reads at (r.none transparent) there))
         (λ file other r. inl (ap (λ (f : ℕ). Damaged f other) (r.damaged transparent).0 ∙ ap (λ (n : ℕ). Damaged 0 n) (damaged_once reads other at (r.damaged transparent).1 there))) (λ r. inr (inl refl)) (λ r. inr (inr refl));
-    stands = λ x there. open_cases before after IsFailure e is (λ r. absurd (none_not_stands reads x (r.none transparent) there)) (λ file other r. absurd (stands_not_damaged reads x other there (r.damaged transparent).1))
+    stands = λ x there. open_cases before after IsOutsideRefusal e is (λ r. absurd (none_not_stands reads x (r.none transparent) there)) (λ file other r. absurd (stands_not_damaged reads x other there (r.damaged transparent).1))
         (λ r. inl refl) (λ r. inr refl);
   }
 

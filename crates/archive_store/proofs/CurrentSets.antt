@@ -80,7 +80,15 @@ last_row exponent history i some = go (last_in exponent i history) some (last_is
     go None no_row last = absurd (true≢false (sym no_row))
     go (Some l) row last = last.0
 
--- and so a moment of the clock
+-- and where it has one, it has a last one
+pub has_last : (exponent : ℕ) (history : List Item) (i : Interval) → HasRow exponent i history → IsSome (last_in exponent i history)
+has_last exponent history i row = go (last_in exponent i history) (last_is_greatest exponent i history)
+  where
+    go : (o : Option ℕ) → IsLastIn exponent i history o → IsSome o
+    go None never = absurd (never row)
+    go (Some l) last = refl
+
+-- it has a moment of the clock
 pub last_in_clock : (head : Head) (exponent : ℕ) (history : List Item) (i : Interval) → AllByRecursion (IsArchivedRow head history) (rows_in history) → IsSome (last_in exponent i history) → HasClockTime exponent i
 last_in_clock head exponent history i all some =
     let row = last_row exponent history i some in

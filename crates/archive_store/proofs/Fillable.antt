@@ -6,12 +6,15 @@ use Rattle.std.proofs.lemmas.Option.{slice_get_within}
 use Rattle.intervals.specs.declared.interval.Interval.{Interval}
 use Rattle.history_items.specs.declared.fills.Fill.{Fill}
 use Rattle.history_items.specs.declared.fills.Fill.TheVariants.{Done}
-use Rattle.history_items.specs.Fills.{base_after, base_in, is_same}
+use Rattle.history_items.specs.Fills.{base_after, base_in, in_flight, is_same}
 use Rattle.history_items.specs.declared.items.Item.{Item}
 use Rattle.history_items.specs.Items.{databases_in, prefix, row_item}
 use Rattle.history_items.specs.Late.{IsLastIn, last_in}
 use Rattle.history_items.proofs.FillLists.{base_after_item}
 use Rattle.history_items.proofs.Late.{last_is_greatest}
+use Rattle.fill_tracker.specs.FillTracker.{AreMarksOf, mark_by}
+use Rattle.late_marks.specs.declared.mark.Mark.{Mark}
+use Rattle.late_marks.specs.Marks.{Marks, has_rows}
 use Rattle.interval_fills.specs.Steps.{IsStoredBase}
 use Rattle.interval_fills.proofs.Steps.{same_interval}
 use Rattle.param_segments.specs.Extracted.{IsSetOf}
@@ -47,6 +50,16 @@ module _ (exponent : ℕ) (items : List Item) (interval : Interval) (base : ℕ)
       go : (o : Option ℕ) → IsLastIn exponent interval items o → is_some o ≡ true
       go None never = absurd (never (record { position = based.row.position; stands = based.row.stands }))
       go (Some l) row = refl
+
+marked : (last base : Option ℕ) (taken : Bool) → is_some last ≡ true → is_some (mark_by last base taken) ≡ true
+marked None base taken none = absurd (true≢false (sym none))
+marked (Some position) base taken some = refl
+
+-- the marks have an interval with a row
+pub marked_has : (exponent : ℕ) (items : List Item) (fills : List Fill) (marks : Marks) (interval : Interval) (base : ℕ) → AreMarksOf exponent items fills marks → IsStoredBase exponent interval base items → has_rows marks interval ≡ true
+marked_has exponent items fills marks interval base are based =
+    let last = last_in exponent interval items in
+    ap (λ (mark : Option Mark). is_some mark) (are.each interval) ∙ marked last (base_in interval fills) (is_some (in_flight interval fills)) (stored_has exponent items interval base last refl based)
 
 -- ---- one fill more
 

@@ -1,5 +1,5 @@
 -- Which refusals are which.
-use Rattle.std.proofs.Common.{◌≡◌, ◌∙◌, inl, inr, ℕ, refl, subst, arith}
+use Rattle.std.proofs.Common.{◌≡◌, ◌∙◌, inl, inr, ℕ, List, [], Option, None, refl, sym, subst, arith}
 use Rattle.std.specs.Prelude.{true, false, IsTrue, Result, Ok, Err, IfErr, OnErr}
 use Rattle.arch_disk.specs.Disk.{Device, NoFault}
 use Rattle.arch_disk.specs.Image.{Image}
@@ -7,13 +7,14 @@ use Rattle.refusals.specs.declared.refusal.Refusal.{Refusal}
 use Rattle.refusals.specs.declared.refusal.Refusal.TheVariants as refused
 use Rattle.disk_journal.specs.Calls.{IsBeginRefusal, IsJournalCreateRefusal, IsNextRefusal, content_read, read_so_far}
 use Rattle.disk_journal.specs.Faults.{IsToldBy}
-use Rattle.disk_journal.specs.Reading.{IsCutShortAt, gate_of}
+use Rattle.disk_journal.specs.Reading.{IsCutShortAt, file_read, gate_of}
 use Rattle.disk_journal.specs.declared.opening.Opening.{Opening}
 use Rattle.disk_journal.specs.declared.fault.JournalFault.{JournalFault}
 use Rattle.disk_journal.specs.declared.fault.JournalFault.TheVariants.{Exists, NoArchive, Damaged, NeedsReopen, Limit, DiskFault, OutOfMemory}
-use Rattle.archive_store.specs.Stands.{IsArchiveDamagedAt}
+use Rattle.archive_store.specs.declared.reading.PartialArchive.{PartialArchive}
+use Rattle.archive_store.specs.Stands.{IsArchiveDamagedAt, IsFileDamagedAt}
 use Rattle.archive_store.specs.Calls.{IsStoreCreateRefusal, IsStoreOpenRefusal}
-use Rattle.archive_store.specs.PartialArchive.{read_refusal, refusal_of_create, IsArchiveReadRefusal}
+use Rattle.archive_store.specs.PartialArchive.{archive_made, read_refusal, refusal_of_create, IsArchiveReadRefusal}
 
 -- what holds of the only refusal that there is
 pub only_refusal : {T E : Type 0} (r : Result T E) (cause : Type 0) (e : E) (P : E → Type 0) → OnErr r (cause × (r ≡ Err e)) → (cause → P e) → IfErr r P
@@ -22,32 +23,38 @@ only_refusal (Err f) cause e P refused holds = let same : e ≡ f = cc (refused.
 
 module _ {D : Type 0} (device : Device D) where
   -- why the next record was not read is why no archive was,
-  pub next_refused : (opening : Opening) (old before after : D) (fault : JournalFault) → IsNextRefusal device opening before after fault → IsToldBy device before after fault → NoFault device old before
-      → (IsTrue device.is_transparent → (at : ℕ) → (at ≡ gate_of opening) × IsCutShortAt (content_read device opening before) (read_so_far device opening before) → IsArchiveDamagedAt (device.reads old) at)
-      → IsArchiveReadRefusal device old after (read_refusal fault)
-  next_refused opening old before after Exists refusal told none cut = absurd refusal
-  next_refused opening old before after NoArchive refusal told none cut = absurd refusal
-  next_refused opening old before after (Damaged at) refusal told none cut = (λ transparent. (refl, cut transparent at (refusal transparent)), told ∙ none)
-  next_refused opening old before after (NeedsReopen faults) refusal told none cut = absurd refusal
-  next_refused opening old before after Limit refusal told none cut = absurd refusal
-  next_refused opening old before after (DiskFault true) refusal told none cut = absurd refusal
-  next_refused opening old before after (DiskFault false) refusal told none cut = omega (arith, refusal, none)
-  next_refused opening old before after OutOfMemory refusal told none cut = told ∙ none
+  pub next_refused : (first opening : Opening) (base : Option PartialArchive) (old before after : D) (fault : JournalFault) → IsNextRefusal device opening before after fault → IsToldBy device before after fault → NoFault device old before
+      → (IsTrue device.is_transparent → (at : ℕ) → (at ≡ gate_of opening) × IsCutShortAt (content_read device opening before) (read_so_far device opening before) → IsFileDamagedAt (device.reads old) (file_read first) (read_so_far device first old) (archive_made base) at)
+      → IsArchiveReadRefusal device old after first base (read_refusal (file_read first) fault)
+  next_refused first opening base old before after Exists refusal told none cut = absurd refusal
+  next_refused first opening base old before after NoArchive refusal told none cut = absurd refusal
+  next_refused first opening base old before after (Damaged at) refusal told none cut = (λ transparent. (refl, cut transparent at (refusal transparent)), told ∙ none)
+  next_refused first opening base old before after (NeedsReopen faults) refusal told none cut = absurd refusal
+  next_refused first opening base old before after Limit refusal told none cut = absurd refusal
+  next_refused first opening base old before after (DiskFault true) refusal told none cut = absurd refusal
+  next_refused first opening base old before after (DiskFault false) refusal told none cut = omega (arith, refusal, none)
+  next_refused first opening base old before after OutOfMemory refusal told none cut = told ∙ none
 
   -- why no archive was read is why none was opened,
-  pub read_refused : (old before after : D) (e : Refusal) → IsArchiveReadRefusal device before after e → device.reads before ≡ device.reads old → NoFault device old before → device.failed_writes after ≡ device.failed_writes old
-      → IsStoreOpenRefusal device old after e
-  read_refused old before after (refused.Damaged file at) refusal reads none writes = record {
-    damaged = λ transparent. subst (λ (x : Image). (file ≡ 0) × IsArchiveDamagedAt x at) reads (refusal.0 transparent);
+  pub read_refused : (opening : Opening) (old before after : D) (e : Refusal) → IsArchiveReadRefusal device before after opening None e → file_read opening ≡ 0 → (IsTrue device.is_transparent → read_so_far device opening before ≡ [])
+      → device.reads before ≡ device.reads old → NoFault device old before → device.failed_writes after ≡ device.failed_writes old → IsStoreOpenRefusal device old after e
+  read_refused opening old before after (refused.Damaged file at) refusal is_zero none_read reads none writes = record {
+    damaged = λ transparent.
+        let zero : file ≡ 0 = (refusal.0 transparent).0 ∙ is_zero in (
+          zero,
+          subst (λ (x : Image). IsArchiveDamagedAt x at) reads
+              (subst (λ (n : ℕ). IsFileDamagedAt (device.reads before) n [] None at) zero
+              (subst (λ (first : List (List ℕ)). IsFileDamagedAt (device.reads before) file first None at) (none_read transparent) (refusal.0 transparent).1)),
+        );
     no_failed_write = writes;
     no_fault = refusal.1 ∙ none;
   }
-  read_refused old before after refused.DiskFault refusal reads none writes = record { rose = omega (arith, refusal, none); wrote_most = inl writes }
-  read_refused old before after refused.OutOfMemory refusal reads none writes = (writes, refusal ∙ none)
-  read_refused old before after _ refusal reads none writes = absurd refusal
+  read_refused opening old before after refused.DiskFault refusal is_zero none_read reads none writes = record { rose = omega (arith, refusal, none); wrote_most = inl writes }
+  read_refused opening old before after refused.OutOfMemory refusal is_zero none_read reads none writes = (writes, refusal ∙ none)
+  read_refused opening old before after _ refusal is_zero none_read reads none writes = absurd refusal
 
   -- and so is why no reading began
-  pub begin_refused : (before after : D) (fault : JournalFault) → IsBeginRefusal device 0 before after fault → IsToldBy device before after fault → IsStoreOpenRefusal device before after (read_refusal fault)
+  pub begin_refused : (before after : D) (fault : JournalFault) → IsBeginRefusal device 0 before after fault → IsToldBy device before after fault → IsStoreOpenRefusal device before after (read_refusal 0 fault)
   begin_refused before after Exists refusal told = absurd refusal
   begin_refused before after NoArchive refusal told = record { none = refusal.0; no_failed_write = refusal.1; no_fault = told }
   begin_refused before after (Damaged at) refusal told = absurd refusal

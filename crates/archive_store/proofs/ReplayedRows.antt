@@ -19,7 +19,7 @@ use Rattle.replay_merge.specs.Replay.{rows_asked, HoldsEachRow}
 use Rattle.replay_merge.specs.RowSource.{AreRowSourceHistories, IsKeyedRow, IsRowSourceHistory}
 use Rattle.replay_merge.proofs.Bounds.{own_partition, pruned_is_enough}
 use Rattle.replay_merge.proofs.Opening.{rest_at_front}
-use Rattle.replay_merge.proofs.Pieces.{all_first}
+use Rattle.replay_merge.proofs.Pieces.{all_among, all_first}
 use Rattle.replay_merge.proofs.Sources.{each_tested}
 use Rattle.replay_merge.proofs.Tied.{first_rows}
 use Rattle.history_items.specs.declared.items.Item.{Item}
@@ -37,6 +37,12 @@ first_of_rows front history =
     let first = take front history in
     let rest = drop front history in
     ap (take (length (rows_in first))) (ap rows_in (sym (take-append-drop front history)) ∙ rows_in-append first rest) ∙ take-append_seam (rows_in first) (rows_in rest)
+
+-- they are its rows
+pub below_are_its : (front : ℕ) (history : List Item) → AllByRecursion (Contains (rows_in history)) (rows_below history front)
+below_are_its front history =
+    let rows = rows_in history in
+    subst (AllByRecursion (Contains rows)) (first_of_rows front history) (all_first (Contains rows) (length (rows_below history front)) rows (all_among rows))
 
 -- at the end of a history they are its own, also once more came behind it
 pub below_its_end : (history later : List Item) (front : ℕ) → front ≡ length history → IsPrefix history later → rows_below later front ≡ rows_in history

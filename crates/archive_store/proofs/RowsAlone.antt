@@ -1,12 +1,12 @@
 -- Histories of rows alone, as all are until something adds a database; and packet names as a history grows.
 use Rattle.std.proofs.Common.{◌≡◌, ℕ, zero, suc, ◌<◌, List, [], ◌∷◌, ◌++◌, length, refl, ◌∙◌, ap, arith, length-append}
-use Rattle.std.specs.Prelude.{Some, fold, slice_get, take}
+use Rattle.std.specs.Prelude.{Some, fold, slice_get}
 use Rattle.std.proofs.lemmas.List.{append-nil, length-map}
 use Rattle.arch_types.specs.declared.row.Row.{Row}
 use Rattle.mdb_items.specs.Database.{Database}
 use Rattle.history_items.specs.declared.items.Item.{Item}
 use Rattle.history_items.specs.declared.items.Item.TheVariants as items
-use Rattle.history_items.specs.Items.{database_item, databases_in, items_of, prefix, rows_in}
+use Rattle.history_items.specs.Items.{database_item, databases_in, items_of, prefix}
 use Rattle.history_items.specs.Late.{StandsDatabase}
 use Rattle.history_items.specs.Databases.{database_in, names_in, names_of_database, with_names_of}
 use Rattle.history_items.proofs.Databases.{names_go_on}
@@ -26,13 +26,6 @@ below_alone zero history alone = refl
 below_alone (suc front) [] alone = refl
 below_alone (suc front) (items.Row row ∷ history) alone = below_alone front history alone
 below_alone (suc front) (items.Mdb database ∷ history) alone = absurd (not_alone database history alone)
-
--- the rows below a front are as many of the rows
-pub cut_alone : (front : ℕ) (history : List Item) → databases_in history ≡ [] → take front (rows_in history) ≡ rows_in (prefix front history)
-cut_alone zero history alone = refl
-cut_alone (suc front) [] alone = refl
-cut_alone (suc front) (items.Row row ∷ history) alone = ap (λ (rows : List Row). row ∷ rows) (cut_alone front history alone)
-cut_alone (suc front) (items.Mdb database ∷ history) alone = absurd (not_alone database history alone)
 
 -- the database in force is the head's
 pub in_force : (first : Database) (history : List Item) → databases_in history ≡ [] → database_in first history ≡ first

@@ -58,10 +58,10 @@ inner_send = search (crosses, parameter_send, calibration_send, container_send, 
 inner_sync : IsSync Inner.the_row
 inner_sync = search (crosses, parameter_sync, calibration_sync, container_sync, numbered_sync, sendable) depth 60
 
-mdb_send : IsSend Mdb.the_row
+pub mdb_send : IsSend Mdb.the_row
 mdb_send = search (crosses, inner_send, inner_sync, sendable) depth 60
 
-mdb_sync : IsSync Mdb.the_row
+pub mdb_sync : IsSync Mdb.the_row
 mdb_sync = search (crosses, inner_send, inner_sync, sendable) depth 60
 
 -- ---- the history
@@ -78,10 +78,10 @@ tracker_send : IsSend FillTracker.the_row
 tracker_send = search (crosses, fill_send, marks_send, sendable) depth 60
 
 -- ---- the fills
-set_send : IsSend SegSet.the_row
+pub set_send : IsSend SegSet.the_row
 set_send = search (crosses, sendable) depth 60
 
-set_sync : IsSync SegSet.the_row
+pub set_sync : IsSync SegSet.the_row
 set_sync = search (crosses, sendable) depth 60
 
 last_send : IsSend OneFill.the_row

@@ -25,8 +25,8 @@ arrival_rows arrival = map (in_table arrival.row) arrival.tables
 abbrev pub batch_rows : Batch → List Row
 batch_rows batch = flat_map arrival_rows batch.arrivals
 
--- the row of a packet that isn't idle, received then by a link from 1 to the limit of links, with a packet name that the
--- history has and tables that the head has, not too many
+-- the row of a packet that isn't idle, received then by a link from 1 to the limit of links, with a packet name that
+-- the history has and tables that the head has, not too many
 pub record IsArrival (head : Head) (history : List Item) (rectime : ℤ) (arrival : Arrival) : Type 0 where
   pub link_low : 1 ≤ arrival.row.link
   pub link_high : arrival.row.link ≤ limit_of Links

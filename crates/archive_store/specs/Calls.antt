@@ -39,8 +39,8 @@ abbrev pub CrashLeavesEither : {D : Type 0} → Device D → D → D → FilledA
 CrashLeavesEither device before after old new =
     IsTrue device.is_transparent → LeavesOnly device before after (λ c. StandsFilled c old ⊎ StandsFilled c new)
 
--- Where the disk is transparent, power lost at any moment of a call leaves the store's archive with its fills, or what a
--- failed write may have made of it.
+-- Where the disk is transparent, power lost at any moment of a call leaves the store's archive with its fills, or what
+-- a failed write may have made of it.
 abbrev pub CrashLeavesNow : {D : Type 0} → Device D → StoreView D → D → Type 0
 CrashLeavesNow device store after =
     IsTrue device.is_transparent →
@@ -149,7 +149,8 @@ opened_disk_of (Ok store) = store.opened
 opened_disk_of (Err refused) = refused.0
 
 -- The store is what the disk stands for, of as many records as file 0 has, of the exponent of format 1, without a fault
--- or a flight, and with each fill that was read, in their order; and power lost at any moment from the opening's syncs on leaves that, with its fills.
+-- or a flight, and with each fill that was read, in their order; and power lost at any moment from the opening's syncs
+-- on leaves that, with its fills.
 pub record IsStoreOpened {D : Type 0} (device : Device D) (disk : D) (store : StoreView D) : Type 0 where
   pub stands : IsTrue device.is_transparent → StandsFor (device.reads disk) (archive_of store)
   pub records : IsTrue device.is_transparent →
@@ -186,15 +187,15 @@ IsStoreOpenRefusal device before after OutOfMemory = NoWriteFailed device before
 IsStoreOpenRefusal device before after _ = ⊥
 
 -- a refusal that may come whatever the disk holds
-abbrev pub IsFailure : Refusal → Type 0
-IsFailure refusal = (refusal ≡ DiskFault) ⊎ (refusal ≡ OutOfMemory)
+abbrev pub IsOutsideRefusal : Refusal → Type 0
+IsOutsideRefusal refusal = (refusal ≡ DiskFault) ⊎ (refusal ≡ OutOfMemory)
 
 -- What the disk reads as decides the answer of an opening, but for a fault of the disk and want of memory.
 pub record IsDecidedByImage {D : Type 0} (image : Image) (result : Result (StoreView D) (D × Refusal)) : Type 0 where
-  pub none : HoldsNone (image 0) → IsErrAnd result (λ e. (e.1 ≡ NoArchive) ⊎ IsFailure e.1)
-  pub damaged : (at : ℕ) → IsArchiveDamagedAt image at → IsErrAnd result (λ e. (e.1 ≡ Damaged 0 at) ⊎ IsFailure e.1)
+  pub none : HoldsNone (image 0) → IsErrAnd result (λ e. (e.1 ≡ NoArchive) ⊎ IsOutsideRefusal e.1)
+  pub damaged : (at : ℕ) → IsArchiveDamagedAt image at → IsErrAnd result (λ e. (e.1 ≡ Damaged 0 at) ⊎ IsOutsideRefusal e.1)
   pub stands : (archive : Archive) → StandsFor image archive →
-      MatchResult result (λ s. archive_of s ≡ archive) (λ e. IsFailure e.1)
+      MatchResult result (λ s. archive_of s ≡ archive) (λ e. IsOutsideRefusal e.1)
 
 -- the disk held no archive, and holds one of this head and of format 1 without rows
 pub record IsStoreCreated {D : Type 0} (device : Device D) (disk : D) (head : Head) (store : StoreView D) : Type 0 where

@@ -37,8 +37,8 @@ IsFoundAt rows at (Some i) =
     (there : Row) × (slice_get rows i ≡ Some there) × (is_at_key at.table at.key (row_item there) ≡ true)
 IsFoundAt rows at None = list_any (is_at_key at.table at.key) (items_of rows) ≡ false
 
--- what became of rows that came to a history, and those of them that are new, with the last of their keys; their packets
--- are octets
+-- what became of rows that came to a history, and those of them that are new, with the last of their keys; their
+-- packets are octets
 pub record IsClassified (history : List Item) (rows : List Row) (classified : ClassifiedBatch) : Type 0 where
   pub outcomes : classified.outcomes ≡ outcomes_of history rows
   pub fresh : classified.fresh ≡ fresh_of history rows

@@ -8,8 +8,8 @@ use Rattle.param_segments.specs.Rows.{SetRow}
 use Rattle.store_fills.specs.LastFills.{fill_over, fillings_in}
 use Rattle.archive_store.specs.StoreView.{StoreView}
 
--- a set stands for an interval: the interval isn't late, and the set is that of its last fill, of the interval and of the
--- database in force
+-- a set stands for an interval: the interval isn't late, and the set is that of its last fill, of the interval and of
+-- the database in force
 pub record IsCurrentSet {D : Type 0} (store : StoreView D) (interval : Interval) (set : List SetRow) : Type 0 where
   pub current : IsLate store.exponent interval store.history store.fills → ⊥
   pub base : ℕ

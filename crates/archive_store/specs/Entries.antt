@@ -67,8 +67,8 @@ HasArchivedRows None = Unit {0}
 HasArchivedRows (Some filled) =
     AllByRecursion (IsArchivedRow filled.plain.head filled.plain.history) (rows_in filled.plain.history)
 
--- Rows that a record may add: they have a spelling, in octets, their tables and names are there, no table has one of the
--- keys, and the rows pass no limit.
+-- Rows that a record may add: they have a spelling, in octets, their tables and names are there, no table has one of
+-- the keys, and the rows pass no limit.
 pub record AreAdmitted (old : Archive) (rows : List Row) : Type 0 where
   pub spelled : IsArchiveEntry (entries.Rows rows)
   pub placed : AllByRecursion (IsPlaced old.head old.history) rows

@@ -40,7 +40,8 @@ view_of disk opened journal head exponent history fills filled = record {
 }
 
 -- what a crash leaves and what the log holds, by the archive of the opening, and how journal, head and faults go
--- together; a journal that wants a heal does so for the first failed write that is pending. Nothing adds a database yet.
+-- together; a journal that wants a heal does so for the first failed write that is pending. Nothing adds a database
+-- yet.
 pub record StoreInvariant {D : Type 0} (device : Device D) (disk opened : D) (journal : Journal) (head : Head)
     (exponent : ℕ) (history : List Item) (fills : List Fill)
     (filled : PlacedFills) (pending_fault : Option ℕ) : Type 0 where

@@ -1,5 +1,5 @@
 -- What the type of a store keeps.
-use Rattle.std.specs.Prelude.{◌≡◌, ◌≤◌, ◌^◌, length, IsTrue, None}
+use Rattle.std.specs.Prelude.{◌≡◌, ◌<◌, ◌^◌, length, IsTrue, None}
 use Rattle.std.specs.List.{AllByRecursion}
 use Rattle.arch_disk.specs.Disk.{Device}
 use Rattle.arch_types.specs.History.{IsHistory}
@@ -20,7 +20,7 @@ use Rattle.archive_store.specs.StoreView.{CrashInvariant, FaultInvariant, IsKept
 pub record IsKept {D : Type 0} (device : Device D) (store : StoreView D) : Type 0 where
   -- a record can hold the head, and numbers of packet names have 16 bits
   pub head : IsArchiveEntry (entries.Head store.head.tables store.head.mdb)
-  pub few_names : length (names_in store.head.mdb store.history) ≤ 2 ^ 16
+  pub few_names : length (names_in store.head.mdb store.history) < 2 ^ 16
   -- the rows are a history within the limits, and each is one that the archive may have
   pub history : IsHistory (rows_in store.history) × IsWithin store.exponent (rows_in store.history)
   pub rows : AllByRecursion (IsArchivedRow store.head store.history) (rows_in store.history)

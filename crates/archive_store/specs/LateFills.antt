@@ -13,7 +13,8 @@ use Rattle.archive_store.specs.Entries.{FilledArchive}
 -- whether an interval is late by the base of its last fill
 abbrev pub is_late_by_fill : ℕ → List Item → Fillings (List SetRow) → Interval → Bool
 is_late_by_fill exponent history fillings interval =
-    option_map_or (λ last. is_late_by last (base_of_filling fillings interval)) (last_in exponent interval history) false
+    option_map_or (λ last. is_late_by last (base_of_filling fillings interval)) (last_in exponent interval history)
+    false
 
 -- whether an interval of an archive is
 abbrev pub is_late_in_archive : FilledArchive → Interval → Bool

@@ -46,8 +46,8 @@ ArchivesAreWhole =
 
 -- they make one archive at most
 abbrev pub FilesAreOne : Type 0
-FilesAreOne = (image : Image) (file : ℕ) (beginning : List (List ℕ)) (base : Option FilledArchive) (a b : FilledArchive) →
-    StandsInFile image file beginning base a → StandsInFile image file beginning base b → a ≡ b
+FilesAreOne = (image : Image) (file : ℕ) (beginning : List (List ℕ)) (base : Option FilledArchive)
+    (a b : FilledArchive) → StandsInFile image file beginning base a → StandsInFile image file beginning base b → a ≡ b
 
 -- they are damaged at one gate at most
 abbrev pub FileDamageIsOne : Type 0
@@ -56,12 +56,14 @@ FileDamageIsOne = (image : Image) (file : ℕ) (beginning : List (List ℕ)) (ba
 
 -- where they make an archive they are not damaged
 abbrev pub FilesAreWhole : Type 0
-FilesAreWhole = (image : Image) (file : ℕ) (beginning : List (List ℕ)) (base : Option FilledArchive) (filled : FilledArchive)
-    (at : ℕ) → StandsInFile image file beginning base filled → IsFileDamagedAt image file beginning base at → ⊥
+FilesAreWhole = (image : Image) (file : ℕ) (beginning : List (List ℕ)) (base : Option FilledArchive)
+    (filled : FilledArchive) (at : ℕ) → StandsInFile image file beginning base filled →
+    IsFileDamagedAt image file beginning base at → ⊥
 
 -- an image stands for the archive that file 0 makes, whose entries stand at its beginning and go on from nothing
 abbrev pub FileZeroIsAll : Type 0
-FileZeroIsAll = (image : Image) (filled : FilledArchive) → StandsFilled image filled ↔ StandsInFile image 0 [] None filled
+FileZeroIsAll =
+    (image : Image) (filled : FilledArchive) → StandsFilled image filled ↔ StandsInFile image 0 [] None filled
 
 -- ---- images without an archive
 

@@ -7,9 +7,12 @@ use Rattle.history_items.specs.declared.fills.Fill.{Fill}
 use Rattle.history_items.specs.Items.{databases_in}
 use Rattle.refusals.specs.declared.refusal.Refusal.{Refusal}
 use Rattle.refusals.specs.declared.refusal.Refusal.TheVariants as refused
+use Rattle.disk_journal.specs.Calls.{content_read, read_so_far}
 use Rattle.disk_journal.specs.Format.{HasRecords, written}
+use Rattle.disk_journal.specs.Reading.{file_read}
 use Rattle.disk_journal.specs.State.{extents_from, file_of, unhealed_fault}
 use Rattle.disk_journal.specs.declared.journal.Journal.{Journal}
+use Rattle.disk_journal.specs.declared.opening.Opening.{Opening}
 use Rattle.disk_journal.specs.declared.fault.JournalFault.{JournalFault}
 use Rattle.disk_journal.specs.declared.fault.JournalFault.TheVariants as faults
 use Rattle.field_codec.specs.declared.entry.Entry.{Entry}
@@ -28,7 +31,7 @@ use Rattle.archive_store.specs.declared.reading.PartialArchive.{PartialArchive}
 use Rattle.archive_store.specs.declared.reading.ReadArchive.{ReadArchive}
 use Rattle.archive_store.specs.Entries.{Archive, FilledArchive, archive, filled_archive, HasArchivedRows, Replays, dones_of}
 use Rattle.archive_store.specs.Inside.{HoldsFills, IsHistoryOf}
-use Rattle.archive_store.specs.Stands.{IsArchiveDamagedAt}
+use Rattle.archive_store.specs.Stands.{IsFileDamagedAt}
 
 -- the archive of what entries have made, without its fills
 abbrev pub plain_made : PartialArchive → Archive
@@ -63,6 +66,11 @@ HasMarks (Some made) =
     × HoldsFills made.head made.history.exponent made.history.items made.tracker.fills made.sets.filled
     × (databases_in made.history.items ≡ [])
 
+-- what entries may go on from: its history is one of its head, its marks and fills are those of the history, and its
+-- rows are such as a store gives
+abbrev pub IsBase : Option PartialArchive → Type 0
+IsBase base = IsReadHistory base × HasMarks base × HasArchivedRows (archive_made base)
+
 -- octets hold this set of an interval of this exponent and of a database, or they are the spelling of none
 abbrev pub IsSetRead : Database → ℕ → Interval → List ℕ → Option (List SetRow) → Type 0
 IsSetRead db exponent interval octets None =
@@ -84,15 +92,15 @@ pub record IsFileRead (content : List ℕ) (beginning : List (List ℕ)) (base :
 abbrev pub IsReadArchive : List ℕ → Journal → FilledArchive → Type 0
 IsReadArchive content journal found = IsFileRead content [] None journal found
 
--- the refusal for a fault of a journal that is read
-abbrev pub read_refusal : JournalFault → Refusal
-read_refusal faults.Exists = refused.DiskFault
-read_refusal faults.NoArchive = refused.NoArchive
-read_refusal (faults.Damaged at) = refused.Damaged 0 at
-read_refusal (faults.NeedsReopen faults) = refused.DiskFault
-read_refusal faults.Limit = refused.DiskFault
-read_refusal (faults.DiskFault wrote) = refused.DiskFault
-read_refusal faults.OutOfMemory = refused.OutOfMemory
+-- the refusal for a fault of the journal that is read in a file
+abbrev pub read_refusal : ℕ → JournalFault → Refusal
+read_refusal file faults.Exists = refused.DiskFault
+read_refusal file faults.NoArchive = refused.NoArchive
+read_refusal file (faults.Damaged at) = refused.Damaged file at
+read_refusal file (faults.NeedsReopen faults) = refused.DiskFault
+read_refusal file faults.Limit = refused.DiskFault
+read_refusal file (faults.DiskFault wrote) = refused.DiskFault
+read_refusal file faults.OutOfMemory = refused.OutOfMemory
 
 -- the refusal for a fault of a journal that is made
 abbrev pub refusal_of_create : JournalFault → Refusal
@@ -104,24 +112,30 @@ refusal_of_create faults.Limit = refused.DiskFault
 refusal_of_create (faults.DiskFault wrote) = refused.DiskFault
 refusal_of_create faults.OutOfMemory = refused.OutOfMemory
 
--- the journal of file 0 whole, and the archive that its entries make, with their fills in the fill list and all that the type of a store keeps of it
-pub record IsArchiveRead {D : Type 0} (device : Device D) (disk : D) (read : ReadArchive) : Type 0 where
+-- the journal of the file whole, and the archive that its entries make behind the records that were read before, from
+-- a base, with their fills behind the base's in the fill list and all that the type of a store keeps of it
+pub record IsArchiveRead {D : Type 0} (device : Device D) (disk : D) (opening : Opening) (base : Option PartialArchive)
+    (read : ReadArchive) : Type 0 where
   pub archive_is : IsTrue device.is_transparent →
-      IsReadArchive (device.reads disk 0) read.journal (filled_made read.made)
+      IsFileRead (content_read device opening disk) (read_so_far device opening disk) (archive_made base) read.journal
+      (filled_made read.made)
   pub dones : (transparent : IsTrue device.is_transparent) →
-      read.made.tracker.fills ≡ dones_of (archive_is transparent).entries
-  pub in_file : file_of read.journal ≡ 0
+      read.made.tracker.fills ≡ fills_made base ++ dones_of (archive_is transparent).entries
+  pub in_file : file_of read.journal ≡ file_read opening
   pub no_pending_fault : unhealed_fault read.journal ≡ None
   pub tables : IsReadHistory (Some read.made)
   pub marks : HasMarks (Some read.made)
   pub rows : HasArchivedRows (archive_made (Some read.made))
 
--- why no archive was read: an open record passes the file's end or breaks a rule, a read failed, or memory is wanting
-abbrev pub IsArchiveReadRefusal : {D : Type 0} → Device D → D → D → Refusal → Type 0
-IsArchiveReadRefusal device before after (refused.Damaged file at) =
-    (IsTrue device.is_transparent → (file ≡ 0) × IsArchiveDamagedAt (device.reads before) at)
+-- why no archive was read: an open record behind those that were read before passes the file's end or breaks a rule, a
+-- read failed, or memory is wanting
+abbrev pub IsArchiveReadRefusal
+    : {D : Type 0} → Device D → D → D → Opening → Option PartialArchive → Refusal → Type 0
+IsArchiveReadRefusal device before after opening base (refused.Damaged file at) =
+    (IsTrue device.is_transparent → (file ≡ file_read opening)
+    × IsFileDamagedAt (device.reads before) file (read_so_far device opening before) (archive_made base) at)
     × NoFault device before after
-IsArchiveReadRefusal device before after refused.DiskFault =
+IsArchiveReadRefusal device before after opening base refused.DiskFault =
     raised (device.fault_count before) ≤ device.fault_count after
-IsArchiveReadRefusal device before after refused.OutOfMemory = NoFault device before after
-IsArchiveReadRefusal device before after _ = ⊥
+IsArchiveReadRefusal device before after opening base refused.OutOfMemory = NoFault device before after
+IsArchiveReadRefusal device before after opening base _ = ⊥

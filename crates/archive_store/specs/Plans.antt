@@ -42,8 +42,9 @@ abbrev pub IsRangeInterval : ℕ → List Item → ℤ → ℤ → Interval → 
 IsRangeInterval exponent history low high interval =
     MeetsRange exponent low high interval × IsSome (last_in exponent interval history)
 
--- A part for each interval that has rows of `tm` and meets a range, the intervals rising, over the whole history, and the
--- database in force. Each row that is left to extract is one that a store gives, also over a disk that isn't transparent.
+-- A part for each interval that has rows of `tm` and meets a range, the intervals rising, over the whole history, and
+-- the database in force. Each row that is left to extract is one that a store gives, also over a disk that isn't
+-- transparent.
 pub record IsPlan {D : Type 0} (store : StoreView D) (low high : ℤ) (plan : Plan) : Type 0 where
   pub front : plan.front ≡ length store.history
   pub mdb : arc_value plan.mdb ≡ database_in store.head.mdb store.history

@@ -1,5 +1,5 @@
 -- What a store answers of replays and of the partitions of a table.
-use Rattle.std.specs.Prelude.{◌≡◌, ◌↔◌, ℕ, ◌<◌, List, [], length, Some, Contains}
+use Rattle.std.specs.Prelude.{◌≡◌, ◌↔◌, ℕ, ◌<◌, List, length, Some, Contains}
 use Rattle.std.specs.List.{AllByRecursion}
 use mathlib.Core.List.{IsPrefix}
 use Rattle.arch_disk.specs.Disk.{Device}
@@ -7,7 +7,7 @@ use Rattle.asks.specs.declared.ask.ReplayRequest.{ReplayRequest}
 use Rattle.asks.specs.Names.{table_number}
 use Rattle.arch_types.specs.declared.row.Row.{Row}
 use Rattle.history_items.specs.declared.items.Item.{Item}
-use Rattle.history_items.specs.Items.{databases_in, prefix, rows_in}
+use Rattle.history_items.specs.Items.{prefix, rows_in}
 use Rattle.history_items.specs.Databases.{names_in}
 use Rattle.partitions.specs.Rows.{partitions_of}
 use Rattle.archive_history.specs.History.{HistoryView, rows_in_table}
@@ -28,23 +28,23 @@ use Rattle.archive_store.specs.StoreView.{StoreView}
 abbrev pub rows_below : List Item → ℕ → List Row
 rows_below history front = rows_in (prefix front history)
 
--- its rows, which are in memory, are told whatever the disk tells, and its faults are the disk's
+-- its rows, which are in memory, are told whatever the disk tells, it gives no others, and its faults are the disk's
 abbrev pub source_state : {D : Type 0} → Device D → StoreView D → RowSourceState
-source_state device store = record { history = Some (rows_below store.history); faults = device.fault_count store.disk }
+source_state device store = record { history = Some (rows_below store.history); may_give = Contains (rows_in store.history); faults = device.fault_count store.disk }
 
--- the rows of a history in memory are told, and reading them makes no fault
+-- the rows of a history in memory are told, it gives no others, and reading them makes no fault
 abbrev pub memory_state : List Item → RowSourceState
-memory_state history = record { history = Some (rows_below history); faults = 0 }
+memory_state history = record { history = Some (rows_below history); may_give = Contains (rows_in history); faults = 0 }
 
--- a history in memory of rows alone, those that a store gives, with a table for each name of the head
+-- a history in memory whose rows are those that a store gives, with a table for each name of the head
 pub record IsStoredHistory (head : Head) (history : HistoryView) : Type 0 where
   pub tables : history.tables ≡ length head.tables
   pub rows : AllByRecursion (IsArchivedRow head history.items) (rows_in history.items)
-  pub alone : databases_in history.items ≡ []
 
 -- ---- replays
 
--- A cursor at the front of a history, before the replay of the request over it, also once more items came to the history.
+-- A cursor at the front of a history, before the replay of the request over it, also once more items came to the
+-- history.
 pub record IsReplayOpened (head : Head) (history : List Item) (request : ReplayRequest) (c : CursorView) : Type 0 where
   pub table : table_number head.tables request.table ≡ Some c.table
   pub front : c.front ≡ length history

@@ -32,7 +32,8 @@ pub record StandsInFile (image : Image) (file : ℕ) (beginning : List (List ℕ
 
 -- no entry with this body may follow
 abbrev pub Breaks : Option FilledArchive → List ℕ → Type 0
-Breaks before body = (entry : Entry) (after : FilledArchive) → body ≡ entry_octets entry → Applies before entry after → ⊥
+Breaks before body =
+    (entry : Entry) (after : FilledArchive) → body ≡ entry_octets entry → Applies before entry after → ⊥
 
 -- a whole record stands there, with the gate octet after it, and breaks a rule
 pub record IsWrong (before : Option FilledArchive) (rest : List ℕ) : Type 0 where

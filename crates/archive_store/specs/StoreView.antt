@@ -45,8 +45,8 @@ pub record IsSince (head : Head) (exponent : ℕ) (before history : List Item) (
   pub stands : StandsFor image (archive head exponent front)
       ⊎ ((more : List Item) × Contains in_faults more × StandsFor image (archive head exponent (front ++ more)))
 
--- What a crash now may leave: the archive with its fills, or, where a failed write is pending, what that may have made of
--- it by what its call would have added.
+-- What a crash now may leave: the archive with its fills, or, where a failed write is pending, what that may have made
+-- of it by what its call would have added.
 abbrev pub IsNow : FilledArchive → Option Addition → Image → Type 0
 IsNow filled pending image =
     StandsFilled image filled

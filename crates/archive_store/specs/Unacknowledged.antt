@@ -1,10 +1,9 @@
 -- What a write that failed may have made.
-use Rattle.std.specs.Prelude.{◌≡◌, ℕ, List, ◌++◌, Option, Some, None}
+use Rattle.std.specs.Prelude.{◌≡◌, ℕ, List, ◌++◌, Option, Some, None, MatchOption, IsSomeAnd}
 use Rattle.intervals.specs.declared.interval.Interval.{Interval}
 use Rattle.history_items.specs.declared.fills.Addition.{Addition}
-use Rattle.history_items.specs.declared.fills.Addition.TheVariants as additions
 use Rattle.history_items.specs.declared.items.Item.{Item}
-use Rattle.history_items.specs.Items.{items_of}
+use Rattle.history_items.specs.Noted.{Added, added_of}
 use Rattle.interval_fills.specs.Intervals.{NoneSince}
 use Rattle.param_segments.specs.Rows.{SetRow}
 use Rattle.store_fills.specs.Filled.{IsRightFill}
@@ -25,9 +24,13 @@ pub record IsFilledOnce (now : FilledArchive) (interval : Interval) (base : ℕ)
   pub after_is : after ≡ filled_archive now.plain.head now.plain.exponent now.plain.history
       (with_filling now.fillings interval (fill_over base set))
 
--- what a failed write may have made of an archive, by what its call would have added: that with the rows, or with the fill
+-- an archive with what an addition adds: with the items, or with the fill
+abbrev pub IsWith : FilledArchive → Added → FilledArchive → Type 0
+IsWith now added after =
+    MatchOption added.items (IsSomeAnd added.fill (λ fill. IsFilledOnce now fill.interval fill.base after))
+    (λ more. after ≡ with_rows now more)
+
+-- what a failed write may have made of an archive, by what its call would have added
 abbrev pub IsUnacknowledged : FilledArchive → Option Addition → FilledArchive → Type 0
 IsUnacknowledged now None after = ⊥
-IsUnacknowledged now (Some additions.Nothing) after = ⊥
-IsUnacknowledged now (Some (additions.Rows rows)) after = after ≡ with_rows now (items_of rows)
-IsUnacknowledged now (Some (additions.Fill interval base)) after = IsFilledOnce now interval base after
+IsUnacknowledged now (Some addition) after = IsWith now (added_of addition) after

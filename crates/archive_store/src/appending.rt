@@ -53,8 +53,8 @@ impl NewEntry for NewFill {
     }
 }
 
-/// Appends the record of an entry, and gives the entry back. Where a write fails that is noted, with what the entry would
-/// have added, and the disk's count of faults is the error.
+/// Appends the record of an entry, and gives the entry back. Where a write fails that is noted, with what the entry
+/// would have added, and the disk's count of faults is the error.
 pub(crate) fn append_entry<D: Disk, E: NewEntry>(
     disk: &mut D,
     journal: &mut Journal,

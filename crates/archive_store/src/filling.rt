@@ -89,7 +89,7 @@ impl<D: Disk> Store<D> {
         self.tracker.is_late(interval)
     }
 
-    /// Begins a fill of the least late interval that isn't in flight. A place for the flight's end is kept from here on.
+    /// Begins a fill of the least late interval that isn't in flight. A place for the flight's end is kept from here.
     pub fn begin(&mut self, alloc: Global) -> Result<Option<FillTask>, Refusal>
         // Ok: the task of that interval, over the whole history; none, where each late interval is in flight.
         ensures begun { IfOk result (IsFillBegun self.old self.new) }

@@ -13,7 +13,7 @@ use replay_merge::row_source::RowSource;
 use std::alloc::Global;
 use std::marker::Model;
 
-/// The rows of a history in memory. That it only borrows them tells that whoever reads them changes nothing of their store.
+/// The rows of a history in memory. It only borrows them, so that whoever reads them changes nothing of their store.
 #[derive(Drop)]
 pub struct HistorySource<'a> {
     head: &'a Head,
@@ -45,8 +45,7 @@ impl<'a> RowSource for HistorySource<'a> {
         partition: &Partition,
         front: u64,
     ) -> Result<Rows, RowFault> {
-        // It tells the proof that the rows are a history.
-        let _known = self.history.len();
+        self.history.is_kept();
         if table as usize >= self.head.tables.as_slice().len() {
             return Ok(Rows::new(alloc));
         }
@@ -63,8 +62,7 @@ impl<'a> RowSource for HistorySource<'a> {
         to: i64,
         front: u64,
     ) -> Result<Rows, RowFault> {
-        // It tells the proof that the rows are a history.
-        let _known = self.history.len();
+        self.history.is_kept();
         if table as usize >= self.head.tables.as_slice().len() {
             return Ok(Rows::new(alloc));
         }
@@ -76,8 +74,8 @@ impl<'a> RowSource for HistorySource<'a> {
 }
 
 impl<D: Disk> Store<D> {
-    /// The rows in memory, as a source: to read them changes nothing, makes no fault of the disk, and is refused for want of memory
-    /// alone.
+    /// The rows in memory, as a source: to read them changes nothing, makes no fault of the disk, and is refused for
+    /// want of memory alone.
     pub fn source(&self) -> HistorySource<'_>
         ensures { result ≡ self.now.history }
     {

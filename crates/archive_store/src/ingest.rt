@@ -154,7 +154,8 @@ impl<D: Disk> Store<D> {
         // comes before any call of the disk.
         ensures refused { IfErr result (IsIngestRefusal D.device self.old self.new (batch_rows batch.now)) }
 
-        // Power lost at any moment of the call leaves the archive from before it, or the one with the batch; the fills stay.
+        // Power lost at any moment of the call leaves the archive from before it, or the one with the batch, and the
+        // fills stay.
         ensures crash { pending_fault_of self.old.fills ≡ None →
             CrashLeavesEither D.device self.old.disk self.new.disk (filled_of self.old)
             (archive_with self.old (batch_rows batch.now)) }
@@ -167,9 +168,7 @@ impl<D: Disk> Store<D> {
             Some(faults) => return Err(Refusal::NeedsReopen { faults }),
             None => {}
         }
-        // They tell the proof that the history keeps its limits, and that numbers of packet names have 16 bits.
-        let _known = self.history.len();
-        let _names = self.head.mdb.containers();
+        self.is_kept();
         let Ok(classified) = classify(alloc, &self.history, batch) else {
             return Err(Refusal::OutOfMemory);
         };
@@ -193,13 +192,14 @@ impl<D: Disk> Store<D> {
 
     /// Makes a write that failed as if it had never been made, so that batches are taken again. Takes no memory.
     pub fn reopen(&mut self) -> Result<(), Refusal>
-        // Ok: no failed write is pending, and every image stands for the history with its fills, whatever failed before.
+        // Ok: no failed write is pending, and every image stands for the history with its fills.
         ensures reopened { OnOk result (IsStoreReopened D.device self.old self.new) }
 
         // Refused, for a fault of the disk alone, all but the disk is as it was.
         ensures refused { IfErr result (IsStoreReopenRefusal D.device self.old self.new) }
 
-        // Power lost at any moment of the call leaves the archive with its fills, or what the failed write may have made of it.
+        // Power lost at any moment of the call leaves the archive with its fills, or what the failed write may have made
+        // of it.
         ensures crash { CrashLeavesNow D.device self.old self.new.disk }
         ensures counts { CountsNeverFall D.device self.old.disk self.new.disk }
     {

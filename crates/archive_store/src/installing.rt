@@ -74,9 +74,9 @@ impl<D: Disk> Store<D> {
     /// row, the base is at most the front, and the fill is of the database in force and of the store's exponent.
     fn may_stand(&self, done: &Filled) -> bool
         requires { NoneSince self.now.exponent done.now.interval done.now.base self.now.history }
-        ensures based { IsTrue result →
-            IsFillBase self.now.exponent done.now.interval done.now.base self.now.history }
-        ensures own { IsTrue result → IsOwnFill self.now done.now }
+        ensures { IsTrue result ↔
+            (IsFillBase self.now.exponent done.now.interval done.now.base self.now.history
+            × IsOwnFill self.now done.now) }
     {
         if !self.has_row(done.interval()) {
             return false;
@@ -108,8 +108,6 @@ impl<D: Disk> Store<D> {
         if !self.may_stand(&done) {
             return Err(Refusal::OutOfMemory);
         }
-        // It tells the proof that the marks have the interval's rows.
-        let _row = self.tracker.last(interval);
         let prepared = prepare_fill(&mut self.journal, &mut self.tracker, &mut self.sets);
         let Ok(()) = prepared else {
             return Err(Refusal::OutOfMemory);
@@ -134,9 +132,9 @@ impl<D: Disk> Store<D> {
         }
     }
 
-    /// Installs a fill: its set is the interval's from now on. Where a row of the interval came at or after its base it is
-    /// given up, and so it is where the call is refused. A disk that tells nothing asks nothing of the fill: one of an
-    /// interval without rows, of a base above the front, or of another database or exponent is refused like want of
+    /// Installs a fill: its set is the interval's from now on. Where a row of the interval came at or after its base it
+    /// is given up, and so it is where the call is refused. A disk that tells nothing asks nothing of the fill: one of
+    /// an interval without rows, of a base above the front, or of another database or exponent is refused like want of
     /// memory.
     pub fn install(&mut self, done: Filled) -> Result<Installed, Refusal>
         // Where the disk tells what it holds, the fill is of the store's database, and right for the history.
@@ -145,8 +143,8 @@ impl<D: Disk> Store<D> {
         // Ok: the fill stands in one record more; or it is stale, by what changed its interval last.
         ensures installed { IfOk result (IsStoreInstalled D.device self.old self.new done) }
 
-        // NeedsReopen comes exactly where a failed write is pending, then Stale, then the limit of records, then want of
-        // memory, before any call of the disk, and then a fault of the disk. The interval's flight ends.
+        // NeedsReopen comes exactly where a failed write is pending, then Stale, then the limit of records, then want
+        // of memory, before any call of the disk, and then a fault of the disk. The interval's flight ends.
         ensures refused { IfErr result (IsInstallRefusal D.device self.old self.new done) }
 
         // Power lost at any moment of the call leaves the archive from before it, or the one with the fill.

@@ -37,16 +37,15 @@ impl<D: Disk> Store<D> {
         intervals_meeting(alloc, &self.tracker, 0, i64::MAX, self.history.exponent())
     }
 
-    /// The rows of table `tm` in an interval that has some, in the order of their keys. They share their packets with the
-    /// store. The one error is want of memory.
+    /// The rows of table `tm` in an interval that has some, in the order of their keys. They share their packets with
+    /// the store. The one error is want of memory.
     pub fn interval_rows(&self, alloc: Global, interval: Interval) -> Result<Rows, AllocError>
         requires some { IsSome (last_in self.now.exponent interval self.now.history) }
         ensures rows { IfOk result (λ rows. rows ≡ rows_of_interval self.now.exponent interval self.now.history) }
         ensures rising { IfOk result (λ rows. IsStrictlySortedBy key_cmp (map (λ row. row.key) rows)) }
         ensures inside { IfOk result (AllByRecursion (λ row. interval_of self.now.exponent row.key.time ≡ interval.0)) }
     {
-        // told of the history: no two of its rows have one key in a table
-        self.history.len();
+        self.history.is_kept();
         rows_of(alloc, &self.history, interval)
     }
 }

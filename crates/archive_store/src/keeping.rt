@@ -6,11 +6,11 @@ use crate::store::Store;
 use arch_disk::Disk;
 
 impl<D: Disk> Store<D> {
-    /// The store keeps what it is to keep of its history, its fills and its disk. This does nothing but tell a proof so.
+    /// The store keeps what it is to keep of its history, its fills and its disk. This only tells a proof so.
     pub fn is_kept(&self)
         ensures { IsKept D.device self.now }
     {
-        let _ = self.history.len();
-        let _ = self.head.mdb.containers();
+        self.history.is_kept();
+        self.head.mdb.is_sound();
     }
 }

@@ -2,23 +2,26 @@
 //
 // A history is rows of tables, the first to come with its key in its table. It stands in the journal in file 0 of the
 // disk: a head record with the tables and the mission database, and then a record for each batch that had new rows, and
-// for each fill: the set of an interval's segments, over a front of the history. `StandsFilled` (specs/Stands.antt) says
-// which archive an image of the disk is, and which fills it has, `StandsFor` the archive alone, `IsArchiveDamagedAt` where
-// it is none, and `laws` that no image is two things. Contracts see a store as `StoreView` (specs/StoreView.antt): history,
-// fill list, fills, head, the disk, and the disk of the opening. What each call answers, and what each answer leaves,
-// stands in specs/Calls.antt.
-// Callers: load_session, retrieval, archive_verify, and the commands that create, load, ask and recover an archive.
+// for each fill: the set of an interval's segments, over a front of the history. `StandsFilled` (specs/Stands.antt)
+// says which archive an image of the disk is, and which fills it has, `StandsFor` the archive alone,
+// `IsArchiveDamagedAt` where it is none, and `laws` that no image is two things. Contracts see a store as `StoreView`
+// (specs/StoreView.antt): history, fill list, fills, head, the disk, and the disk of the opening. What each call answers,
+// and what each answer leaves, stands in specs/Calls.antt.
+// Callers: load_session, retrieval, script_answers, live_archive, archive_verify, and the commands that create, load,
+// ask and recover an archive.
 //
-// The one idea of the proof is in the store's type: it keeps which archives a crash at any moment since the opening may have left, whatever archives and
-// entries are (`ArchiveInvariant` in specs/Images.antt; file 0 is its log, specs/PlainLog.antt), and how the faults stand to the disk's counts
-// (`FaultInvariant`), of the value alone. So `is_kept` and `into_disk` hand both out (`CrashInvariant`), and each call proves one step:
-// a record more, an unacknowledged record, a record taken back (proofs/Kept.antt, proofs/Healing.antt).
+// The one idea of the proof is in the store's type: it keeps which archives a crash at any moment since the opening may
+// have left, whatever archives and entries are (`ArchiveInvariant` in specs/Images.antt; file 0 is its log,
+// specs/PlainLog.antt), and how the faults stand to the disk's counts (`FaultInvariant`), of the value alone. So
+// `is_kept` and `into_disk` hand both out (`CrashInvariant`), and each call proves one step: a record more, an
+// unacknowledged record, a record taken back (proofs/Kept.antt, proofs/Healing.antt).
 //
 // Which intervals are late is read from marks that the type keeps beside history and fill list (`AreMarksOf` of
-// fill_tracker): contracts speak of the two lists alone. In memory the rows stand in a table with its partitions for each
-// name of the head; their order is kept for contracts alone (archive_history). What an ask names is looked up once
-// (src/finding.rt), and plans and replays take what was found. A plan of param_segments shares
-// the sets that stand for intervals, and has copies of the rows of those that are late. A replay goes over them by a cursor of replay_merge; a step of it borrows them.
+// fill_tracker): contracts speak of the two lists alone. In memory the rows stand in a table with its partitions for
+// each name of the head; their order is kept for contracts alone (archive_history). What an ask names is looked up once
+// (src/finding.rt), and plans and replays take what was found. A plan of param_segments shares the sets that stand for
+// intervals, and has copies of the rows of those that are late. A replay goes over them by a cursor of replay_merge; a
+// step of it borrows them.
 // To be changed together: `Applies` in specs/Entries.antt, src/reading.rt and `IsBatch`; the limits in archive_history,
 // those of refusals, and specs/Limits.antt.
 //

@@ -3,8 +3,8 @@
 ghost use Rattle.std.specs.Prelude.{◌≡◌, ◌↔◌, ◌++◌, [], ◌∷◌, None, Some, IsTrue, true, false, length, OnErr, OnOk, IfOk, IfErr, Err};
 ghost use Rattle.std.specs.List.{AllByRecursion};
 ghost use Rattle.arch_disk.specs.Disk.{NoFault, OnlyReads};
-ghost use Rattle.disk_journal.specs.Calls.{BeginsOpen};
-ghost use Rattle.disk_journal.specs.Reading.{IsAt, file_read, IsReadJournal};
+ghost use Rattle.disk_journal.specs.Calls.{BeginsOpen, StandsAtGate, content_read, read_so_far};
+ghost use Rattle.disk_journal.specs.Reading.{IsReadJournal, file_read};
 ghost use Rattle.refusals.specs.declared.refusal.Refusal.TheVariants.{Damaged};
 ghost use Rattle.octet_fields.specs.Exact.{IsOctets};
 ghost use Rattle.history_items.specs.declared.fills.Fill.TheVariants as noted;
@@ -21,7 +21,7 @@ ghost use Rattle.intervals.specs.Interval.{format_1_exponent};
 ghost use Rattle.field_codec.specs.Spelling.{entry_octets};
 ghost use Rattle.archive_store.specs.Entries.{filled_archive, Applies, AreAdmitted, FilledArchive, IsFillable, IsPlaced, dones_of};
 ghost use Rattle.archive_store.specs.Inside.{IsHistoryOf};
-ghost use Rattle.archive_store.specs.PartialArchive.{archive_made, fills_made, filled_made, plain_made, IsSetRead, HasMarks, IsReadHistory, read_refusal, IsArchiveRead, IsArchiveReadRefusal};
+ghost use Rattle.archive_store.specs.PartialArchive.{archive_made, fills_made, filled_made, plain_made, IsBase, IsSetRead, HasMarks, IsReadHistory, read_refusal, IsArchiveRead, IsArchiveReadRefusal};
 ghost use Rattle.archive_store.specs.Stands.{Breaks};
 
 use crate::head::Head;
@@ -116,7 +116,8 @@ fn admit(made: &mut PartialArchive, rows: Rows) -> Result<bool, AllocError>
     Ok(made.history.add_all(rows))
 }
 
-/// Whether a fill of an interval over the first `base` items may be there: the history has these, and the interval a row.
+/// Whether a fill of an interval over the first `base` items may be there: the history has these, and the interval a
+/// row.
 fn may_fill(made: &PartialArchive, interval: Interval, base: u64) -> bool
     requires { HasMarks (Some made.now) }
     ensures based { IsTrue result ↔ IsStoredBase made.now.history.exponent interval base made.now.history.items }
@@ -276,12 +277,12 @@ pub(crate) struct ReadArchive {
     pub made: PartialArchive,
 }
 
-/// The refusal for a fault of a journal that is read.
-pub(crate) fn refusal_of(fault: JournalFault) -> Refusal
-    ensures { result ≡ read_refusal fault }
+/// The refusal for a fault of the journal that is read in a file.
+pub(crate) fn refusal_of(file: u32, fault: JournalFault) -> Refusal
+    ensures { result ≡ read_refusal file fault }
 {
     match fault {
-        JournalFault::Damaged { at } => Refusal::Damaged { file: 0, at },
+        JournalFault::Damaged { at } => Refusal::Damaged { file, at },
         JournalFault::OutOfMemory => Refusal::OutOfMemory,
         JournalFault::NoArchive => Refusal::NoArchive,
         JournalFault::Exists
@@ -294,47 +295,57 @@ pub(crate) fn refusal_of(fault: JournalFault) -> Refusal
 /// What was read.
 fn finished(opening: Opening, made: Option<PartialArchive>) -> Result<ReadArchive, Refusal>
     ensures ok { IfOk result (λ f. (Some f.made ≡ made) × IsReadJournal opening f.journal) }
-    ensures none { OnErr result ((made ≡ None) × (result ≡ Err (Damaged 0 0))) }
+    ensures none { OnErr result ((made ≡ None) × (result ≡ Err (Damaged (file_read opening) 0))) }
 {
     match made {
         Some(made) => Ok(ReadArchive {
             journal: opening.finish(),
             made,
         }),
-        None => Err(Refusal::Damaged { file: 0, at: 0 }),
+        None => Err(Refusal::Damaged {
+            file: opening.file(),
+            at: 0,
+        }),
     }
 }
 
-/// Reads the records of file 0 to the closed gate that ends them.
+/// Reads the records of a file behind those that its opening has read, to the closed gate that ends them: entries that
+/// go on from a base.
 pub(crate) fn read_archive<D: Disk>(
     alloc: Global,
     disk: &mut D,
     opening: Opening,
+    base: Option<PartialArchive>,
 ) -> Result<ReadArchive, Refusal>
-    requires begun { IsTrue D.device.is_transparent →
-        BeginsOpen (D.device.reads disk.old 0) × IsAt opening (D.device.reads disk.old 0) [] }
-    requires file { file_read opening ≡ 0 }
+    requires begun { IsTrue D.device.is_transparent → BeginsOpen (content_read D.device opening disk.old) }
+    requires at_gate { StandsAtGate D.device opening disk.old }
+    requires base { IsBase base }
+
+    // Without a base they begin the file.
+    requires first { IsTrue D.device.is_transparent → base ≡ None → read_so_far D.device opening disk.old ≡ [] }
 
     // Ok: the journal has all records of the file, and each is an entry that may follow those before it.
-    ensures read { IfOk result (IsArchiveRead D.device disk.old) }
+    ensures read { IfOk result (IsArchiveRead D.device disk.old opening base) }
 
-    // Refused: at the first record that passes the file's end or breaks a rule, for a read that failed, or want of memory.
-    ensures refused { IfErr result (IsArchiveReadRefusal D.device disk.old disk.new) }
+    // Refused: at the first record that passes the file's end or breaks a rule, for a read that failed, or want of
+    // memory.
+    ensures refused { IfErr result (IsArchiveReadRefusal D.device disk.old disk.new opening base) }
     ensures looked { OnlyReads D.device disk.old disk.new }
     ensures no_fault { OnOk result (NoFault D.device disk.old disk.new) }
 {
+    let file = opening.file();
     let mut opening = opening;
-    let mut made = None;
+    let mut made = base;
     'entries: loop {
         let at = opening.place();
         let body = match opening.next(alloc, disk) {
             Ok(Some(body)) => body,
             Ok(None) => return finished(opening, made),
-            Err(fault) => return Err(refusal_of(fault)),
+            Err(fault) => return Err(refusal_of(file, fault)),
         };
         match take_in(alloc, &mut made, &body) {
             Ok(true) => {}
-            Ok(false) => return Err(Refusal::Damaged { file: 0, at }),
+            Ok(false) => return Err(Refusal::Damaged { file, at }),
             Err(_) => return Err(Refusal::OutOfMemory),
         }
     }

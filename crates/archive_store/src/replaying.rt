@@ -33,7 +33,8 @@ use std::alloc::{AllocError, Global};
 
 /// The numbers of those packet names that the database has.
 fn numbers_of(alloc: Global, head: &Head, names: &Names) -> Result<PnameList, AllocError>
-    ensures { IfOk result (λ numbers. numbers ≡ filter_map (packet_name_number (names_of_database head.now.mdb)) names.now) }
+    ensures { IfOk result (λ numbers.
+        numbers ≡ filter_map (packet_name_number (names_of_database head.now.mdb)) names.now) }
 {
     let mut numbers = PnameList::new(alloc);
     for name in names.as_slice() {
@@ -111,7 +112,8 @@ impl<D: Disk> Store<D> {
         )
     }
 
-    /// The next rows of a replay, at most `limit`: there may be more although these are fewer. No row, for a limit above 0, is the end.
+    /// The next rows of a replay, at most `limit`: there may be more although these are fewer. No row, for a limit
+    /// above 0, is the end.
     pub fn replay_step(
         &mut self,
         alloc: Global,
@@ -119,7 +121,8 @@ impl<D: Disk> Store<D> {
         limit: u64,
     ) -> Result<Rows, Refusal>
         ensures rows { IfOk result (λ rows.
-            rows ++ rest_of cursor.new (rows_below self.old.history) ≡ rest_of cursor.old (rows_below self.old.history)) }
+            rows ++ rest_of cursor.new (rows_below self.old.history)
+            ≡ rest_of cursor.old (rows_below self.old.history)) }
         ensures end { IfOk result (EndsExactly limit cursor.old cursor.new) }
         ensures nearer { IfOk result (λ rows. (rows ≡ [] → ⊥) → steps_at_most cursor.new < steps_at_most cursor.old) }
         ensures few { IfOk result (λ rows. length rows ≤ limit) }
@@ -142,7 +145,8 @@ impl<D: Disk> Store<D> {
         Ok(self.history.spans(table, pname)?)
     }
 
-    /// The partitions of a table that hold a row and may hold one in the bounds, by day and then by the packet name's number.
+    /// The partitions of a table that hold a row and may hold one in the bounds, by day and then by the packet name's
+    /// number.
     pub fn parts(&self, table: u8, bounds: &Bounds) -> Result<PartList, Refusal>
         requires { table < length self.now.head.tables }
         ensures parts { IfOk result (ArePartitions self.now.history table bounds.now) }

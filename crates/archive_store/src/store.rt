@@ -195,10 +195,10 @@ impl<D: Disk> Store<D> {
         let mut disk = disk;
         let opening = match Opening::begin(alloc, &mut disk, 0) {
             Ok(opening) => opening,
-            Err(fault) => return Err((disk, refusal_of(fault))),
+            Err(fault) => return Err((disk, refusal_of(0, fault))),
         };
         let opened = Snapshot::of(&disk);
-        let ReadArchive { journal, made } = match read_archive(alloc, &mut disk, opening) {
+        let ReadArchive { journal, made } = match read_archive(alloc, &mut disk, opening, None) {
             Ok(found) => found,
             Err(refusal) => return Err((disk, refusal)),
         };

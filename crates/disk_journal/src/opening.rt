@@ -161,6 +161,13 @@ impl Opening {
         self.at
     }
 
+    /// The file that is read.
+    pub fn file(&self) -> u32
+        ensures { result ≡ file_read self.now }
+    {
+        self.reader.file
+    }
+
     /// The journal of the records that were read; the next one goes to the gate that is read next.
     pub fn finish(self) -> Journal
         ensures { IsReadJournal self result }

@@ -12,7 +12,7 @@ use Rattle.intervals.proofs.Ranks.{interval_cmp_total}
 use Rattle.late_marks.proofs.IntervalOrder.{apart}
 use Rattle.store_fills.specs.Sound.{with_filling}
 use Rattle.store_fills.specs.declared.last_fills.LastFill.{LastFill}
-use Rattle.store_fills.specs.LastFills.{ArePlaced, place_in, filling_of, filling_at}
+use Rattle.store_fills.specs.LastFills.{HaveOwnPlaces, place_in, filling_of, filling_at}
 
 same_is : (a b : Interval) → is_same a b ≡ true → a ≡ b
 same_is a b e = ap (λ (n : ℤ). let i : Interval = record { 0 = n } in i) ((Decides-int_eq a.0 b.0).0 e)
@@ -56,7 +56,7 @@ length_set (h ∷ fills) (suc at) one = omega (arith, length_set fills at one)
 
 -- ---- a fill in a new place
 
-module _ (entries : List (Interval × ℕ)) (fills : List LastFill) (i : Interval) (one : LastFill) (placed : ArePlaced entries fills) (none : place_in entries i ≡ None) where
+module _ (entries : List (Interval × ℕ)) (fills : List LastFill) (i : Interval) (one : LastFill) (placed : HaveOwnPlaces entries fills) (none : place_in entries i ≡ None) where
   abbrev pub new_entries : List (Interval × ℕ)
   new_entries = insert_entry interval_cmp entries i (length fills)
 
@@ -77,7 +77,7 @@ module _ (entries : List (Interval × ℕ)) (fills : List LastFill) (i : Interva
       at j true e = ap (λ (k : Interval). filling_at (fills ++ one ∷ []) (place_in new_entries k)) (same_is j i e) ∙ ap (filling_at (fills ++ one ∷ [])) here ∙ ap (option_map filling_of) (get_last fills one)
       at j false e = ap (filling_at (fills ++ one ∷ [])) (there j e) ∙ front (place_in entries j) (placed.there j)
 
-  pub placed_new : ArePlaced new_entries (fills ++ one ∷ [])
+  pub placed_new : HaveOwnPlaces new_entries (fills ++ one ∷ [])
   placed_new = record { there = λ j at is. within j at (is_same j i) refl is; apart = λ j k at is too. one_place j k at (is_same j i) refl (is_same k i) refl is too }
     where
       within : (j : Interval) (at : ℕ) (b : Bool) → is_same j i ≡ b → place_in new_entries j ≡ Some at → at < length (fills ++ one ∷ [])
@@ -97,7 +97,7 @@ module _ (entries : List (Interval × ℕ)) (fills : List LastFill) (i : Interva
 
 -- ---- a fill in a place that is there
 
-module _ (entries : List (Interval × ℕ)) (fills : List LastFill) (i : Interval) (p : ℕ) (one : LastFill) (placed : ArePlaced entries fills) (found : place_in entries i ≡ Some p) where
+module _ (entries : List (Interval × ℕ)) (fills : List LastFill) (i : Interval) (p : ℕ) (one : LastFill) (placed : HaveOwnPlaces entries fills) (found : place_in entries i ≡ Some p) where
   same_front : (o : Option ℕ) → (o ≡ Some p → ⊥) → filling_at (set fills p one) o ≡ filling_at fills o
   same_front None apart = refl
   same_front (Some at) apart = ap (option_map filling_of) (get_set_other fills p at one (λ e. apart (ap Some e)))
@@ -112,5 +112,5 @@ module _ (entries : List (Interval × ℕ)) (fills : List LastFill) (i : Interva
       at j false e = same_front (place_in entries j)
           (λ is. true≢false (sym (subst (λ (k : Interval). is_same j k ≡ true) (placed.apart j i p is found) (is_itself j)) ∙ e))
 
-  pub placed_set : ArePlaced entries (set fills p one)
+  pub placed_set : HaveOwnPlaces entries (set fills p one)
   placed_set = record { there = λ j at is. omega (arith, placed.there j at is, length_set fills p one); apart = placed.apart }

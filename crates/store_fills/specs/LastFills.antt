@@ -54,6 +54,6 @@ abbrev pub fillings_in : PlacedFills → Fillings (List SetRow)
 fillings_in filled = λ interval. filling_at filled.fills (place_in filled.entries interval)
 
 -- each place is there, and no two intervals have one
-pub record ArePlaced (entries : List (Interval × ℕ)) (fills : List LastFill) : Type 0 where
+pub record HaveOwnPlaces (entries : List (Interval × ℕ)) (fills : List LastFill) : Type 0 where
   pub there : (i : Interval) (at : ℕ) → place_in entries i ≡ Some at → at < length fills
   pub apart : (i j : Interval) (at : ℕ) → place_in entries i ≡ Some at → place_in entries j ≡ Some at → i ≡ j

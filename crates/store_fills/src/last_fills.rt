@@ -27,13 +27,13 @@ pub struct LastFills {
 }
 
 impl Model for LastFills {
-    ghost use Rattle.store_fills.specs.LastFills.{LastFillsView, ArePlaced, last_fills_of};
+    ghost use Rattle.store_fills.specs.LastFills.{LastFillsView, HaveOwnPlaces, last_fills_of};
 
     ghost Value = { LastFillsView };
 
     ghost view = { λ s. last_fills_of s.places s.fills };
 
-    ghost invariant = { λ s. ArePlaced s.places.entries s.fills.items };
+    ghost invariant = { λ s. HaveOwnPlaces s.places.entries s.fills.items };
 }
 
 impl LastFills {

@@ -1,10 +1,14 @@
 use Rattle.std.proofs.Common.{◌≡◌, ◌≤◌, ℕ, [], length, sym, ap, ◌∙◌, subst, List, arith}
+use Rattle.std.specs.Prelude.{Contains}
+use Rattle.std.specs.List.{AllByRecursion}
+use Rattle.arch_types.specs.declared.row.Row.{Row}
 use Rattle.replay_merge.specs.RowSource.{AreRowsOf, AreRowSourceHistories, rows_of_partition}
+use Rattle.replay_merge.proofs.Giving.{partition_given}
 use Rattle.replay_merge.proofs.Sources.{no_rows_of_table, partition_rows_are}
 use Rattle.history_items.specs.declared.items.Item.{Item}
+use Rattle.history_items.specs.Items.{rows_in}
 use Rattle.archive_store.specs.Replays.{rows_below}
-use Rattle.archive_store.proofs.ReplayedRows.{below_in_tables, source_histories}
-use Rattle.archive_store.proofs.RowsAlone.{cut_alone}
+use Rattle.archive_store.proofs.ReplayedRows.{below_are_its, below_in_tables, source_histories}
 use Rattle.archive_store.proofs.history_source.HistorySourceRowSource.rows.Goals as goal
 
 pub returns-then-table-as_slice-clause-told : goal.returns-then-table-as_slice-clause-told
@@ -15,12 +19,15 @@ returns-then-table-as_slice-clause-told c =
     c.new.ensures ∙ sym (subst (λ (history : List Item). rows_of_partition c.args.table c.args.partition.now (rows_below history c.args.front) ≡ []) c.self.view_is
     (no_rows_of_table c.args.table (length s.head.now.tables) c.args.partition.now (rows_below items c.args.front) (below_in_tables s.head.now items c.args.front c.self.invariant.rows) most))
 
+pub returns-then-table-as_slice-clause-given : goal.returns-then-table-as_slice-clause-given
+returns-then-table-as_slice-clause-given c = subst (λ (rows : List Row). AllByRecursion (Contains (rows_in c.args.self.now)) rows) (sym c.new.ensures) tt
+
 pub returns-then-table-as_slice-clause-each : goal.returns-then-table-as_slice-clause-each
 returns-then-table-as_slice-clause-each c =
     let s = c.self.inside in
     let items = s.history.now.items in
     let most : length s.head.now.tables ≤ c.args.table = omega (arith, ap (λ (n : List (List ℕ)). length n) c.as_slice.ensures, c.if-table-as_slice.true) in
-    let are = source_histories s.head.now items c.len-known.ensures.history c.self.invariant.rows in
+    let are = source_histories s.head.now items c.is_kept.ensures.history c.self.invariant.rows in
     subst (AreRowsOf c.args.table c.args.partition.now)
     (no_rows_of_table c.args.table (length s.head.now.tables) c.args.partition.now (rows_below items c.args.front) (below_in_tables s.head.now items c.args.front c.self.invariant.rows) most ∙ sym c.new.ensures)
     (partition_rows_are c.args.table c.args.partition.now (rows_below items c.args.front) (are c.args.front))
@@ -28,28 +35,32 @@ returns-then-table-as_slice-clause-each c =
 pub returns-then-table-as_slice-clause-history : goal.returns-then-table-as_slice-clause-history
 returns-then-table-as_slice-clause-history c =
     let s = c.self.inside in
-    subst (λ (history : List Item). AreRowSourceHistories (rows_below history)) c.self.view_is (source_histories s.head.now s.history.now.items c.len-known.ensures.history c.self.invariant.rows)
+    subst (λ (history : List Item). AreRowSourceHistories (rows_below history)) c.self.view_is (source_histories s.head.now s.history.now.items c.is_kept.ensures.history c.self.invariant.rows)
 
 pub returns-in_err-partition_rows-clause-history : goal.returns-in_err-partition_rows-clause-history
 returns-in_err-partition_rows-clause-history c =
     let s = c.self.inside in
-    subst (λ (history : List Item). AreRowSourceHistories (rows_below history)) c.self.view_is (source_histories s.head.now s.history.now.items c.len-known.ensures.history c.self.invariant.rows)
+    subst (λ (history : List Item). AreRowSourceHistories (rows_below history)) c.self.view_is (source_histories s.head.now s.history.now.items c.is_kept.ensures.history c.self.invariant.rows)
 
 pub returns-clause-told : goal.returns-clause-told
 returns-clause-told c =
+    c.in_ok-partition_rows.ensures ∙ ap (λ (history : List Item). rows_of_partition c.args.table c.args.partition.now (rows_below history c.args.front)) c.self.view_is
+
+pub returns-clause-given : goal.returns-clause-given
+returns-clause-given c =
     let items = c.self.inside.history.now.items in
-    let rows = rows_of_partition c.args.table c.args.partition.now in
-    c.in_ok-partition_rows.ensures ∙ ap rows (cut_alone c.args.front items c.self.invariant.alone) ∙ ap (λ (history : List Item). rows (rows_below history c.args.front)) c.self.view_is
+    let P : Row → Type 0 = Contains (rows_in items) in
+    rw (← c.self.view_is)
+    (subst (AllByRecursion P) (sym c.in_ok-partition_rows.ensures) (partition_given P c.args.table c.args.partition.now (rows_below items c.args.front) (below_are_its c.args.front items)))
 
 pub returns-clause-each : goal.returns-clause-each
 returns-clause-each c =
     let s = c.self.inside in
     let items = s.history.now.items in
-    let are = source_histories s.head.now items c.len-known.ensures.history c.self.invariant.rows in
-    let got = c.in_ok-partition_rows.ensures ∙ ap (rows_of_partition c.args.table c.args.partition.now) (cut_alone c.args.front items c.self.invariant.alone) in
-    subst (AreRowsOf c.args.table c.args.partition.now) (sym got) (partition_rows_are c.args.table c.args.partition.now (rows_below items c.args.front) (are c.args.front))
+    let are = source_histories s.head.now items c.is_kept.ensures.history c.self.invariant.rows in
+    subst (AreRowsOf c.args.table c.args.partition.now) (sym c.in_ok-partition_rows.ensures) (partition_rows_are c.args.table c.args.partition.now (rows_below items c.args.front) (are c.args.front))
 
 pub returns-clause-history : goal.returns-clause-history
 returns-clause-history c =
     let s = c.self.inside in
-    subst (λ (history : List Item). AreRowSourceHistories (rows_below history)) c.self.view_is (source_histories s.head.now s.history.now.items c.len-known.ensures.history c.self.invariant.rows)
+    subst (λ (history : List Item). AreRowSourceHistories (rows_below history)) c.self.view_is (source_histories s.head.now s.history.now.items c.is_kept.ensures.history c.self.invariant.rows)

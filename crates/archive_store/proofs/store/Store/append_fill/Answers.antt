@@ -30,7 +30,7 @@ use Rattle.archive_store.specs.Inside.{HoldsFills, StoreInvariant, view_of}
 use Rattle.archive_store.specs.Installs.{FillIsAppended, IsOwnFill, filled_with}
 use Rattle.archive_store.specs.Stands.{StandsFilled}
 use Rattle.archive_store.specs.StoreView.{AddsFault, OnlyAppends, StoreView, filled_of}
-use Rattle.archive_store.proofs.Fillable.{holds_done, holds_same, stored_has}
+use Rattle.archive_store.proofs.Fillable.{holds_done, holds_same, marked_has}
 use Rattle.archive_store.proofs.Going.{goes_fill, goes_same}
 use Rattle.archive_store.proofs.Kept.{healthy, kept_same}
 use Rattle.archive_store.proofs.KeptFills.{fill_fault, fill_err, fill_moments, fill_ok, unharmed, with_fill}
@@ -64,7 +64,7 @@ module _ (g : Over) (c : After-append_entry g) where
   fits : IsSetOf (database_in c.self.inside.head.mdb (prefix c.args.done.base c.self.inside.history.items)) c.self.inside.history.exponent c.args.done.interval.0 c.args.done.set
   fits =
       let done = c.args.done in
-      let own : IsOwnFill c.args.self.now done = c.may_stand.ensures.own c.if-not-may_stand.false in
+      let own : IsOwnFill c.args.self.now done = (c.may_stand.ensures.0 c.if-not-may_stand.false).1 in
       subst (λ (x : StoreView g.row.D.Denot). IsSetOf (database_in x.head.mdb (prefix done.base x.history)) x.exponent done.interval.0 done.set) (sym c.self.view_is)
       (subst (λ (db : Database). IsSetOf db c.args.self.now.exponent done.interval.0 done.set) own.0 (subst (λ (e : ℕ). IsSetOf done.mdb e done.interval.0 done.set) own.1 c.into_parts-parts.ensures.inside))
 
@@ -145,11 +145,10 @@ finish-requires-clause-rows g c =
     let s = c.self.inside in
     let i : Interval = c.interval-interval.result in
     let done = c.args.done in
-    let may : IsFillBase s.history.exponent done.interval done.base s.history.items = subst (λ (x : StoreView g.row.D.Denot). IsFillBase x.exponent done.interval done.base x.history) (sym c.self.view_is) (c.may_stand.ensures.based c.if-not-may_stand.false) in
+    let may : IsFillBase s.history.exponent done.interval done.base s.history.items = subst (λ (x : StoreView g.row.D.Denot). IsFillBase x.exponent done.interval done.base x.history) (sym c.self.view_is) (c.may_stand.ensures.0 c.if-not-may_stand.false).0 in
     let based = subst (λ (j : Interval). IsStoredBase s.history.exponent j done.base s.history.items) (sym c.interval-interval.ensures) (stored_base s.history.exponent done.interval done.base s.history.items may) in
-    let some = stored_has s.history.exponent s.history.items i done.base c.last-row.result (c.last-row.ensures.last s.history.exponent s.history.items c.self.invariant.3) based in
     let same = ap (λ (t : FillTrackerView). t.marks) c.in-Ok-append_entry.ensures.same ∙ c.prepare_fill-prepared.ensures.tracker.1 in
-    subst (λ (m : Marks). has_rows m i ≡ true) (sym same) (sym c.last-row.ensures.rows ∙ some)
+    subst (λ (m : Marks). has_rows m i ≡ true) (sym same) (marked_has s.history.exponent s.history.items s.tracker.fills s.tracker.marks i done.base c.self.invariant.3 based)
 
 pub invariant_of-self-in-Ok-append_entry : goal.invariant_of-self-in-Ok-append_entry
 invariant_of-self-in-Ok-append_entry g c =
@@ -223,8 +222,8 @@ returns-in-Ok-append_entry-clause-appended g c =
     let new : StoreView g.row.D.Denot = view_of c.append_entry.new.disk s.opened.value c.append_entry.new.journal s.head s.history.exponent s.history.items c.finish.new.self.fills c.put.new.self.filled in
     subst (λ (x : StoreView g.row.D.Denot). FillIsAppended g.D.Disk.device x new done) c.self.view_is (record {
       step = (none, ap (state_of s.history.items) (fills g at.After-put));
-      may = subst (λ (x : StoreView g.row.D.Denot). IsFillBase x.exponent done.interval done.base x.history) (sym c.self.view_is) (c.may_stand.ensures.based c.if-not-may_stand.false);
-      own = subst (λ (x : StoreView g.row.D.Denot). IsOwnFill x done) (sym c.self.view_is) (c.may_stand.ensures.own c.if-not-may_stand.false);
+      may = subst (λ (x : StoreView g.row.D.Denot). IsFillBase x.exponent done.interval done.base x.history) (sym c.self.view_is) (c.may_stand.ensures.0 c.if-not-may_stand.false).0;
+      own = subst (λ (x : StoreView g.row.D.Denot). IsOwnFill x done) (sym c.self.view_is) (c.may_stand.ensures.0 c.if-not-may_stand.false).1;
       filled = put g at.After-put;
       records = omega (arith, appended.count, appended.place_is, ap length c.prepare_fill-prepared.ensures.journal.extents);
       no_failed_write = appended.no_failed_write;

@@ -1,8 +1,9 @@
-use Rattle.std.proofs.Common.{◌≡◌, ◌≢◌, ◌⊎◌, ◌≤◌, ◌++◌, List, [], length, None, refl, sym, ◌∙◌, ap, subst, arith}
+use Rattle.std.proofs.Common.{◌≡◌, ◌≢◌, ◌⊎◌, ◌<◌, ◌≤◌, ◌^◌, ◌++◌, List, [], length, None, refl, sym, ◌∙◌, ap, subst, arith}
 use Rattle.arch_disk.specs.Disk.{LeavesOnly}
 use Rattle.arch_types.specs.declared.row.Row.{Row}
 use Rattle.std.specs.List.{AllByRecursion}
 use Rattle.octet_fields.specs.Exact.{IsOctets}
+use Rattle.history_items.specs.Databases.{names_in}
 use Rattle.history_items.specs.Fills.{pending_fault_of}
 use Rattle.history_items.specs.declared.items.Item.{Item}
 use Rattle.history_items.specs.Items.{rows_in}
@@ -19,7 +20,6 @@ use Rattle.archive_store.proofs.Batching.{admitted, sortable}
 use Rattle.archive_store.proofs.Calls.{passed_on, rows_refused}
 use Rattle.archive_store.proofs.Ingesting.{added, nothing_added, none_new, below_none, below_some}
 use Rattle.archive_store.proofs.KeptFills.{unharmed}
-use Rattle.archive_store.proofs.RowsAlone.{few_names}
 use Rattle.archive_store.proofs.store.Store.ingest.Given.{Over}
 use Rattle.archive_store.proofs.store.Store.ingest.Goals.{Else-len-eq0}
 use Rattle.archive_store.proofs.store.Store.ingest.Goals as goal
@@ -52,7 +52,9 @@ append-requires-clause-admitted g c =
     let within : IsWithin s.history.exponent (rows_in s.history.items ++ fresh_of s.history.items rows) =
     subst (λ (l : List Row). IsWithin s.history.exponent (rows_in s.history.items ++ l)) c.in-Ok.ensures.fresh (subst (λ (x : StoreView g.row.D.Denot). IsWithin x.exponent (rows_in x.history ++ classified.fresh)) (sym c.self.view_is) within_now) in
     let octets = subst (AllByRecursion (λ row. IsOctets row.packet)) c.in-Ok.ensures.fresh c.in-Ok.ensures.octets in
-    let done = admitted s.head s.history.exponent s.history.items c.args.batch.now c.self.invariant.0.head_is (omega (arith, c.containers-names.ensures, c.containers-names.type_inv, few_names s.head.mdb s.history.items c.self.invariant.0.alone)) fits some within octets in
+    let few : length (names_in s.head.mdb s.history.items) < 2 ^ 16 =
+    subst (λ (x : StoreView g.row.D.Denot). length (names_in x.head.mdb x.history) < 2 ^ 16) (sym c.self.view_is) c.is_kept.ensures.few_names in
+    let done = admitted s.head s.history.exponent s.history.items c.args.batch.now c.self.invariant.0.head_is few fits some within octets in
     subst (λ (x : StoreView g.row.D.Denot). AreAdmitted (archive x.head x.exponent x.history) classified.fresh) c.self.view_is
     (subst (AreAdmitted (archive s.head s.history.exponent s.history.items)) (sym c.in-Ok.ensures.fresh) done)
 
@@ -92,10 +94,12 @@ returns-then-len-eq0-clause-ingested g c =
     let classified = c.in-Ok.classified in
     let items = c.self.inside.history.items in
     let zero : length classified.fresh ≡ 0 = omega (arith, c.len.ensures, c.if-len-eq0.true) in
+    let within : IsWithin c.self.inside.history.exponent (rows_in items) =
+    subst (λ (x : StoreView g.row.D.Denot). IsWithin x.exponent (rows_in x.history)) (sym c.self.view_is) c.is_kept.ensures.history.1 in
     subst (λ (x : StoreView g.row.D.Denot). AreIngested device x x rows classified.outcomes) c.self.view_is
     (record {
       healed = sym c.self.invariant.0.pending_fault_is ∙ c.in-None.is;
-      below = below_none _ _ items rows classified.fresh c.in-Ok.ensures.fresh zero c.len-known.ensures.within;
+      below = below_none _ _ items rows classified.fresh c.in-Ok.ensures.fresh zero within;
       outcomes_are = c.in-Ok.ensures.outcomes;
       history = nothing_added items rows classified.fresh c.in-Ok.ensures.fresh zero;
       fills = refl;

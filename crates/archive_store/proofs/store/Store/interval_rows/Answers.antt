@@ -29,7 +29,7 @@ returns-clause-rising g c =
     let items = c.self.inside.history.items in
     let i = c.args.interval in
     if_ok c.rows_of.result (λ (rows : List Row). rows ≡ rows_of_interval e i items) (λ (rows : List Row). IsStrictlySortedBy key_cmp (map (λ row. row.key) rows))
-    (λ rows is. (task_rows_in_order e items i rows is c.len.ensures.history).rising) c.rows_of.ensures
+    (λ rows is. (task_rows_in_order e items i rows is c.is_kept.ensures.history).rising) c.rows_of.ensures
 
 pub returns-clause-inside : goal.returns-clause-inside
 returns-clause-inside g c =
@@ -39,4 +39,4 @@ returns-clause-inside g c =
     let r = c.rows_of.result in
     subst (λ (x : StoreView g.row.D.Denot). IfOk r (AllByRecursion (λ row. interval_of x.exponent row.key.time ≡ i.0))) c.self.view_is
     (if_ok r (λ (rows : List Row). rows ≡ rows_of_interval e i items) (AllByRecursion (λ row. interval_of e row.key.time ≡ i.0))
-    (λ rows is. (task_rows_in_order e items i rows is c.len.ensures.history).inside) c.rows_of.ensures)
+    (λ rows is. (task_rows_in_order e items i rows is c.is_kept.ensures.history).inside) c.rows_of.ensures)

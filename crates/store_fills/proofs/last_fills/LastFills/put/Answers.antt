@@ -6,7 +6,7 @@ use Rattle.intervals.specs.declared.interval.Interval.{Interval}
 use Rattle.store_fills.specs.Sound.{with_filling}
 use Rattle.intervals.specs.Interval.{interval_cmp}
 use Rattle.store_fills.specs.declared.last_fills.LastFill.{LastFill}
-use Rattle.store_fills.specs.LastFills.{LastFillsView, ArePlaced, place_in, filling_at, filling_of, fillings_in}
+use Rattle.store_fills.specs.LastFills.{LastFillsView, HaveOwnPlaces, place_in, filling_at, filling_of, fillings_in}
 use Rattle.store_fills.proofs.FillPlaces.{fillings_new, placed_new, fillings_set}
 use Rattle.store_fills.proofs.last_fills.LastFills.put.Goals as goal
 
@@ -33,8 +33,8 @@ invariant_of-self-in-None c =
     let added = subst (λ (o : Option ℕ). IfNone o (IsAdded interval_cmp s.places c.insert.new.self i c.len-at.result)) (c.insert.ensures.found ∙ none) c.insert.ensures.absent in
     let at : c.len-at.result ≡ length s.fills.items = omega (arith, c.len-at.ensures, s.fills.ok.0) in
     let entries = added.0 ∙ ap (λ (n : ℕ). insert_entry interval_cmp s.places.entries i n) at in
-    subst (λ (l : List LastFill). ArePlaced c.insert.new.self.entries l) (sym c.push_reserved.ensures.items)
-    (subst (λ (e : List (Interval × ℕ)). ArePlaced e (s.fills.items ++ one ∷ [])) (sym entries) (placed_new s.places.entries s.fills.items i one c.self.invariant none))
+    subst (λ (l : List LastFill). HaveOwnPlaces c.insert.new.self.entries l) (sym c.push_reserved.ensures.items)
+    (subst (λ (e : List (Interval × ℕ)). HaveOwnPlaces e (s.fills.items ++ one ∷ [])) (sym entries) (placed_new s.places.entries s.fills.items i one c.self.invariant none))
 
 pub returns-in-None : goal.returns-in-None
 returns-in-None c =
