@@ -1,15 +1,20 @@
 -- A sheet of asks: how a command reads it before all else, checks it over an archive's head, and prints the answers.
-use Rattle.std.specs.Prelude.{◌≡◌, ◌⊎◌, ◌<◌, ℕ, ◌+◌, List, [], length, Option, Some, None, Result, Ok, Err}
+use Rattle.std.specs.Prelude.{◌≡◌, ◌⊎◌, ◌<◌, ℕ, ◌+◌, List, [], filter, length, Option, Some, None, Result, Ok, Err}
+use Rattle.arch_types.specs.Table.{is_in_time_range}
 use Rattle.asks.specs.declared.ask.Ask.{Ask}
 use Rattle.refusals.specs.declared.refusal.Refusal.{Refusal}
 use Rattle.refusals.specs.declared.refusal.Refusal.TheVariants.{OutOfMemory, WriteFault}
 use Rattle.archive_store.specs.Entries.{Archive, FilledArchive}
+use Rattle.archive_store.specs.Plans.{late_rows_of_range}
+use Rattle.archive_store.specs.StoreView.{StoreView}
 use Rattle.command_plans.specs.Plan.{OfMemory, CommandPlan, Return, Stop, May, Question, and_then, map_done}
 use Rattle.line_buffer.specs.Printed.{IsCutOff, IsPartPrinted, IsWritten}
 use Rattle.mdb_sheets.specs.Plans.{ask_sheet_plan}
 use Rattle.outer_traits.specs.Outside.{Files}
 use Rattle.outer_traits.specs.States.{OutputState}
 use Rattle.retrieval.specs.AskText.{ask_text, asks_refusal, asks_text}
+use Rattle.retrieval.specs.declared.found_asks.FoundAsk.{FoundAsk}
+use Rattle.retrieval.specs.declared.found_asks.FoundAsk.TheVariants as found_ask
 use Rattle.command_runs.specs.Command.{Progress, nothing_done}
 
 -- ---- the sheet is read
@@ -64,6 +69,13 @@ archive_ask_text filled k ask =
 abbrev pub archive_asks_text : FilledArchive → ℕ → List Ask → List ℕ
 archive_asks_text filled k asks =
     asks_text filled.plain.head filled.plain.exponent filled.plain.history filled.fillings k asks
+
+-- the most steps that an answer takes: one for each late row in the range of a request, and none for a replay
+abbrev pub steps_of_ask : {D : Type 0} → StoreView D → FoundAsk → ℕ
+steps_of_ask store (found_ask.Values asked) =
+    length (filter (is_in_time_range asked.request.from asked.request.to)
+    (late_rows_of_range store.exponent store.history store.fills asked.request.from asked.request.to))
+steps_of_ask store (found_ask.Replay asked) = 0
 
 -- how a text is printed in which asks are answered: all of it, or a prefix; memory may be wanting where there are asks
 abbrev pub ArePrinted : List Ask → Option Refusal → OutputState → OutputState → List ℕ → Type 0

@@ -1,21 +1,19 @@
 //! A sheet of asks: found in an archive's store, and answered over its history and its fills.
 
-ghost use Rattle.std.specs.Prelude.{◌≡◌, ◌<◌, ◌++◌, [], OnErr, IfOk, IfErr, length};
+ghost use Rattle.std.specs.Prelude.{◌≡◌, ◌+◌, ◌<◌, ◌≤◌, ◌++◌, [], OnErr, IfOk, IfErr, length, sum_by};
 ghost use Rattle.history_items.specs.Databases.{database_in};
-ghost use Rattle.store_fills.specs.LastFills.{fillings_in};
 ghost use Rattle.asks.specs.declared.ask.Ask.TheVariants.{Values};
 ghost use Rattle.archive_store.specs.Finding.{IsRequestFound};
 ghost use Rattle.archive_store.specs.StoreView.{archive_of, filled_of};
-ghost use Rattle.retrieval.specs.FilledAnswer.{IsFilledAnswer};
 ghost use Rattle.retrieval.specs.FoundAsks.{AreFound, IsAskFound, ask_found, asks_found};
 ghost use Rattle.line_buffer.specs.Printed.{PrintsText};
-ghost use Rattle.ask_answers.specs.Asks.{AreAnswerable, AreRefused, archive_ask_text, archive_asks_text};
+ghost use Rattle.ask_answers.specs.Asks.{AreAnswerable, AreRefused, archive_ask_text, archive_asks_text, steps_of_ask};
 ghost use Rattle.line_buffer.specs.LineRoom.{HasLineRoom};
 
 use arch_disk::Disk;
 use arch_types::steps::Steps;
 use archive_store::{FoundRequest, Store};
-use asks::{Answer, Asks};
+use asks::Asks;
 use line_buffer::LineBuffer;
 use outer_traits::print_fault::PrintFault;
 use outer_traits::sink::Sink;
@@ -24,9 +22,8 @@ use retrieval::answer::answer_request;
 use retrieval::answer_text::print_found;
 use retrieval::found_asks::{FoundAsk, FoundAsks, find_asks};
 use retrieval::replay::print_replay;
-use std::alloc::{AllocError, Global};
-use std::marker::Brand;
-use std::sync::ledger::{Blank, Ledger};
+use std::alloc::Global;
+use std::sync::ledger::Ledger;
 
 /// The asks of a sheet, where neither it nor one of them is refused. Each is found once, before the first is answered.
 pub fn check_asks<D: Disk>(
@@ -46,12 +43,13 @@ pub fn check_asks<D: Disk>(
 }
 
 /// Prints the answers to asks, numbered from 1, of which the last may still be buffered. Where there's none it always succeeds.
-pub fn print_asks<D: Disk, K: Sink>(
+pub fn print_asks<D: Disk, K: Sink, L: Ledger>(
     alloc: Global,
     asks: &[FoundAsk],
     store: &mut Store<D>,
     line_buffer: &mut LineBuffer,
     sink: &mut K,
+    steps: &mut Steps<L>,
 ) -> Result<(), PrintFault>
     requires found { AreFound store.old.head store.old.history asks.now }
     requires empty { line_buffer.old ≡ [] }
@@ -59,67 +57,55 @@ pub fn print_asks<D: Disk, K: Sink>(
         (archive_asks_text (filled_of store.old) 1 (asks_found asks.now)) line_buffer.new }
     ensures asked { OnErr result (0 < length (asks_found asks.now)) }
     ensures same { store.new ≡ store.old }
+    ensures steps { steps.new ≤ steps.old + sum_by (steps_of_ask store.old) asks.now }
 {
     for (i, ask) in asks.iter().enumerate() {
-        print_ask(alloc, i as u64 + 1, ask, store, line_buffer, sink)?;
+        print_ask(alloc, i as u64 + 1, ask, store, line_buffer, sink, steps)?;
     }
     Ok(())
 }
 
 /// Prints the answer to the ask with number `k`, counted from 1. The answer's end may still be buffered.
-fn print_ask<D: Disk, K: Sink>(
+fn print_ask<D: Disk, K: Sink, L: Ledger>(
     alloc: Global,
     k: u64,
     ask: &FoundAsk,
     store: &mut Store<D>,
     line_buffer: &mut LineBuffer,
     sink: &mut K,
+    steps: &mut Steps<L>,
 ) -> Result<(), PrintFault>
     requires found { IsAskFound store.old.head store.old.history ask.now }
     requires room { HasLineRoom line_buffer.old }
     ensures printed { PrintsText result (K.state sink.old) (K.state sink.new)
         (line_buffer.old ++ archive_ask_text (filled_of store.old) k (ask_found ask.now)) line_buffer.new }
     ensures same { store.new ≡ store.old }
+    ensures steps { steps.new ≤ steps.old + steps_of_ask store.old ask.now }
 {
     match ask {
-        FoundAsk::Values(found) => print_values(alloc, k, found, store, line_buffer, sink),
+        FoundAsk::Values(found) => print_values(alloc, k, found, store, line_buffer, sink, steps),
         FoundAsk::Replay(found) => print_replay(alloc, k, found, store, line_buffer, sink),
     }
 }
 
 /// Prints the answer to a request that was found, the ask with number `k`. The answer's end may still be buffered.
-fn print_values<D: Disk, K: Sink>(
+fn print_values<D: Disk, K: Sink, L: Ledger>(
     alloc: Global,
     k: u64,
     found: &FoundRequest,
     store: &mut Store<D>,
     line_buffer: &mut LineBuffer,
     sink: &mut K,
+    steps: &mut Steps<L>,
 ) -> Result<(), PrintFault>
     requires found { IsRequestFound (database_in store.old.head.mdb store.old.history) found.now }
     requires room { HasLineRoom line_buffer.old }
     ensures printed { PrintsText result (K.state sink.old) (K.state sink.new)
         (line_buffer.old ++ archive_ask_text (filled_of store.old) k (Values found.now.request)) line_buffer.new }
     ensures same { store.new ≡ store.old }
+    ensures steps { steps.new ≤ steps.old + steps_of_ask store.old (FoundAsk.Values found.now) }
 {
-    let answer = answer_of::<D, Brand>(alloc, Blank::new(1), store, found)?;
+    let answer = answer_request(alloc, store, found, steps)?;
     print_found(k, found, &answer, line_buffer, sink)?;
     Ok(())
-}
-
-/// The answer to a request, whose steps nobody counts.
-fn answer_of<D: Disk, L: Ledger>(
-    alloc: Global,
-    blank: Blank,
-    store: &mut Store<D>,
-    found: &FoundRequest,
-) -> Result<Answer, AllocError>
-    requires found { IsRequestFound (database_in store.old.head.mdb store.old.history) found.now }
-    requires blank { (blank.name ≡ L.name) × (blank.parts ≡ L.parts) × (0 < blank.parts) }
-    ensures filled { IfOk result (IsFilledAnswer (database_in store.old.head.mdb store.old.history)
-        store.old.exponent store.old.history (fillings_in store.old.filled) found.now.request) }
-    ensures same { store.new ≡ store.old }
-{
-    let (book, share) = blank.open::<L>();
-    answer_request(alloc, store, found, &mut Steps::new(book, share))
 }

@@ -1,6 +1,6 @@
 //! The command `values`: the cells of a parameter over a dump, as text.
 
-ghost use Rattle.std.specs.Prelude.{◌≡◌, ◌<◌, ◌+◌, ◌^◌, ◌++◌, [], IfOk, IsSome, length};
+ghost use Rattle.std.specs.Prelude.{◌≡◌, ◌<◌, ◌≤◌, ◌+◌, ◌^◌, ◌++◌, [], IfOk, IsSome, length};
 ghost use Rattle.std.specs.List.{AllByRecursion};
 ghost use Rattle.std.specs.Result.{result_err};
 ghost use Rattle.command_plans.specs.Ledger.{UsedClock};
@@ -95,15 +95,24 @@ fn work<D: Disk, I: Inputs, K: Sink, C: Clock>(
     let mut scan_input = read_scan_input(alloc, inputs, words.dump, clock)?;
     let known = known_parameter(alloc, &sheets, words.name)?;
     let line_buffer = &mut scan_input.line_buffer;
-    match print(alloc, &known, &scan_input.loaded, line_buffer, sink) {
+    match print::<K, Brand>(
+        alloc,
+        Blank::new(1),
+        &known,
+        &scan_input.loaded,
+        line_buffer,
+        sink,
+    ) {
         Ok(()) => ended(&scan_input.loaded),
         Err(fault) => Err(Refusal::from(fault)),
     }
 }
 
-/// Prints the cells in key order, and where nothing is left of the dump how many there are. Nothing stays buffered.
-fn print<K: Sink>(
+/// Prints the cells in key order, whose steps are counted in one book, and where nothing is left of the dump how many there
+/// are. Nothing stays buffered.
+fn print<K: Sink, L: Ledger>(
     alloc: Global,
+    blank: Blank,
     known: &KnownParameter,
     loaded: &DumpTable,
     line_buffer: &mut LineBuffer,
@@ -113,17 +122,13 @@ fn print<K: Sink>(
     requires shown { AllByRecursion IsVisible loaded.now.table.stored }
     requires few { length (sorted (rows_of loaded.now.table.stored)) < 2 ^ 64 }
     requires number { known.now.number < length known.now.mdb.parameters }
+    requires blank { (blank.name ≡ L.name) × (blank.parts ≡ L.parts) × (0 < blank.parts) }
     ensures { PrintsText result (K.state sink.old) (K.state sink.new)
         (text_of_cells known.now.mdb known.now.number loaded.now.table.stored loaded.now.why) [] }
 {
-    let count = print_cells::<K, Brand>(
-        alloc,
-        Blank::new(1),
-        known,
-        &loaded.table,
-        line_buffer,
-        sink,
-    )?;
+    let (book, share) = blank.open::<L>();
+    let mut steps = Steps::new(book, share);
+    let count = print_cells(alloc, known, &loaded.table, line_buffer, sink, &mut steps)?;
     put_end(line_buffer, loaded.why, count);
     line_buffer.flush(sink)?;
     Ok(())
@@ -143,28 +148,26 @@ fn put_end(line_buffer: &mut LineBuffer, why: Why, count: u64)
 /// Prints the cells of a table's rows in key order, of which the last may still be buffered, and counts them.
 fn print_cells<K: Sink, L: Ledger>(
     alloc: Global,
-    blank: Blank,
     known: &KnownParameter,
     table: &Table,
     line_buffer: &mut LineBuffer,
     sink: &mut K,
+    steps: &mut Steps<L>,
 ) -> Result<u64, PrintFault>
     requires empty { line_buffer.old ≡ [] }
     requires shown { AllByRecursion IsVisible table.now.stored }
     requires few { length (sorted (rows_of table.now.stored)) < 2 ^ 64 }
     requires number { known.now.number < length known.now.mdb.parameters }
-    requires blank { (blank.name ≡ L.name) × (blank.parts ≡ L.parts) × (0 < blank.parts) }
     ensures printed { PrintsText result (K.state sink.old) (K.state sink.new)
         (lines_of_cells known.now.mdb known.now.number table.now.stored) line_buffer.new }
     ensures count { IfOk result (λ count.
         count ≡ length (cells_of_stored known.now.mdb known.now.number table.now.stored)) }
+    ensures steps { steps.new ≤ steps.old + length (sorted (rows_of table.now.stored)) }
 {
     let mut extractor = Extractor::new(alloc)?;
-    let (book, share) = blank.open::<L>();
-    let mut steps = Steps::new(book, share);
     let mut count = 0;
     for row in table.rows_at(u64::MAX) {
-        count += put_cell_of(&mut extractor, known, row, line_buffer, &mut steps);
+        count += put_cell_of(&mut extractor, known, row, line_buffer, steps);
         line_buffer.flush_if_full(sink)?;
     }
     Ok(count)
@@ -182,6 +185,7 @@ fn put_cell_of<L: Ledger>(
     requires number { known.now.number < length known.now.mdb.parameters }
     ensures line { line_buffer.new ≡ line_buffer.old ++ line_of known.now.mdb known.now.number row.now }
     ensures count { result ≡ cells_in_row known.now.mdb known.now.number row.now }
+    ensures step { steps.new ≡ steps.old + 1 }
 {
     match cell_of(extractor, &known.mdb, known.number, row, steps) {
         None => 0,

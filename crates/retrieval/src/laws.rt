@@ -12,7 +12,7 @@ pub fn filled_is_answered()
     ensures { FilledIsAnswered }
 {}
 
-/// Fills of late intervals, over the whole history, change nothing of what asks are answered.
+/// Right fills of late intervals change nothing of what asks are answered.
 pub fn added_fills_answer_alike()
     ensures { AddedFillsAnswerAlike }
 {}

@@ -16,6 +16,8 @@ use Rattle.archive_history.specs.History.{rows_in_table}
 use Rattle.archive_store.specs.declared.head.Head.{Head}
 use Rattle.archive_store.specs.Entries.{Archive}
 use Rattle.archive_store.specs.Replays.{ArePartitions}
+use Rattle.replay_merge.specs.Replay.{rows_asked}
+use Rattle.ssql_conditions.specs.ConditionBounds.{bounds_of}
 use Rattle.ssql_select.specs.declared.show.ShowLine.{ShowLine}
 use Rattle.ssql_select.specs.declared.show.ShowLine.TheVariants.{Histogram}
 use Rattle.ssql_select.specs.SelectionText.{selection_text}
@@ -90,3 +92,19 @@ statement_text archive (ts.ShowPartitions table) =
 -- the answers to statements, one behind the other
 abbrev pub statements_text : Archive → List TypedStatement → List ℕ
 statements_text archive statements = flat_map (statement_text archive) statements
+
+-- ---- steps
+
+-- the rows of a table in some bounds
+abbrev pub rows_in_bounds : Bounds → List Row → ℕ → List Row
+rows_in_bounds bounds rows table = rows_asked table bounds.from bounds.to bounds.names rows
+
+-- the most steps that an answer takes: one for each row of a query's sources in the bounds of its condition
+abbrev pub steps_of_statement : List Item → TypedStatement → ℕ
+steps_of_statement history (ts.CreateTable name) = 0
+steps_of_statement history (ts.CreateStream flow) = 0
+steps_of_statement history (ts.Insert table flow) = 0
+steps_of_statement history (ts.Select select) =
+    length (flat_map (rows_in_bounds (bounds_of select.condition) (rows_in history)) select.sources)
+steps_of_statement history (ts.ShowHistogram table) = 0
+steps_of_statement history (ts.ShowPartitions table) = 0

@@ -1,6 +1,6 @@
 //! The answers of an archive to the statements of a script.
 
-ghost use Rattle.std.specs.Prelude.{◌≡◌, ◌<◌, ◌++◌, length, map, IfOk, IfErr, OnOk};
+ghost use Rattle.std.specs.Prelude.{◌≡◌, ◌+◌, ◌<◌, ◌≤◌, ◌++◌, length, map, sum_by, IfOk, IfErr, OnOk};
 ghost use Rattle.std.specs.List.{AllByRecursion};
 ghost use Rattle.archive_store.specs.StoreView.{archive_of};
 ghost use Rattle.history_items.specs.Items.{rows_in};
@@ -32,48 +32,51 @@ use ssql_select::show::{ShowLine, partition_lines, print_show};
 use ssql_types::query::TypedSelect;
 use ssql_types::statement::TypedStatement;
 use std::alloc::{AllocError, Global};
-use std::marker::Brand;
-use std::sync::ledger::{Blank, Ledger};
+use std::sync::ledger::Ledger;
 
 /// Prints the answers to statements, of which the last may still be buffered.
-pub fn answer_statements<D: Disk, K: Sink>(
+pub fn answer_statements<D: Disk, K: Sink, L: Ledger>(
     alloc: Global,
     statements: &[TypedStatement],
     names: &Names,
     store: &Store<D>,
     line_buffer: &mut LineBuffer,
     sink: &mut K,
+    steps: &mut Steps<L>,
 ) -> Result<(), PrintFault>
     requires names { names.now ≡ spec.packet_names store.now.head store.now.history }
     requires tables { AllByRecursion (NamesTables (length store.now.head.tables)) statements.now }
     requires room { HasLineRoom line_buffer.old }
-    ensures { PrintsText result (K.state sink.old) (K.state sink.new)
+    ensures printed { PrintsText result (K.state sink.old) (K.state sink.new)
         (line_buffer.old ++ spec.statements_text (archive_of store.now) statements.now) line_buffer.new }
+    ensures steps { steps.new ≤ steps.old + sum_by (spec.steps_of_statement store.now.history) statements.now }
 {
     for statement in statements {
-        answer_statement(alloc, statement, names, store, line_buffer, sink)?;
+        answer_statement(alloc, statement, names, store, line_buffer, sink, steps)?;
     }
     Ok(())
 }
 
 /// Prints the answer to a statement, whose end may still be buffered.
-fn answer_statement<D: Disk, K: Sink>(
+fn answer_statement<D: Disk, K: Sink, L: Ledger>(
     alloc: Global,
     statement: &TypedStatement,
     names: &Names,
     store: &Store<D>,
     line_buffer: &mut LineBuffer,
     sink: &mut K,
+    steps: &mut Steps<L>,
 ) -> Result<(), PrintFault>
     requires names { names.now ≡ spec.packet_names store.now.head store.now.history }
     requires tables { NamesTables (length store.now.head.tables) statement.now }
     requires room { HasLineRoom line_buffer.old }
-    ensures { PrintsText result (K.state sink.old) (K.state sink.new)
+    ensures printed { PrintsText result (K.state sink.old) (K.state sink.new)
         (line_buffer.old ++ spec.statement_text (archive_of store.now) statement.now) line_buffer.new }
+    ensures steps { steps.new ≤ steps.old + spec.steps_of_statement store.now.history statement.now }
 {
     match statement {
         TypedStatement::Select(query) => {
-            print_selection(alloc, query, names, store, line_buffer, sink)
+            print_selection(alloc, query, names, store, line_buffer, sink, steps)
         }
         TypedStatement::ShowHistogram(table) => {
             print_spans(alloc, *table, names, store, line_buffer, sink)
@@ -98,22 +101,25 @@ fn memory_fault(refusal: Refusal) -> PrintFault
 }
 
 /// Prints what a query selects.
-fn print_selection<D: Disk, K: Sink>(
+fn print_selection<D: Disk, K: Sink, L: Ledger>(
     alloc: Global,
     query: &TypedSelect,
     names: &Names,
     store: &Store<D>,
     line_buffer: &mut LineBuffer,
     sink: &mut K,
+    steps: &mut Steps<L>,
 ) -> Result<(), PrintFault>
     requires names { names.now ≡ spec.packet_names store.now.head store.now.history }
     requires tables { AllByRecursion (λ table. table < length store.now.head.tables) query.now.sources }
     requires room { HasLineRoom line_buffer.old }
-    ensures { PrintsText result (K.state sink.old) (K.state sink.new)
+    ensures printed { PrintsText result (K.state sink.old) (K.state sink.new)
         (line_buffer.old ++ spec.statement_text (archive_of store.now) (TypedStatement.Select query.now))
         line_buffer.new }
+    ensures steps { steps.new ≤ steps.old
+        + spec.steps_of_statement store.now.history (TypedStatement.Select query.now) }
 {
-    match selection::<D, Brand>(alloc, Blank::new(1), query, names, store) {
+    match selection(alloc, query, names, store, steps) {
         Ok(text) => text.print(alloc, line_buffer, sink),
         Err(refusal) => Err(memory_fault(refusal)),
     }
@@ -163,25 +169,24 @@ fn print_spans<D: Disk, K: Sink>(
     }
 }
 
-/// What a query selects of the rows of an archive, in steps that nobody counts.
+/// What a query selects of the rows of an archive.
 fn selection<'a, D: Disk, L: Ledger>(
     alloc: Global,
-    blank: Blank,
     query: &'a TypedSelect,
     names: &'a Names,
     store: &Store<D>,
+    steps: &mut Steps<L>,
 ) -> Result<SelectionText<'a>, Refusal>
     requires tables { AllByRecursion (λ table. table < length store.now.head.tables) query.now.sources }
-    requires blank { (blank.name ≡ L.name) × (blank.parts ≡ L.parts) × (0 < blank.parts) }
     ensures text { IfOk result (λ text. text ≡ selection_text names.now query.now (rows_in store.now.history)) }
+    ensures steps { steps.new ≤ steps.old
+        + spec.steps_of_statement store.now.history (TypedStatement.Select query.now) }
     ensures refused { IfErr result (λ refusal. refusal ≡ Refusal.OutOfMemory) }
 {
     let parts = held_parts(alloc, query, store)?;
-    let (book, share) = blank.open::<L>();
-    let mut steps = Steps::new(book, share);
     let mut source = store.source();
     let front = store.front();
-    Ok(select(alloc, query, names, &mut source, &parts, front, &mut steps)?)
+    Ok(select(alloc, query, names, &mut source, &parts, front, steps)?)
 }
 
 /// The partitions that hold what a query selects: of each source those that may hold a row in the bounds of the condition.

@@ -1,11 +1,12 @@
-use Rattle.std.proofs.Common.{◌≡◌, ◌∙◌, ◌+◌, ◌++◌, ◌<◌, ◌∷◌, length, drop, ap, arith, subst, sym}
+use Rattle.std.proofs.Common.{◌≡◌, ◌∙◌, ◌+◌, ◌++◌, ◌<◌, ◌≤◌, ◌∷◌, length, drop, ap, arith, subst, sym}
 use Rattle.std.proofs.lemmas.List.{drop_all, drop_more, length-map}
+use Rattle.std.proofs.lemmas.List.Sums.{sum_by_more, sum_by_more_le, sum_by-take-le}
 use Rattle.std.proofs.lemmas.Result.{err_from_is_err_and}
 use Rattle.archive_store.specs.StoreView.{StoreView, filled_of}
 use Rattle.outer_traits.specs.Outside.{WritesSome}
 use Rattle.line_buffer.specs.Output.{IsBuffered}
 use Rattle.line_buffer.proofs.LineBuffers.{buffered_more, buffered_some}
-use Rattle.ask_answers.specs.Asks.{archive_ask_text, archive_asks_text}
+use Rattle.ask_answers.specs.Asks.{archive_ask_text, archive_asks_text, steps_of_ask}
 use Rattle.retrieval.specs.declared.found_asks.FoundAsk.{FoundAsk}
 use Rattle.retrieval.specs.FoundAsks.{AreFound, IsAskFound, ask_found, asks_found}
 use Rattle.ask_answers.proofs.AskSheets.{next_text, no_text, one_failed}
@@ -30,12 +31,18 @@ loop-i-preserved g c =
     let before = next_text filled (i + 1) first now all held (asks_found (drop i asks)) (ask_found ask) (asks_found rest) (ap asks_found step) c.loop-i.invariant.buffered in
     let put : IsBuffered now new (held ++ archive_ask_text filled (i + 1) (ask_found ask)) last =
     subst (λ (x : StoreView g.row.D.Denot). IsBuffered now new (held ++ archive_ask_text (filled_of x) (i + 1) (ask_found ask)) last) c.loop-i.invariant.same c.in_ok-print_ask.ensures.printed.buffered in
+    let most = steps_of_ask c.args.store.now in
+    let took : c.print_ask.new.steps ≤ c.loop-i.steps + most ask =
+    subst (λ (x : StoreView g.row.D.Denot). c.print_ask.new.steps ≤ c.loop-i.steps + steps_of_ask x ask) c.loop-i.invariant.same c.print_ask.ensures.steps in
+    let more = sum_by_more most asks i ask lt in
+    let own = ap most c.index-asks-i.is in
     record {
       buffered = buffered_more first now new all (held ++ archive_ask_text filled (i + 1) (ask_found ask)) last (archive_asks_text filled (i + 1 + 1) (asks_found rest)) before put;
       room = c.in_ok-print_ask.ensures.printed.room;
       found = (subst (AreFound head c.args.store.now.history) step c.loop-i.invariant.found).1;
       no_fault = c.in_ok-print_ask.ensures.printed.no_fault ∙ c.loop-i.invariant.no_fault;
       same = c.print_ask.ensures.same ∙ c.loop-i.invariant.same;
+      steps = omega (arith, took, more, own, c.loop-i.invariant.steps);
     }
 
 pub returns-in_err-print_ask-clause-printed : goal.returns-in_err-print_ask-clause-printed
@@ -79,6 +86,24 @@ returns-in_err-print_ask-clause-asked g c =
     let same = length-map c.args.asks.now ask_found in
     let p = err_from_is_err_and c.from_residual.result c.from_residual.ensures.1 in
     rw p.1 (omega (arith, lt, same))
+
+pub returns-in_err-print_ask-clause-steps : goal.returns-in_err-print_ask-clause-steps
+returns-in_err-print_ask-clause-steps g c =
+    let asks = c.args.asks.now in
+    let i = c.loop-i.i in
+    let ask = c.index-asks-i.result in
+    let lt : i < length asks = omega arith in
+    let most = steps_of_ask c.args.store.now in
+    let took : c.print_ask.new.steps ≤ c.loop-i.steps + most ask =
+    subst (λ (x : StoreView g.row.D.Denot). c.print_ask.new.steps ≤ c.loop-i.steps + steps_of_ask x ask) c.loop-i.invariant.same c.print_ask.ensures.steps in
+    let more = sum_by_more_le most asks i ask lt in
+    let own = ap most c.index-asks-i.is in
+    omega (arith, took, more, own, c.loop-i.invariant.steps)
+
+pub returns-clause-steps : goal.returns-clause-steps
+returns-clause-steps g c =
+    let few = sum_by-take-le (steps_of_ask c.args.store.now) c.args.asks.now c.loop-i.i in
+    omega (arith, few, c.loop-i.invariant.steps)
 
 pub returns-clause-printed : goal.returns-clause-printed
 returns-clause-printed g c =

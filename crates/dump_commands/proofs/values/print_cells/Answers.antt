@@ -1,4 +1,4 @@
-use Rattle.std.proofs.Common.{◌≡◌, ◌∙◌, ◌++◌, ◌∷◌, arith, refl}
+use Rattle.std.proofs.Common.{◌≡◌, ◌∙◌, ◌++◌, ◌∷◌, length, ap, arith, refl}
 use Rattle.std.specs.Prelude.{flat_map}
 use Rattle.std.proofs.lemmas.Result.{err_from_is_err_and}
 use Rattle.arch_types.specs.Table.{sorted}
@@ -17,6 +17,7 @@ loop-row-init g c =
           (buffered_none (g.K.Sink.state c.args.sink.now).written (lines_of_cells c.args.known.now.mdb c.args.known.now.number c.args.table.now.stored));
       room = rw c.requires.empty (omega arith);
       counted = rw (c.into_iter-row-iterator.ensures.into_iter_gives, c.rows_at-row-items.ensures, seen) (omega arith);
+      steps = rw (c.into_iter-row-iterator.ensures.into_iter_gives, c.rows_at-row-items.ensures, seen) (omega arith);
       no_fault = refl;
     }
 
@@ -41,13 +42,24 @@ loop-row-preserved g c =
     let flushed : IsBuffered (g.K.Sink.state c.loop-row.sink).written (g.K.Sink.state c.flush_if_full.new.sink).written (c.loop-row.line_buffer ++ line_of db number c.in-Some.row.now) c.flush_if_full.new.self =
     rw c.put_cell_of-count.ensures.line at c.in_ok-flush_if_full.ensures.buffered in
     let total = rw step at c.loop-row.invariant.counted in
+    let left = ap length step in
     let next = count_next db number c.in-Some.row.now c.next.new.self in record {
       buffered = buffered_more first (g.K.Sink.state c.loop-row.sink).written (g.K.Sink.state c.flush_if_full.new.sink).written lines (c.loop-row.line_buffer ++ line_of db number c.in-Some.row.now) c.flush_if_full.new.self
           (flat_map (line_of db number) c.next.new.self) before flushed;
       room = c.in_ok-flush_if_full.ensures.room;
       counted = omega (arith, total, next, c.put_cell_of-count.ensures.count);
+      steps = omega (arith, left, c.put_cell_of-count.ensures.step, c.loop-row.invariant.steps);
       no_fault = c.in_ok-flush_if_full.ensures.no_fault ∙ c.loop-row.invariant.no_fault;
     }
+
+pub returns-clause-steps : goal.returns-clause-steps
+returns-clause-steps g c = omega (arith, c.loop-row.invariant.steps)
+
+pub returns-in_err-flush_if_full-clause-steps : goal.returns-in_err-flush_if_full-clause-steps
+returns-in_err-flush_if_full-clause-steps g c =
+    let step : c.loop-row.row-iterator ≡ c.in-Some.row.now ∷ c.next.new.self = let s = c.in-Some.ensures.steps in cc in
+    let left = ap length step in
+    omega (arith, left, c.put_cell_of-count.ensures.step, c.loop-row.invariant.steps)
 
 pub returns-in_err-extractor-clause-printed : goal.returns-in_err-extractor-clause-printed
 returns-in_err-extractor-clause-printed g c =

@@ -1,6 +1,8 @@
-use Rattle.std.proofs.Common.{◌≡◌, ◌+◌, ◌++◌, length}
+use Rattle.std.proofs.Common.{◌≡◌, ◌+◌, ◌≤◌, ◌++◌, length}
 use Rattle.std.specs.Prelude.{flat_map}
 use Rattle.std.specs.List.{filter_map}
+use Rattle.arch_types.specs.Table.{sorted}
+use Rattle.yarch_table.specs.Stored.{rows_of}
 use Rattle.container_extract.specs.Extraction.{cell_of}
 use Rattle.outer_traits.specs.Outside.{Stays}
 use Rattle.line_buffer.specs.Output.{IsBuffered}
@@ -14,5 +16,6 @@ invariant-loop-row g l = record {
       (l.line_buffer ++ flat_map (line_of l.known.mdb l.known.number) l.row-iterator);
   room : HasLineRoom l.line_buffer;
   counted : l.count + length (filter_map (cell_of l.known.mdb l.known.number) l.row-iterator) ≡ length (cells_of_stored l.known.mdb l.known.number l.table.stored);
+  steps : l.steps + length l.row-iterator ≤ l.initial.steps + length (sorted (rows_of l.table.stored));
   no_fault : Stays (g.K.Sink.state l.fn.sink).faults (g.K.Sink.state l.sink).faults;
 }

@@ -17,14 +17,19 @@ use Rattle.dump_commands.proofs.ValuesPlan.{dump_was_unread, inputs_were_read, r
 use Rattle.retrieval.proofs.Parameters.{number_within}
 use Rattle.dump_commands.proofs.values.work.Goals as goal
 
-pub print-requires : goal.print-requires
-print-requires g c =
-    let received = c.in_ok-scan_input.ensures.read in record {
-      empty = c.in_ok-scan_input.ensures.empty;
-      shown = received.rows.gathered.shown;
-      few = rows_few received.dump received.moment c.in_ok-scan_input.scan_input.loaded received.rows received.short;
-      number = number_within c.in_ok-sheets.sheets c.args.words.name.now c.in_ok-known.known.mdb c.in_ok-known.known.number c.in_ok-known.ensures.known;
-    }
+pub print-requires-clause-empty : goal.print-requires-clause-empty
+print-requires-clause-empty g c = c.in_ok-scan_input.ensures.empty
+
+pub print-requires-clause-shown : goal.print-requires-clause-shown
+print-requires-clause-shown g c = c.in_ok-scan_input.ensures.read.rows.gathered.shown
+
+pub print-requires-clause-few : goal.print-requires-clause-few
+print-requires-clause-few g c =
+    let received = c.in_ok-scan_input.ensures.read in rows_few received.dump received.moment c.in_ok-scan_input.scan_input.loaded received.rows received.short
+
+pub print-requires-clause-number : goal.print-requires-clause-number
+print-requires-clause-number g c =
+    number_within c.in_ok-sheets.sheets c.args.words.name.now c.in_ok-known.known.mdb c.in_ok-known.known.number c.in_ok-known.ensures.known
 
 pub returns-in_err-sheets-clause-ran : goal.returns-in_err-sheets-clause-ran
 returns-in_err-sheets-clause-ran g c = λ disk.
