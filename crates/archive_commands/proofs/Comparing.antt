@@ -12,7 +12,7 @@ use Rattle.archive_store.specs.Entries.{FilledArchive}
 use Rattle.archive_store.specs.StoreView.{StoreView, filled_of}
 use Rattle.archive_verify.specs.declared.compared_sets.SetDifference.{SetDifference}
 use Rattle.archive_verify.specs.declared.verified.Sound.{Sound}
-use Rattle.archive_verify.specs.Verified.{IsCounted, IsVerifyRefusal, database_of}
+use Rattle.archive_verify.specs.Verified.{IsCounted, IsVerifyRefusal, database_of_archive}
 use Rattle.archive_verify.proofs.Counting.{late_by_bases}
 use Rattle.archive_verify.proofs.Currents.{mismatch_unsound, one_mismatch}
 use Rattle.command_plans.specs.Plan.{EachEnd, IsDetermined}
@@ -33,7 +33,7 @@ one_named : (filled : FilledArchive) (a b : Refusal) → IsCompared filled (Some
 one_named filled (Mismatch i n k s r) (Mismatch j m l t q) is other =
     let both = one_mismatch filled i j (record { parameter = is.parameter; cells = record { key = k; stored = s; replayed = r } }) (record { parameter = other.parameter; cells = record { key = l; stored = t; replayed = q } }) is.first other.first in
     let number : is.parameter ≡ other.parameter = ap (λ (d : SetDifference). d.parameter) both.1 in
-    let name : n ≡ m = same_name n m (sym is.named ∙ ap (slice_get (map (λ p. p.name) (database_of filled).parameters)) number ∙ other.named) in
+    let name : n ≡ m = same_name n m (sym is.named ∙ ap (slice_get (map (λ p. p.name) (database_of_archive filled).parameters)) number ∙ other.named) in
     λ h. Mismatch (both.0 h) (name h) (both.1 h).cells.key (both.1 h).cells.stored (both.1 h).cells.replayed
 one_named filled (Mismatch i n k s r) b is none = absurd none
 one_named filled a b none is = absurd none

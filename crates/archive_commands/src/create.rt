@@ -181,8 +181,7 @@ fn with_created(tables: Names, script: &[TypedStatement]) -> Result<Names, Alloc
     let mut all = tables;
     for statement in script {
         if let TypedStatement::CreateTable(name) = statement {
-            // This tells the proof that it is a name.
-            name.as_slice();
+            name.is_name();
             all.push(name.copy()?)?;
         }
     }

@@ -10,7 +10,6 @@ use arch_disk::Disk;
 use archive_store::Store;
 use command_runs::archive_work::{ArchiveWork, with_archive};
 use command_runs::finishing::finish;
-use command_runs::healing::heal;
 use command_runs::report::{Ended, Report};
 use line_buffer::LineBuffer;
 use load_session::fill_late;
@@ -35,7 +34,7 @@ pub fn recover<D: Disk, K: Sink>(alloc: Global, disk: D, sink: &mut K) -> Ended<
     // The number of the refusal, and 0 exactly where there's none.
     ensures status { result.status ≡ status_at result.report.refusal }
 {
-    Ended::of_work(with_archive(alloc, disk, sink, Recovering))
+    Ended::of_work(with_archive(alloc, disk, &mut (), sink, Recovering))
 }
 
 /// The filling of late intervals, as a work with an archive.
@@ -45,28 +44,30 @@ struct Recovering;
 impl ArchiveWork for Recovering {
     ghost use Rattle.archive_commands.specs.Recover.{recovering_plan};
 
-    ghost plan = { λ job records found. recovering_plan records found };
+    type Input = ();
+
+    ghost plan = { λ work records found. recovering_plan records found };
 
     fn work<D: Disk, K: Sink>(
         self,
         alloc: Global,
-        store: &mut Store<D>,
+        store: Store<D>,
+        _input: &mut (),
         line_buffer: LineBuffer,
         sink: &mut K,
-    ) -> Report {
+    ) -> (Store<D>, Report) {
+        let mut store = store;
         let mut line_buffer = line_buffer;
         store.is_kept();
         let front = store.front();
         let rows = store.row_count();
-        let filled = fill_late(alloc, store);
-        heal(store);
-        match filled {
+        match fill_late(alloc, &mut store) {
             Ok(filled) => {
                 put_recovered(&mut line_buffer, rows, filled);
                 let refusal = finish(line_buffer, sink);
-                Report::read_only(refusal, front)
+                (store, Report::read_only(refusal, front))
             }
-            Err(refusal) => Report::read_only(Some(refusal), front),
+            Err(refusal) => (store, Report::read_only(Some(refusal), front)),
         }
     }
 }

@@ -36,7 +36,7 @@ pub fn verify<D: Disk, K: Sink>(alloc: Global, disk: D, sink: &mut K) -> Ended<D
     // The number of the refusal, and 0 exactly where there's none.
     ensures status { result.status ≡ status_at result.report.refusal }
 {
-    Ended::of_work(with_archive(alloc, disk, sink, Verifying))
+    Ended::of_work(with_archive(alloc, disk, &mut (), sink, Verifying))
 }
 
 /// The comparing of what is stored, as a work with an archive.
@@ -46,18 +46,22 @@ struct Verifying;
 impl ArchiveWork for Verifying {
     ghost use Rattle.archive_commands.specs.Verify.{compare_plan};
 
-    ghost plan = { λ job records found. compare_plan found };
+    type Input = ();
+
+    ghost plan = { λ work records found. compare_plan found };
 
     fn work<D: Disk, K: Sink>(
         self,
         alloc: Global,
-        store: &mut Store<D>,
+        store: Store<D>,
+        _input: &mut (),
         line_buffer: LineBuffer,
         sink: &mut K,
-    ) -> Report {
+    ) -> (Store<D>, Report) {
+        let mut store = store;
         let front = store.front();
-        let refusal = compare(alloc, store, line_buffer, sink);
-        Report::read_only(refusal, front)
+        let refusal = compare(alloc, &mut store, line_buffer, sink);
+        (store, Report::read_only(refusal, front))
     }
 }
 

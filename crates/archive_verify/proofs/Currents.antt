@@ -25,7 +25,7 @@ use Rattle.archive_verify.specs.declared.differences.CellDifference.{CellDiffere
 use Rattle.archive_verify.specs.declared.compared_sets.SetDifference.{SetDifference}
 use Rattle.archive_verify.specs.Differences.{IsFirstDifference}
 use Rattle.archive_verify.specs.ComparedSets.{IsFirstSetDifference}
-use Rattle.archive_verify.specs.Verified.{HoldBelow, HoldCurrentFills, HoldsInterval, HoldsWhereCurrent, IsCurrentFill, IsFirstMismatch, IsIntervalMismatch, IsMismatchOf, IsVerifyRefusal, database_of, replayed_cells}
+use Rattle.archive_verify.specs.Verified.{HoldBelow, HoldCurrentFills, HoldsInterval, HoldsWhereCurrent, IsCurrentFill, IsFirstMismatch, IsIntervalMismatch, IsMismatchOf, IsVerifyRefusal, database_of_archive, replayed_cells}
 use Rattle.archive_verify.proofs.FirstDifferences.{differ_not_same, one_difference}
 
 some_is : {A : Type 0} (x y : A) → ◌≡◌ {A = Option A} (Some x) (Some y) → x ≡ y
@@ -52,18 +52,18 @@ none_current store i bases (inr none) f is = absurd (let both : None ≡ Some f 
 
 -- a difference of the current set from the one that an interval's rows give is a mismatch
 pub mismatch_of_sets : (filled : FilledArchive) (i : Interval) (f : Filling (List SetRow)) (replayed : List SetRow) (d : SetDifference) → IsCurrentFill filled i f
-    → ((q : ℕ) → set_cells (database_of filled) q replayed ≡ replayed_cells filled i q) → IsFirstSetDifference (database_of filled) f.set replayed d → IsIntervalMismatch filled i d
+    → ((q : ℕ) → set_cells (database_of_archive filled) q replayed ≡ replayed_cells filled i q) → IsFirstSetDifference (database_of_archive filled) f.set replayed d → IsIntervalMismatch filled i d
 mismatch_of_sets filled i f replayed d current gives is = record {
   fill = f;
   current = current;
   known = is.known;
-  first = subst (λ (cells : List Cell). IsFirstDifference (set_cells (database_of filled) d.parameter f.set) cells d.cells) (gives d.parameter) is.first;
+  first = subst (λ (cells : List Cell). IsFirstDifference (set_cells (database_of_archive filled) d.parameter f.set) cells d.cells) (gives d.parameter) is.first;
   before = λ q lt. is.before q lt ∙ gives q;
 }
 
 -- where they don't differ, the current fill holds what the rows give
 pub holds_of_sets : (filled : FilledArchive) (i : Interval) (f : Filling (List SetRow)) (replayed : List SetRow) → IsCurrentFill filled i f
-    → ((q : ℕ) → set_cells (database_of filled) q replayed ≡ replayed_cells filled i q) → ((q : ℕ) → set_cells (database_of filled) q f.set ≡ set_cells (database_of filled) q replayed) → HoldsWhereCurrent filled i
+    → ((q : ℕ) → set_cells (database_of_archive filled) q replayed ≡ replayed_cells filled i q) → ((q : ℕ) → set_cells (database_of_archive filled) q f.set ≡ set_cells (database_of_archive filled) q replayed) → HoldsWhereCurrent filled i
 holds_of_sets filled i f replayed current gives same g is =
     subst (λ (h : Filling (List SetRow)). HoldsInterval filled i h) (one_fill filled i f g current is) (λ q. same q ∙ gives q)
 
@@ -72,7 +72,7 @@ holds_of_sets filled i f replayed current gives same g is =
 -- a fill that stands for an interval with a mismatch doesn't hold what the rows give
 pub mismatch_not_held : (filled : FilledArchive) (i : Interval) (d : SetDifference) → IsIntervalMismatch filled i d → HoldsWhereCurrent filled i → ⊥
 mismatch_not_held filled i d is holds =
-    differ_not_same (set_cells (database_of filled) d.parameter is.fill.set) (replayed_cells filled i d.parameter) d.cells is.first (holds is.fill is.current d.parameter)
+    differ_not_same (set_cells (database_of_archive filled) d.parameter is.fill.set) (replayed_cells filled i d.parameter) d.cells is.first (holds is.fill is.current d.parameter)
 
 pub mismatch_unsound : (filled : FilledArchive) (i : Interval) (d : SetDifference) → IsFirstMismatch filled i d → HoldCurrentFills filled → ⊥
 mismatch_unsound filled i d is holds = mismatch_not_held filled i d is.here (holds i)
@@ -99,7 +99,7 @@ one_here : (filled : FilledArchive) (i : Interval) (c d : SetDifference) → IsI
 one_here filled i c d is other = both parameter
   where
     cells : ℕ → Filling (List SetRow) → List Cell
-    cells q f = set_cells (database_of filled) q f.set
+    cells q f = set_cells (database_of_archive filled) q f.set
 
     not_below : (x y : SetDifference) → IsIntervalMismatch filled i x → IsIntervalMismatch filled i y → x.parameter < y.parameter → ⊥
     not_below x y first second lt =
@@ -176,7 +176,7 @@ first_of_all store is interval d filled here below = record {
 
 -- the refusal that names it is one of the archive
 pub named_refusal : {D : Type 0} (store : StoreView D) (is : List Interval) (interval : Interval) (d : SetDifference) (refusal : Refusal) → ((j : Interval) → IsSome (fillings_in store.filled j) → list_any (is_same j) is ≡ true)
-    → IsIntervalMismatch (filled_of store) interval d → HoldBelow (filled_of store) is interval → IsMismatchOf (database_of (filled_of store)) interval d refusal → IsVerifyRefusal (filled_of store) refusal
+    → IsIntervalMismatch (filled_of store) interval d → HoldBelow (filled_of store) is interval → IsMismatchOf (database_of_archive (filled_of store)) interval d refusal → IsVerifyRefusal (filled_of store) refusal
 named_refusal store is interval d (Mismatch i name key stored replayed) filled here below of =
     let first = first_of_all store is interval d filled here below in record {
       parameter = d.parameter;

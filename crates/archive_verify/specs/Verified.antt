@@ -25,13 +25,13 @@ use Rattle.archive_verify.specs.declared.verified.Sound.{Sound}
 use Rattle.archive_verify.specs.Differences.{IsFirstDifference}
 
 -- the database in force in an archive
-abbrev pub database_of : FilledArchive → Database
-database_of filled = database_in filled.plain.head.mdb filled.plain.history
+abbrev pub database_of_archive : FilledArchive → Database
+database_of_archive filled = database_in filled.plain.head.mdb filled.plain.history
 
 -- the cells of a parameter that an interval's rows give
 abbrev pub replayed_cells : FilledArchive → Interval → ℕ → List Cell
 replayed_cells filled interval q =
-    filter_map (cell_of (database_of filled) q) (rows_of_interval filled.plain.exponent interval filled.plain.history)
+    filter_map (cell_of (database_of_archive filled) q) (rows_of_interval filled.plain.exponent interval filled.plain.history)
 
 -- ---- sound
 
@@ -43,7 +43,7 @@ pub record IsCurrentFill (filled : FilledArchive) (interval : Interval) (f : Fil
 -- it holds the cells that the interval's rows give of each parameter
 abbrev pub HoldsInterval : FilledArchive → Interval → Filling (List SetRow) → Type 0
 HoldsInterval filled interval f =
-    HoldsRows (database_of filled) f.set (rows_of_interval filled.plain.exponent interval filled.plain.history)
+    HoldsRows (database_of_archive filled) f.set (rows_of_interval filled.plain.exponent interval filled.plain.history)
 
 -- so does the fill that stands for an interval, if one does
 abbrev pub HoldsWhereCurrent : FilledArchive → Interval → Type 0
@@ -65,11 +65,11 @@ HoldBelow filled intervals bound = (other : Interval) → list_any (is_same othe
 pub record IsIntervalMismatch (filled : FilledArchive) (interval : Interval) (d : SetDifference) : Type 0 where
   pub fill : Filling (List SetRow)
   pub current : IsCurrentFill filled interval fill
-  pub known : d.parameter < length (database_of filled).parameters
-  pub first : IsFirstDifference (set_cells (database_of filled) d.parameter fill.set)
+  pub known : d.parameter < length (database_of_archive filled).parameters
+  pub first : IsFirstDifference (set_cells (database_of_archive filled) d.parameter fill.set)
       (replayed_cells filled interval d.parameter) d.cells
   pub before : (q : ℕ) → q < d.parameter →
-      set_cells (database_of filled) q fill.set ≡ replayed_cells filled interval q
+      set_cells (database_of_archive filled) q fill.set ≡ replayed_cells filled interval q
 
 -- the least interval of which that holds
 pub record IsFirstMismatch (filled : FilledArchive) (interval : Interval) (d : SetDifference) : Type 0 where
@@ -87,7 +87,7 @@ IsMismatchOf db interval d _ = ⊥
 pub record IsNamedMismatch (filled : FilledArchive) (interval : Interval) (name : List ℕ) (d : CellDifference) : Type 0 where
   pub parameter : ℕ
   pub first : IsFirstMismatch filled interval (record { parameter = parameter; cells = d })
-  pub named : slice_get (map (λ p. p.name) (database_of filled).parameters) parameter ≡ Some name
+  pub named : slice_get (map (λ p. p.name) (database_of_archive filled).parameters) parameter ≡ Some name
 
 -- why an archive is not found sound: its first mismatch, or want of memory
 abbrev pub IsVerifyRefusal : FilledArchive → Refusal → Type 0

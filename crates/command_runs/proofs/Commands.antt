@@ -1,13 +1,14 @@
 -- How the parts of plans go.
-use Rattle.std.proofs.Common.{◌≡◌, inl, inr, ℕ, true, false, List, [], Option, Some, None, refl, sym, ap, append-nil, arith}
+use Rattle.std.proofs.Common.{◌≡◌, inl, inr, ℕ, true, false, List, [], Option, Some, None, refl, sym, ap, subst, append-nil, arith}
 use Rattle.std.specs.Prelude.{IsTrue}
 use Rattle.arch_disk.specs.Disk.{Device, LeavesOnly, NoFault}
+use Rattle.arch_disk.proofs.Moments.{started}
 use Rattle.refusals.specs.declared.refusal.Refusal.{Refusal}
 use Rattle.refusals.specs.declared.refusal.Refusal.TheVariants.{NoArchive, Damaged, DiskFault, OutOfMemory, WriteFault}
 use Rattle.archive_store.specs.Calls.{IsStoreOpenRefusal}
 use Rattle.archive_store.specs.Entries.{FilledArchive}
 use Rattle.archive_store.specs.Stands.{StandsFilled}
-use Rattle.disk_journal.specs.Calls.{CountsNeverFall, IsJournalOpenFailed}
+use Rattle.disk_journal.specs.Calls.{IsJournalOpenFailed}
 use Rattle.command_plans.specs.Plan.{Interruption, OfMemory, OfInputs, OfDisk, OfOutput, CommandPlan, May, Way, Returned, Stopped, Interrupted, Allows, IsDetermined, IsDue, refusal_at, and_then}
 use Rattle.command_plans.proofs.Plans.{required, gave}
 use Rattle.line_buffer.specs.Output.{Appends}
@@ -16,7 +17,10 @@ use Rattle.outer_traits.specs.States.{InputsState, OutputState}
 use Rattle.command_plans.specs.Ledger.{UsedDisk}
 use Rattle.command_plans.proofs.Ledgers.{risen_counted}
 use Rattle.command_runs.specs.declared.report.Report.{Report}
-use Rattle.command_runs.specs.Command.{Progress, HasEffects, archive_sought, seeking_failed, Effects, Ran, RanOver, HasDiskOutcome, NoneFound, DamageFound, ArchiveFound, effects_of, failed_at, nothing_done, opening_plan, printing_plan, sources_at}
+use Rattle.command_runs.specs.ArchiveWork.{RanWith, UsedByWork, opened_plan}
+use Rattle.command_runs.specs.Command.{Progress, HasEffects, ArchiveSought, archive_sought, seeking_failed, Effects, Ran, RanOver, HasDiskOutcome, NoneFound, DamageFound, ArchiveFound, effects_of, failed_at, nothing_done, opening_plan, printing_plan, sources_at}
+use Rattle.command_runs.specs.FillingPlan.{IsRecordCount}
+use Rattle.command_runs.specs.ReadOnly.{IsReadAsBefore}
 use Rattle.command_runs.specs.Report.{unopened}
 
 -- no text was printed
@@ -85,9 +89,9 @@ module _ {D : Type 0} (device : Device D) where
 module _ {D : Type 0} (device : Device D) (e : Effects D) (f : FilledArchive → CommandPlan Progress ⊥) (sources : ℕ) where
   -- an opening was refused
   pub ran_unopened : (refusal : Refusal) → IsStoreOpenRefusal device e.disk e.disk' refusal → device.reads e.disk' ≡ device.reads e.disk →
-      LeavesOnly device e.disk e.disk' (device.images e.disk) → CountsNeverFall device e.disk e.disk' → e.report ≡ unopened (Some refusal) → e.output' ≡ e.output →
+      LeavesOnly device e.disk e.disk' (device.images e.disk) → e.report ≡ unopened (Some refusal) → e.output' ≡ e.output →
       Ran device (and_then (opening_plan sources device e.disk) f) e
-  ran_unopened NoArchive refused reads images counts report silent = record {
+  ran_unopened NoArchive refused reads images report silent = record {
     way = Stopped (archive_sought sources) (Some NoArchive);
     allows = inr (inr (NoneFound, refused.none, refl));
     did = record {
@@ -97,7 +101,7 @@ module _ {D : Type 0} (device : Device D) (e : Effects D) (f : FilledArchive →
       disk = (only_sought device e.disk e.disk' refused.no_fault refused.no_failed_write, λ known. record { reads = reads; images = images });
     };
   }
-  ran_unopened (Damaged file at) refused reads images counts report silent = record {
+  ran_unopened (Damaged file at) refused reads images report silent = record {
     way = Stopped (archive_sought sources) (Some (Damaged file at));
     allows = inr (inr (DamageFound file at, refused.damaged, refl));
     did = record {
@@ -107,7 +111,7 @@ module _ {D : Type 0} (device : Device D) (e : Effects D) (f : FilledArchive →
       disk = (only_sought device e.disk e.disk' refused.no_fault refused.no_failed_write, λ known. record { reads = reads; images = images });
     };
   }
-  ran_unopened DiskFault refused reads images counts report silent = record {
+  ran_unopened DiskFault refused reads images report silent = record {
     way = Interrupted (seeking_failed sources) OfDisk;
     allows = inr (inl refl);
     did = record {
@@ -117,7 +121,7 @@ module _ {D : Type 0} (device : Device D) (e : Effects D) (f : FilledArchive →
       disk = (seeking_failed_once device e.disk e.disk' refused, λ known. record { reads = reads; images = images });
     };
   }
-  ran_unopened OutOfMemory refused reads images counts report silent = record {
+  ran_unopened OutOfMemory refused reads images report silent = record {
     way = Interrupted (archive_sought sources) OfMemory;
     allows = inl refl;
     did = record {
@@ -127,39 +131,68 @@ module _ {D : Type 0} (device : Device D) (e : Effects D) (f : FilledArchive →
       disk = (only_sought device e.disk e.disk' refused.1 refused.0, λ known. record { reads = reads; images = images });
     };
   }
-  ran_unopened other refused reads images counts report silent = absurd refused
+  ran_unopened other refused reads images report silent = absurd refused
 
   -- it came behind so many sources, and no call of the inputs failed
   pub unopened_after : (refusal : Refusal) (refused : IsStoreOpenRefusal device e.disk e.disk' refusal) (reads : device.reads e.disk' ≡ device.reads e.disk)
-      (images : LeavesOnly device e.disk e.disk' (device.images e.disk)) (counts : CountsNeverFall device e.disk e.disk') (report : e.report ≡ unopened (Some refusal)) (silent : e.output' ≡ e.output) →
-      (sources_at (ran_unopened refusal refused reads images counts report silent).way ≡ sources) × (failed_at (ran_unopened refusal refused reads images counts report silent).way OfInputs ≡ false)
+      (images : LeavesOnly device e.disk e.disk' (device.images e.disk)) (report : e.report ≡ unopened (Some refusal)) (silent : e.output' ≡ e.output) →
+      (sources_at (ran_unopened refusal refused reads images report silent).way ≡ sources) × (failed_at (ran_unopened refusal refused reads images report silent).way OfInputs ≡ false)
   unfolding ran_unopened
-  unopened_after NoArchive refused reads images counts report silent = (refl, refl)
-  unopened_after (Damaged file at) refused reads images counts report silent = (refl, refl)
-  unopened_after DiskFault refused reads images counts report silent = (refl, refl)
-  unopened_after OutOfMemory refused reads images counts report silent = (refl, refl)
-  unopened_after other refused reads images counts report silent = absurd refused
+  unopened_after NoArchive refused reads images report silent = (refl, refl)
+  unopened_after (Damaged file at) refused reads images report silent = (refl, refl)
+  unopened_after DiskFault refused reads images report silent = (refl, refl)
+  unopened_after OutOfMemory refused reads images report silent = (refl, refl)
+  unopened_after other refused reads images report silent = absurd refused
 
   -- an archive was opened, and what followed ran
   pub ran_opened : (filled : FilledArchive) → (IsTrue device.is_transparent → StandsFilled (device.reads e.disk) filled) → Ran device (f filled) e → Ran device (and_then (opening_plan sources device e.disk) f) e
   ran_opened filled stands ran = ran_then device e (opening_plan sources device e.disk) f filled (inr (inr (ArchiveFound filled, stands, refl))) ran
 
--- ---- the first steps of a command that opens an archive and takes memory before
+-- of a disk of which nothing was asked, what is said of one on which an archive was looked for
+pub sought_unasked : {D : Type 0} (device : Device D) (old new : D) → new ≡ old → HasDiskOutcome device old new false ArchiveSought
+sought_unasked {D = D} device old new same =
+    let unused : UsedDisk device old old false 0 0 = record { faults = refl; writes = (0, omega arith, omega arith, refl) } in
+    let as_before : IsReadAsBefore device old old = record { reads = refl; images = started device old (device.images old) (λ c now. now) } in
+    subst (λ (d : D). HasDiskOutcome device old d false ArchiveSought) (sym same) (unused, λ known. as_before)
 
-module _ {D : Type 0} (device : Device D) (disk : D) (output : OutputState) (sources : ℕ) where
-  -- there was none
-  pub ran_without_memory : (plan : CommandPlan Progress ⊥) → Ran device (May OfMemory (nothing_done sources) plan) (effects_of disk disk output output (unopened (Some OutOfMemory)))
-  ran_without_memory plan = record {
-    way = Interrupted (nothing_done sources) OfMemory;
-    allows = inl refl;
-    did = record { report = refl; printed = no_text output.written; output = record { counted = refl }; disk = refl };
+-- ---- a work with an archive that is opened
+
+module _ {D : Type 0} (device : Device D) (disk : D) (output : OutputState) (sources : ℕ) {Input : Type 0} (old : Input) (Used : Input → Way Progress ⊥ → Type 0)
+    (work : (ℕ → Type 0) → FilledArchive → CommandPlan Progress ⊥) where
+  abbrev behind : FilledArchive → CommandPlan Progress ⊥
+  behind = work (IsRecordCount device disk)
+
+  abbrev plan : CommandPlan Progress ⊥
+  plan = opened_plan sources device disk work
+
+  -- there was no memory for its line
+  pub work_without_memory : RanWith device plan (effects_of disk disk output output (unopened (Some OutOfMemory))) (UsedByWork sources old old (Used old))
+  work_without_memory = record {
+    ran = record {
+      way = Interrupted (nothing_done sources) OfMemory;
+      allows = inl refl;
+      did = record { report = refl; printed = no_text output.written; output = record { counted = refl }; disk = refl };
+    };
+    used = inl (refl, refl, refl);
   }
 
   -- the opening was refused
-  pub ran_refused_opening : (f : FilledArchive → CommandPlan Progress ⊥) (refused : D × Refusal) → IsStoreOpenRefusal device disk refused.0 refused.1 → device.reads refused.0 ≡ device.reads disk →
-      LeavesOnly device disk refused.0 (device.images disk) → CountsNeverFall device disk refused.0 →
-      Ran device (May OfMemory (nothing_done sources) (and_then (opening_plan sources device disk) f)) (effects_of disk refused.0 output output (unopened (Some refused.1)))
-  ran_refused_opening f refused cause reads images counts =
+  pub work_unopened : (refused : D × Refusal) → IsStoreOpenRefusal device disk refused.0 refused.1 → device.reads refused.0 ≡ device.reads disk → LeavesOnly device disk refused.0 (device.images disk) →
+      RanWith device plan (effects_of disk refused.0 output output (unopened (Some refused.1))) (UsedByWork sources old old (Used old))
+  work_unopened refused cause reads images =
       let went = effects_of disk refused.0 output output (unopened (Some refused.1)) in
-      ran_later device went OfMemory (nothing_done sources) (and_then (opening_plan sources device disk) f)
-      (ran_unopened device went f sources refused.1 cause reads images counts refl refl)
+      let ran = ran_unopened device went behind sources refused.1 cause reads images refl refl in
+      let each = unopened_after device went behind sources refused.1 cause reads images refl refl in
+      record { ran = record { way = ran.way; allows = inr ran.allows; did = ran.did }; used = inl (each.0, each.1, refl) }
+
+  -- it was done
+  pub work_done : (e : Effects D) → (new : Input) (filled : FilledArchive) → (IsTrue device.is_transparent → StandsFilled (device.reads disk) filled) →
+      RanWith device (behind filled) e (Used new) → RanWith device plan e (UsedByWork sources old new (Used new))
+  work_done e new filled stands done = record {
+    ran = record {
+      way = done.ran.way;
+      allows = inr (gave (opening_plan sources device disk) behind filled done.ran.way (inr (inr (ArchiveFound filled, stands, refl))) done.ran.allows);
+      did = done.ran.did;
+    };
+    used = inr done.used;
+  }

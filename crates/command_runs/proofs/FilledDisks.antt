@@ -34,7 +34,7 @@ use Rattle.history_items.specs.Items.{items_of}
 use Rattle.archive_store.specs.Unacknowledged.{with_rows}
 use Rattle.load_session.specs.During.{IsDuring}
 use Rattle.load_session.specs.Filling.{AllLateFilled, IsFillFailed, IsFilledOn, IsFillingRefusal, IsUnfailed}
-use Rattle.command_runs.specs.Healing.{IsHealed, IsTakenBack, OneOrTwo}
+use Rattle.command_runs.specs.Healing.{TriesToHeal, IsTakenBack, OneOrTwo}
 use Rattle.command_runs.proofs.Healed.{more_faults, taken_back}
 use Rattle.command_plans.specs.Ledger.{UsedDisk, UsedWithoutFailedWrite}
 use Rattle.command_runs.specs.Command.{AllFilled, Extended, ExtensionFailed, FillingFailed, HasDiskOutcome}
@@ -217,7 +217,7 @@ module _ {D : Type 0} (device : Device D) (disk : D) (old new : StoreView D) (he
 
 module _ {D : Type 0} (device : Device D) (disk : D) (old between mid new : StoreView D) (opened : IsTrue device.is_transparent → IsOpened device disk old) (first : device.fault_count disk ≤ device.fault_count old.opened)
     (head : between.head ≡ old.head) (exponent : between.exponent ≡ old.exponent) (opening : between.opened ≡ old.opened) (filled : between.filled ≡ old.filled)
-    (filled_on : IsFilledOn between mid) (healed : IsHealed device mid new)
+    (filled_on : IsFilledOn between mid) (healed : TriesToHeal device mid new)
     (keeps : IsTrue device.is_transparent → CrashInvariant device new) (faults : FaultInvariant device new)
     (kept : IsTrue device.is_transparent → pending_fault_of new.fills ≡ None → IsKeptWithFills device new) where
   pub new_head : new.head ≡ old.head

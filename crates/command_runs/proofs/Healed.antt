@@ -12,7 +12,7 @@ use Rattle.store_fills.proofs.Faults.{Rising-in, faults_in-reopened}
 use Rattle.archive_store.specs.Calls.{CrashLeavesNow, IsStoreReopened, IsStoreReopenRefusal}
 use Rattle.archive_store.specs.StoreView.{FaultInvariant, StoreView}
 use Rattle.archive_store.proofs.Calls.{reopen_failed}
-use Rattle.command_runs.specs.Healing.{IsHealed, IsTakenBack}
+use Rattle.command_runs.specs.Healing.{TriesToHeal, IsTakenBack}
 
 -- where no failed write is pending a reopen leaves the fill list
 reopened_same : (fills : List Fill) → pending_fault_of fills ≡ None → reopened fills ≡ fills
@@ -27,7 +27,7 @@ module _ {D : Type 0} (device : Device D) where
   -- ---- one attempt
 
   pub healed : (old new : StoreView D) (result : Result Unit Refusal) → FaultInvariant device old → OnOk result (IsStoreReopened device old new) → IfErr result (IsStoreReopenRefusal device old new)
-      → CrashLeavesNow device old new.disk → IsHealed device old new
+      → CrashLeavesNow device old new.disk → TriesToHeal device old new
   healed old new (Ok x) counted done refused crash = record {
     same = λ none.
         done.store ∙ ap (λ (l : List Fill). record old { fills = l; disk = new.disk }) (reopened_same old.fills none)
@@ -64,7 +64,7 @@ module _ {D : Type 0} (device : Device D) where
   -- ---- a write that failed
 
   -- it was taken back, or one failed again
-  pub taken_back : (before : D) (mid new : StoreView D) (addition : Addition) (count : ℕ) → IsHealed device mid new → faults_in mid.fills ≡ Fault count true addition ∷ []
+  pub taken_back : (before : D) (mid new : StoreView D) (addition : Addition) (count : ℕ) → TriesToHeal device mid new → faults_in mid.fills ≡ Fault count true addition ∷ []
       → device.failed_writes mid.disk ≡ raised (device.failed_writes before) → IsTakenBack device before new addition
   taken_back before mid new addition count healed fault wrote = elim healed.tried [
     | inl undone ↦ record {

@@ -1,5 +1,5 @@
 -- The disk of a call that asks an archive.
-use Rattle.std.proofs.Common.{◌≡◌, ◌∙◌, true, false, List, [], ◌∷◌, ◌++◌, length, sym, ap, subst, arith}
+use Rattle.std.proofs.Common.{◌≡◌, ◌∙◌, true, false, List, [], ◌∷◌, ◌++◌, length, None, sym, ap, subst, arith}
 use Rattle.std.specs.List.{AllByRecursion}
 use Rattle.std.proofs.lemmas.List.{nil_from_length}
 use Rattle.arch_disk.specs.Disk.{Device, LeavesOnly}
@@ -11,7 +11,7 @@ use Rattle.interval_walks.specs.Counts.{late_intervals}
 use Rattle.store_fills.specs.Faults.{IsDone, faults_in}
 use Rattle.store_fills.proofs.Faults.{faults_in-done, pending_fault_of-in}
 use Rattle.history_items.specs.Fills.{pending_fault_of}
-use Rattle.command_runs.specs.Healing.{IsHealed}
+use Rattle.command_runs.specs.Healing.{TriesToHeal}
 use Rattle.archive_store.specs.Keeping.{IsKept}
 use Rattle.archive_store.specs.StoreView.{StoreView, filled_of, CrashInvariant}
 use Rattle.archive_store.specs.Stands.{IsSoundImage, StandsFilled}
@@ -39,10 +39,20 @@ opened_outcome device disk s on kept = (
   λ known. read_only_store device disk s (on.opened.filled known) on.reads on.opened.opening on.crash (on.opened.since known) (kept.images known),
 )
 
+-- and which a heal behind it left so too
+pub left_opened : {D : Type 0} (device : Device D) (disk : D) (s new healed : StoreView D) → IsOpenedOn device disk s → new ≡ s → TriesToHeal device new healed → IsKept device healed
+    → HasDiskOutcome device disk healed.disk false (Opened (filled_of s))
+left_opened {D = D} device disk s new healed on same heals kept =
+    let none : pending_fault_of s.fills ≡ None = pending_fault_of-in s.fills ∙ ap pending_fault_of (faults_in-done s.fills on.opened.fills) in
+    let undone : TriesToHeal device s healed = subst (λ (x : StoreView D). TriesToHeal device x healed) same heals in
+    let as_was : healed ≡ s = undone.same none in
+    subst (λ (x : StoreView D). HasDiskOutcome device disk x.disk false (Opened (filled_of s))) (sym as_was)
+    (opened_outcome device disk s on (subst (λ (x : StoreView D). IsKept device x) as_was kept))
+
 -- ---- filling where no interval is late
 
 -- and nothing was to be taken back
-pub unchanged_by : {D : Type 0} (device : Device D) (s mid new : StoreView D) → faults_in s.fills ≡ [] → (late_intervals s.exponent s.history s.fills ≡ [] → mid ≡ s) → IsHealed device mid new
+pub unchanged_by : {D : Type 0} (device : Device D) (s mid new : StoreView D) → faults_in s.fills ≡ [] → (late_intervals s.exponent s.history s.fills ≡ [] → mid ≡ s) → TriesToHeal device mid new
     → late_intervals s.exponent s.history s.fills ≡ [] → new ≡ s
 unchanged_by {D = D} device s mid new no_fault unchanged healed none =
     let same = unchanged none in

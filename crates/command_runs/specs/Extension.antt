@@ -24,7 +24,7 @@ abbrev pub batch_left : List Row → List (List Item)
 batch_left rows = items_of rows ∷ []
 
 -- Each image that a crash now leaves, and the disk as it reads, stands for a history with the same fills: those of the
--- archive before, but where a late interval got one over the whole history.
+-- archive before, but where a late interval got one that holds what its rows below a base give.
 pub record KeepsFills {D : Type 0} (device : Device D) (new : D) (before : FilledArchive)
     (reached : List Item) : Type 0 where
   pub fillings : Fillings (List SetRow)

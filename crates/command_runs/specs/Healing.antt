@@ -23,7 +23,7 @@ pub record HasFailedAgain {D : Type 0} (device : Device D) (old new : StoreView 
 
 -- It was tried once to take back what is pending. Where nothing was the store is as before, and else all but its fill
 -- list and its disk, on which power lost meanwhile leaves what it could have left before.
-pub record IsHealed {D : Type 0} (device : Device D) (old new : StoreView D) : Type 0 where
+pub record TriesToHeal {D : Type 0} (device : Device D) (old new : StoreView D) : Type 0 where
   pub same : pending_fault_of old.fills ≡ None → new ≡ old
   pub left : new ≡ record old { fills = new.fills; disk = new.disk }
   pub counted : FaultInvariant device old

@@ -2,15 +2,12 @@
 use Rattle.std.proofs.Common.{◌≡◌, ◌≤◌, ◌<◌, ◌∙◌, ◌⊎◌, inl, inr, ℕ, ℤ, Bool, true, false, List, [], ◌∷◌, length, Option, Some, None, refl, sym, ap, subst, arith}
 use Rattle.std.specs.Prelude.{Err, IfSome, IsSome, IsSomeAnd, IsTrue, Result, Ok}
 use Rattle.std.specs.FinMap.{get}
-use Rattle.arch_disk.specs.Disk.{Device, LeavesOnly}
+use Rattle.arch_disk.specs.Disk.{Device}
 use Rattle.asks.specs.declared.ask.Ask.{Ask}
 use Rattle.refusals.specs.declared.refusal.Refusal.{Refusal}
 use Rattle.refusals.specs.declared.refusal.Refusal.TheVariants as refused
 use Rattle.refusals.specs.declared.refusal.Which.TheVariants.{DumpOctets}
-use Rattle.archive_store.specs.Calls.{IsStoreOpenRefusal}
 use Rattle.archive_store.specs.Entries.{Archive, FilledArchive}
-use Rattle.archive_store.specs.Stands.{StandsFilled}
-use Rattle.disk_journal.specs.Calls.{CountsNeverFall}
 use Rattle.outer_traits.specs.declared.fault.OpenFault.{OpenFault}
 use Rattle.outer_traits.specs.declared.fault.OpenFault.TheVariants.{Missing, Failed, OutOfMemory}
 use Rattle.outer_traits.specs.Outside.{Files, IsLeftAtFirst, OpeningCounted, Stays}
@@ -21,24 +18,25 @@ use Rattle.command_words.specs.Job.{LoadWords}
 use Rattle.command_plans.specs.Inputs.{InputRead, IsThereAs, OverLimit, WithinLimit, reading_fault}
 use Rattle.command_plans.proofs.Inputs.{reads_determined}
 use Rattle.mdb_sheets.specs.Sheets.{ReadsCounted}
-use Rattle.outer_traits.specs.States.{InputsState, GaveOne, ClosedOne}
+use Rattle.outer_traits.specs.States.{InputsState, SourceState, GaveOne, ClosedOne}
 use Rattle.command_plans.specs.Ledger.{Counted, UsedInputs}
 use Rattle.command_plans.proofs.Ledgers.{risen_counted}
 use Rattle.ask_answers.specs.Asks.{asks_check_plan}
 use Rattle.command_runs.specs.Moment.{IsMomentOf}
-use Rattle.command_runs.specs.Command.{Progress, EndedAt, HasDiskOutcome, Opened, Effects, ArchiveFound, Ran, RanOver, archive_opened, nothing_done, opening_plan}
+use Rattle.command_runs.specs.ArchiveWork.{RanWith, UsedByWork, opened_plan}
+use Rattle.command_runs.specs.Command.{Progress, EndedAt, HasDiskOutcome, HasEffects, Opened, Effects, Ran, RanOver, archive_opened, archive_sought, failed_at, nothing_done, opening_plan, sources_at}
 use Rattle.command_runs.specs.DumpRest.{ending_of_rest, dump_limit}
 use Rattle.load_command.specs.Load.{IsRecordedBehind, after_dump, after_dump_found, after_link, after_packets, after_route, after_session, archive_load_plan, dump_too_long, history_extended, late_behind, load_plan, load_printing_plan, loading_plan, reading_plan, refused_session_plan, route_plan, routed_load_plan, session_plan}
 use Rattle.command_runs.specs.FillingPlan.{IsRecordCount}
 use Rattle.command_runs.proofs.FillingPlan.{behind_reads, filling_determined, filling_reads}
-use Rattle.load_command.specs.Loading.{IsDumpRefusal, IsOpeningFault, IsReady, IsRouteAnswer, IsUnready, LoadAsked, link_refusal, load_asked}
+use Rattle.load_command.specs.Loading.{IsDumpRefusal, IsNotReceived, IsOpeningFault, IsReady, IsRouteAnswer, IsUnready, LoadAsked, UsedSource, link_refusal, load_asked}
 use Rattle.command_runs.specs.Report.{read_only, unopened}
 use Rattle.script_answers.specs.Scripts.{OrNoMemory}
 use Rattle.load_session.specs.Receiving.{Receiving, receiving}
 use Rattle.load_session.specs.Session.{SessionResult}
 use Rattle.stream_graph.specs.declared.statement.RouteStatement.{RouteStatement}
 use Rattle.ask_answers.proofs.AskSheets.{asked_determined, check_determined, check_refused, checked}
-use Rattle.command_runs.proofs.Commands.{no_text, ran_unopened, unopened_after}
+use Rattle.command_runs.proofs.Commands.{no_text, sought_unasked}
 use Rattle.load_command.proofs.RoutePlan.{route_determined, route_read_determined}
 use Rattle.load_command.proofs.NotLoaded.{OnlyMissing, gives_long, gone, still_there}
 use Rattle.command_runs.proofs.OverInputs.{HasRead}
@@ -82,14 +80,140 @@ session_after Began filled r asks dump = λ s h. each s s.refusal
     each s (Some refused.DiskFault) = (refl, refl)
     each s (Some other) = told None s other
 
+-- ---- a dump that was opened, loaded into an archive that was
+
+module _ {D : Type 0} (device : Device D) (e : Effects D) (Began : ℕ → Type 0) (files : Option Files) (next : Option ℤ) (words : LoadWords) (text : Option (List ℕ)) (sheet : Result (List Ask) Refusal) (filled : FilledArchive)
+    (first last : SourceState) (reliable : first.never_fails → Stays first.faults last.faults) where
+  abbrev loading : CommandPlan Progress ⊥
+  loading = loading_plan Began files next words text sheet filled
+
+  abbrev archive : Archive
+  archive = filled.plain
+
+  abbrev asked : LoadAsked
+  asked = load_asked text sheet words.link
+
+  abbrev Loaded : Type 0
+  Loaded = RanWith device loading e (UsedSource first last)
+
+  -- the asks of a sheet that the archive can answer are checked, and the dump is read
+  routes_on : (route : List RouteStatement) → link_refusal words.link ≡ None → IsRouteAnswer archive text (Ok route) → (way : Way Progress ⊥)
+      → Allows (after_route Began files next words sheet filled route) way → Allows loading way
+  routes_on route near is way goes =
+      (None, sym near, gave (route_plan (archive_opened 1 filled) archive text) (after_route Began files next words sheet filled) route way (inr (Ok route, is, refl)) goes)
+
+  reads_on : (route : List RouteStatement) (asks : List Ask) → IsReady archive asked route asks → (way : Way Progress ⊥)
+      → Allows (reading_plan Began files next words filled route asks) way → Allows loading way
+  reads_on route asks ready way goes =
+      let s = archive_opened 1 filled in
+      routes_on route ready.0 ready.1 way (gave (asks_check_plan s archive sheet) (reading_plan Began files next words filled route) asks way (checked s archive sheet asks ready.2) goes)
+
+  abbrev reports : Refusal → Option ℕ → Type 0
+  reports refusal link = e.report ≡ record (read_only (Some refusal) (length archive.history)) { link = link }
+
+  named : (refusal : Refusal) (link other : Option ℕ) → link ≡ other → reports refusal link → reports refusal other
+  named refusal link other is report = report ∙ ap (λ (l : Option ℕ). record (read_only (Some refusal) (length archive.history)) { link = l }) is
+
+  -- ---- nothing was ingested: the archive was left as it was, and the report may name the link
+
+  module _ (silent : e.output' ≡ e.output) (disk : HasDiskOutcome device e.disk e.disk' false (Opened filled)) (later : first.faults ≤ last.faults) where
+    abbrev unloaded : Option ℕ → Progress
+    unloaded link = record (archive_opened 1 filled) { report = record (read_only None (length archive.history)) { link = link } }
+
+    left : (link : Option ℕ) (refusal : Refusal) (failed : FailedCalls) → failed OfOutput ≡ false → failed OfDisk ≡ false → reports refusal link
+        → EndedAt device e (unloaded link) (Some refusal) failed
+    left link refusal failed no_output no_disk report =
+        record { report = report; printed = rw silent (no_text e.output.written); output = record { counted = rw (silent, no_output) refl }; disk = rw no_disk disk }
+
+    stopped : (link : Option ℕ) (refusal : Refusal) → reports refusal link → Stays first.faults last.faults → Allows loading (Stopped (unloaded link) (Some refusal)) → Loaded
+    stopped link refusal report still goes = record {
+      ran = record { way = Stopped (unloaded link) (Some refusal); allows = goes; did = left link refusal no_failed_calls refl refl report };
+      used = record { one = refl; counted = still; reliable = reliable };
+    }
+
+    cut_short : (failed : Bool) → reports (interruption_refusal (reading_fault failed)) None → Counted failed first.faults last.faults
+        → Allows loading (Interrupted (archive_opened 1 filled) (reading_fault failed)) → Loaded
+    cut_short true report counted goes = record {
+      ran = record { way = Interrupted (archive_opened 1 filled) OfInputs; allows = goes; did = left None refused.ReadFault (with_failed_call OfInputs no_failed_calls) refl refl report };
+      used = record { one = refl; counted = counted; reliable = reliable };
+    }
+    cut_short false report counted goes = record {
+      ran = record { way = Interrupted (archive_opened 1 filled) OfMemory; allows = goes; did = left None refused.OutOfMemory (with_failed_call OfMemory no_failed_calls) refl refl report };
+      used = record { one = refl; counted = counted; reliable = reliable };
+    }
+
+    -- the route was refused
+    load_unrouted : (refusal : Refusal) → link_refusal words.link ≡ None → OrNoMemory (IsRouteAnswer archive text) (Err refusal) → reports refusal None → Stays first.faults last.faults → Loaded
+    load_unrouted refusal near (inl memory) report still =
+        let s = archive_opened 1 filled in
+        cut_short false (subst (λ (r : Refusal). reports r None) memory report) still
+        (None, sym near, cut (route_plan s archive text) (after_route Began files next words sheet filled) s OfMemory (inl refl))
+    load_unrouted refusal near (inr is) report still =
+        let s = archive_opened 1 filled in
+        stopped None refusal report still
+        (None, sym near, ended (route_plan s archive text) (after_route Began files next words sheet filled) s (Some refusal) (inr (Err refusal, is, refl)))
+
+    -- the link was, or the route, or the sheet of asks
+    load_unready : (refusal : Refusal) → IsUnready archive asked refusal → reports refusal None → Stays first.faults last.faults → Loaded
+    load_unready refusal (inl far) report still = stopped None refusal report still (Some refusal, sym far, refl)
+    load_unready refusal (inr (inl near)) report still = load_unrouted refusal near.0 near.1 report still
+    load_unready refusal (inr (inr near)) report still =
+        let s = archive_opened 1 filled in
+        let route = near.1.0 in
+        let f = reading_plan Began files next words filled route in
+        elim (check_refused s archive sheet refusal near.1.2) [
+          | inl ending ↦ stopped None refusal report still
+              (routes_on route near.0 near.1.1 (Stopped s (Some refusal)) (ended (asks_check_plan s archive sheet) f s (Some refusal) ending))
+          | inr memory ↦ cut_short false (subst (λ (r : Refusal). reports r None) memory.0 report) still
+              (routes_on route near.0 near.1.1 (Interrupted s OfMemory) (cut (asks_check_plan s archive sheet) f s OfMemory memory.1))
+        ]
+
+    module _ (gives : IsLeftAtFirst files words.dump first.left) where
+      -- the dump wasn't read
+      load_unread : (refusal : Refusal) (link : Option ℕ) (route : List RouteStatement) (asks : List Ask) → IsReady archive asked route asks → IsDumpRefusal first.left words.link refusal link
+          → ReadsCounted (Some refusal) first.faults last.faults → reports refusal link → Loaded
+      load_unread (refused.Limit DumpOctets most) link route asks ready u counted report =
+          let limit = refused.Limit DumpOctets dump_limit in
+          let is : refused.Limit DumpOctets most ≡ limit = ap (λ (n : ℕ). refused.Limit DumpOctets n) u.0 in
+          let long = subst (λ (n : ℕ). IfSome files (λ all. IsSomeAnd (get all words.dump) (λ octets. n < length octets))) u.0 (gives_long files words.dump first.left most gives u.2) in
+          stopped (Some words.link) limit (named limit link (Some words.link) u.1 (subst (λ (r : Refusal). reports r link) is report)) counted
+          (reads_on route asks ready (Stopped (dump_too_long words.link filled) (Some limit)) (inr (inr (OverLimit, long, refl))))
+      load_unread refused.ReadFault link route asks ready u counted report =
+          cut_short true (named refused.ReadFault link None u report) (risen_counted first.faults last.faults later counted)
+          (reads_on route asks ready (Interrupted (archive_opened 1 filled) OfInputs) (inr (inl refl)))
+      load_unread refused.OutOfMemory link route asks ready u counted report =
+          cut_short false (named refused.OutOfMemory link None u report) counted (reads_on route asks ready (Interrupted (archive_opened 1 filled) OfMemory) (inl refl))
+      load_unread other link route asks ready u counted report = absurd u
+
+      pub load_not_received : (refusal : Refusal) (link : Option ℕ) → IsNotReceived archive asked first last refusal link → reports refusal link → Loaded
+      load_not_received refusal link (inl unready) report = load_unready refusal unready.0 (named refusal link None unready.1 report) unready.2
+      load_not_received refusal link (inr unread) report = load_unread refusal link unread.0 unread.1 unread.2 unread.3 unread.4 report
+
+  -- ---- the packets of the dump were ingested, so far
+
+  pub load_received : (dump : List ℕ) (moment : ℤ) (route : List RouteStatement) (asks : List Ask) → IsReady archive asked route asks → IsInput files words.dump dump
+      → length dump ≤ dump_limit → IsMomentOf next moment → Stays first.faults last.faults
+      → Ran device (session_plan Began filled (receiving archive.head archive.history route words.link moment) asks dump) e → Loaded
+  load_received dump moment route asks ready input short clock still went =
+      let r : Receiving = receiving archive.head archive.history route words.link moment in
+      let each = end_of (HasRead 1) (session_plan Began filled r asks dump) went.way (session_after Began filled r asks dump) went.allows in
+      record {
+        ran = record {
+          way = went.way;
+          allows = reads_on route asks ready went.way (inr (inr (WithinLimit dump, (dump, input, short, refl), (moment, clock, went.allows))));
+          did = went.did;
+        };
+        used = record { one = each.0; counted = rw each.1 still; reliable = reliable };
+      }
+
+-- ---- the whole load
+
 module _ {D : Type 0} (device : Device D) (e : Effects D) (files : Option Files) (next : Option ℤ) (words : LoadWords) (text : Option (List ℕ)) (sheet : Result (List Ask) Refusal) (a b : InputsState) where
   abbrev plan : CommandPlan Progress ⊥
   plan = archive_load_plan device e.disk files next words text sheet
 
-  -- ---- before the dump was opened
-
-  -- there was no memory
-  pub no_room : UsedInputs a b 0 false → e.report ≡ unopened (Some refused.OutOfMemory) → e.disk' ≡ e.disk → e.output' ≡ e.output → RanOver device plan e a b
+  -- there was no memory for what names the dump
+  no_room : UsedInputs a b 0 false → e.report ≡ unopened (Some refused.OutOfMemory) → e.disk' ≡ e.disk → e.output' ≡ e.output → RanOver device plan e a b
   no_room used report same silent = record {
     ran = record {
       way = Interrupted (nothing_done 0) OfMemory;
@@ -132,147 +256,42 @@ module _ {D : Type 0} (device : Device D) (e : Effects D) (files : Option Files)
   }
   ran_unfound X OutOfMemory refusal is missing used later counted report same silent = no_room (used false counted) (report ∙ ap (λ (r : Refusal). unopened (Some r)) is) same silent
 
-  -- ---- once it was
+  -- ---- once it was: a source was given, a work took it, and it was closed again
 
-  abbrev known : Type 0
-  known = IsTrue device.is_transparent
+  module _ (there : IsThere files words.dump) {Source : Type 0} (state : Source → SourceState) (first last : Source)
+      (closed : (failed : Bool) → Counted failed (state first).faults (state last).faults → ((state first).never_fails → Stays (state first).faults (state last).faults) → UsedInputs a b 1 failed) where
+    abbrev opened : CommandPlan Progress ⊥
+    opened = opened_plan 1 device e.disk (λ Began. loading_plan Began files next words text sheet)
 
-  abbrev Began : ℕ → Type 0
-  Began = IsRecordCount device e.disk
+    abbrev Used : Way Progress ⊥ → Type 0
+    Used way = UsedSource (state first) (state last) way
 
-  module _ (there : IsThere files words.dump) where
-    -- no archive was opened
-    pub load_unarchived : (refusal : Refusal) → IsStoreOpenRefusal device e.disk e.disk' refusal → device.reads e.disk' ≡ device.reads e.disk → LeavesOnly device e.disk e.disk' (device.images e.disk)
-        → CountsNeverFall device e.disk e.disk' → e.report ≡ unopened (Some refusal) → e.output' ≡ e.output → UsedInputs a b 1 false → RanOver device plan e a b
-    load_unarchived refusal cause reads images counts report silent used =
-        let f = loading_plan Began files next words text sheet in
-        let went = ran_unopened device e f 1 refusal cause reads images counts report silent in
-        let each = unopened_after device e f 1 refusal cause reads images counts report silent in
-        record { ran = record { way = went.way; allows = inr (true, there, inr went.allows); did = went.did }; inputs = rw (each.0, each.1) used }
+    used_source : (way : Way Progress ⊥) → UsedByWork 1 first last Used way → Used way
+    used_source way (inl before) =
+        let same : (state last).faults ≡ (state first).faults = ap (λ (source : Source). (state source).faults) before.2 in
+        record { one = before.0; counted = rw before.1 same; reliable = λ never. same }
+    used_source way (inr used) = used
 
-    module _ (filled : FilledArchive) (stands : known → StandsFilled (device.reads e.disk) filled) where
-      abbrev archive : Archive
-      archive = filled.plain
+    -- where there was no memory for its line the archive was looked for all the same, as far as the plan tells
+    loaded : (way : Way Progress ⊥) → Allows opened way → HasEffects device e way → Used way → RanOver device plan e a b
+    loaded way (inl none) did used =
+        let ended : EndedAt device e (nothing_done 1) (Some refused.OutOfMemory) (with_failed_call OfMemory no_failed_calls) = subst (HasEffects device e) none did in
+        let still : Counted false (state first).faults (state last).faults = subst (λ (w : Way Progress ⊥). Counted (failed_at w OfInputs) (state first).faults (state last).faults) none used.counted in
+        record {
+          ran = record {
+            way = Interrupted (archive_sought 1) OfMemory;
+            allows = inr (true, there, inr (inl refl));
+            did = record { report = ended.report; printed = ended.printed; output = ended.output; disk = sought_unasked device e.disk e.disk' ended.disk };
+          };
+          inputs = closed false still used.reliable;
+        }
+    loaded way (inr goes) did used = record {
+      ran = record { way = way; allows = inr (true, there, inr goes); did = did };
+      inputs = subst (λ (n : ℕ). UsedInputs a b n (failed_at way OfInputs)) (sym used.one) (closed (failed_at way OfInputs) used.counted used.reliable);
+    }
 
-      abbrev asked : LoadAsked
-      asked = load_asked text sheet words.link
-
-      -- an archive was
-      goes_on : (way : Way Progress ⊥) → Allows (loading_plan Began files next words text sheet filled) way → Allows plan way
-      goes_on way goes = inr (true, there, inr (gave (opening_plan 1 device e.disk) (loading_plan Began files next words text sheet) filled way (inr (inr (ArchiveFound filled, stands, refl))) goes))
-
-      -- the asks of a sheet that the archive can answer are checked, and the dump is read
-      routes_on : (route : List RouteStatement) → link_refusal words.link ≡ None → IsRouteAnswer archive text (Ok route) → (way : Way Progress ⊥)
-          → Allows (after_route Began files next words sheet filled route) way → Allows (loading_plan Began files next words text sheet filled) way
-      routes_on route near is way goes =
-          (None, sym near, gave (route_plan (archive_opened 1 filled) archive text) (after_route Began files next words sheet filled) route way (inr (Ok route, is, refl)) goes)
-
-      reads_on : (route : List RouteStatement) (asks : List Ask) → IsReady archive asked route asks → (way : Way Progress ⊥)
-          → Allows (reading_plan Began files next words filled route asks) way → Allows (loading_plan Began files next words text sheet filled) way
-      reads_on route asks ready way goes =
-          let s = archive_opened 1 filled in
-          routes_on route ready.0 ready.1 way (gave (asks_check_plan s archive sheet) (reading_plan Began files next words filled route) asks way (checked s archive sheet asks ready.2) goes)
-
-      abbrev reports : Refusal → Option ℕ → Type 0
-      reports refusal link = e.report ≡ record (read_only (Some refusal) (length archive.history)) { link = link }
-
-      named : (refusal : Refusal) (link other : Option ℕ) → link ≡ other → reports refusal link → reports refusal other
-      named refusal link other is report = report ∙ ap (λ (l : Option ℕ). record (read_only (Some refusal) (length archive.history)) { link = l }) is
-
-      -- it was left as it was, and the report may name the link
-      module _ (silent : e.output' ≡ e.output) (disk : HasDiskOutcome device e.disk e.disk' false (Opened filled)) (used : (failed : Bool) → Counted failed a.faults b.faults → UsedInputs a b 1 failed)
-          (later : a.faults ≤ b.faults) where
-        abbrev unloaded : Option ℕ → Progress
-        unloaded link = record (archive_opened 1 filled) { report = record (read_only None (length archive.history)) { link = link } }
-
-        left : (link : Option ℕ) (refusal : Refusal) (failed : FailedCalls) → failed OfOutput ≡ false → failed OfDisk ≡ false → reports refusal link
-            → EndedAt device e (unloaded link) (Some refusal) failed
-        left link refusal failed no_output no_disk report =
-            record { report = report; printed = rw silent (no_text e.output.written); output = record { counted = rw (silent, no_output) refl }; disk = rw no_disk disk }
-
-        stopped : (link : Option ℕ) (refusal : Refusal) → reports refusal link → Counted false a.faults b.faults
-            → Allows (loading_plan Began files next words text sheet filled) (Stopped (unloaded link) (Some refusal)) → RanOver device plan e a b
-        stopped link refusal report counted goes =
-            let way : Way Progress ⊥ = Stopped (unloaded link) (Some refusal) in
-            record { ran = record { way = way; allows = goes_on way goes; did = left link refusal no_failed_calls refl refl report }; inputs = used false counted }
-
-        cut_short : (failed : Bool) → reports (interruption_refusal (reading_fault failed)) None → Counted failed a.faults b.faults
-            → Allows (loading_plan Began files next words text sheet filled) (Interrupted (archive_opened 1 filled) (reading_fault failed)) → RanOver device plan e a b
-        cut_short true report counted goes =
-            let way : Way Progress ⊥ = Interrupted (archive_opened 1 filled) OfInputs in
-            record { ran = record { way = way; allows = goes_on way goes; did = left None refused.ReadFault (with_failed_call OfInputs no_failed_calls) refl refl report }; inputs = used true counted }
-        cut_short false report counted goes =
-            let way : Way Progress ⊥ = Interrupted (archive_opened 1 filled) OfMemory in
-            record { ran = record { way = way; allows = goes_on way goes; did = left None refused.OutOfMemory (with_failed_call OfMemory no_failed_calls) refl refl report }; inputs = used false counted }
-
-        -- the route was refused
-        load_unrouted : (refusal : Refusal) → link_refusal words.link ≡ None → OrNoMemory (IsRouteAnswer archive text) (Err refusal) → reports refusal None → Counted false a.faults b.faults
-            → RanOver device plan e a b
-        load_unrouted refusal near (inl memory) report counted =
-            let s = archive_opened 1 filled in
-            cut_short false (subst (λ (r : Refusal). reports r None) memory report) counted
-            (None, sym near, cut (route_plan s archive text) (after_route Began files next words sheet filled) s OfMemory (inl refl))
-        load_unrouted refusal near (inr is) report counted =
-            let s = archive_opened 1 filled in
-            stopped None refusal report counted
-            (None, sym near, ended (route_plan s archive text) (after_route Began files next words sheet filled) s (Some refusal) (inr (Err refusal, is, refl)))
-
-        -- the link was, or the route, or the sheet of asks
-        load_unready : (refusal : Refusal) → IsUnready archive asked refusal → reports refusal None → Counted false a.faults b.faults → RanOver device plan e a b
-        load_unready refusal (inl far) report counted = stopped None refusal report counted (Some refusal, sym far, refl)
-        load_unready refusal (inr (inl near)) report counted = load_unrouted refusal near.0 near.1 report counted
-        load_unready refusal (inr (inr near)) report counted =
-            let s = archive_opened 1 filled in
-            let route = near.1.0 in
-            let f = reading_plan Began files next words filled route in
-            elim (check_refused s archive sheet refusal near.1.2) [
-              | inl ending ↦ stopped None refusal report counted
-                  (routes_on route near.0 near.1.1 (Stopped s (Some refusal)) (ended (asks_check_plan s archive sheet) f s (Some refusal) ending))
-              | inr memory ↦ cut_short false (subst (λ (r : Refusal). reports r None) memory.0 report) counted
-                  (routes_on route near.0 near.1.1 (Interrupted s OfMemory) (cut (asks_check_plan s archive sheet) f s OfMemory memory.1))
-            ]
-
-        -- the dump wasn't read
-        load_unread : (left : Option (List ℕ)) (refusal : Refusal) (link : Option ℕ) (route : List RouteStatement) (asks : List Ask) → IsLeftAtFirst files words.dump left → IsReady archive asked route asks
-            → IsDumpRefusal left words.link refusal link → ReadsCounted (Some refusal) a.faults b.faults → reports refusal link → RanOver device plan e a b
-        load_unread left (refused.Limit DumpOctets most) link route asks gives ready u counted report =
-            let limit = refused.Limit DumpOctets dump_limit in
-            let is : refused.Limit DumpOctets most ≡ limit = ap (λ (n : ℕ). refused.Limit DumpOctets n) u.0 in
-            let long = subst (λ (n : ℕ). IfSome files (λ all. IsSomeAnd (get all words.dump) (λ octets. n < length octets))) u.0 (gives_long files words.dump left most gives u.2) in
-            stopped (Some words.link) limit (named limit link (Some words.link) u.1 (subst (λ (r : Refusal). reports r link) is report)) counted
-            (reads_on route asks ready (Stopped (dump_too_long words.link filled) (Some limit)) (inr (inr (OverLimit, long, refl))))
-        load_unread left refused.ReadFault link route asks gives ready u counted report =
-            cut_short true (named refused.ReadFault link None u report) (risen_counted a.faults b.faults later counted)
-            (reads_on route asks ready (Interrupted (archive_opened 1 filled) OfInputs) (inr (inl refl)))
-        load_unread left refused.OutOfMemory link route asks gives ready u counted report =
-            cut_short false (named refused.OutOfMemory link None u report) counted (reads_on route asks ready (Interrupted (archive_opened 1 filled) OfMemory) (inl refl))
-        load_unread left other link route asks gives ready u counted report = absurd u
-
-        -- nothing was ingested
-        pub load_not_received : (left : Option (List ℕ)) (faults faults' : ℕ) (refusal : Refusal) (link : Option ℕ) → IsLeftAtFirst files words.dump left
-            → (IsUnready archive asked refusal × (link ≡ None) × Stays faults faults')
-            ⊎ ((route : List RouteStatement) × (asks : List Ask) × IsReady archive asked route asks × IsDumpRefusal left words.link refusal link × ReadsCounted (Some refusal) faults faults')
-            → ((ending : Option Refusal) → ReadsCounted ending faults faults' → ReadsCounted ending a.faults b.faults) → reports refusal link → RanOver device plan e a b
-        load_not_received left faults faults' refusal link gives (inl unready) counts report =
-            load_unready refusal unready.0 (named refusal link None unready.1 report) (counts None unready.2)
-        load_not_received left faults faults' refusal link gives (inr unread) counts report =
-            load_unread left refusal link unread.0 unread.1 gives unread.2 unread.3 (counts (Some refusal) unread.4) report
-
-      -- the packets of the dump were ingested, so far
-      pub load_received : (dump : List ℕ) (moment : ℤ) (route : List RouteStatement) (asks : List Ask) → IsReady archive asked route asks → IsInput files words.dump dump
-          → length dump ≤ dump_limit → IsMomentOf next moment → UsedInputs a b 1 false
-          → Ran device (session_plan Began filled (receiving archive.head archive.history route words.link moment) asks dump) e → RanOver device plan e a b
-      load_received dump moment route asks ready input short clock used went =
-          let r : Receiving = receiving archive.head archive.history route words.link moment in
-          let each = end_of (HasRead 1) (session_plan Began filled r asks dump) went.way (session_after Began filled r asks dump) went.allows in
-          record {
-            ran = record {
-              way = went.way;
-              allows = goes_on went.way (reads_on route asks ready went.way (inr (inr (WithinLimit dump, (dump, input, short, refl), (moment, clock, went.allows)))));
-              did = went.did;
-            };
-            inputs = rw (each.0, each.1) used;
-          }
+    pub ran_loaded : RanWith device opened e (UsedByWork 1 first last Used) → RanOver device plan e a b
+    ran_loaded went = loaded went.ran.way went.ran.allows went.ran.did (used_source went.ran.way went.used)
 
 -- ---- which answer is due
 

@@ -37,7 +37,7 @@ use Rattle.ask_answers.specs.Asks.{ArePrinted}
 use Rattle.command_runs.specs.Command.{AllFilled, Effects, Extended, ExtensionFailed, FillingFailed, HasDiskOutcome, Progress, Ran, effects_of}
 use Rattle.load_session.specs.Filling.{AllLateFilled, IsFillFailed, IsFilledOn, IsFillingRefusal, IsUnfailed, filling_refusal}
 use Rattle.command_runs.specs.FillingPlan.{IsRecordCount, all_filled, filling_plan}
-use Rattle.command_runs.specs.Healing.{IsHealed}
+use Rattle.command_runs.specs.Healing.{TriesToHeal}
 use Rattle.command_runs.specs.Opened.{IsOpenedOn}
 use Rattle.load_command.specs.Load.{IsRecordedBehind, after_packets, after_session, answering_asks_plan, extension_failed, history_extended, late_behind, load_printing_plan, refused_session_plan, session_plan}
 use Rattle.load_command.specs.LoadLine.{line_of_load, load_text, whole_report}
@@ -72,7 +72,7 @@ module _ {D : Type 0} (device : Device D) (disk : D) (old between mid new : Stor
     (session : IsSession old.exponent (λ n. n ≡ old.records) old.history dump r s) (reached : HasReached old between r s) (writes : ExactlyOne s.refusal (device.failed_writes old.disk) (device.failed_writes between.disk))
     (counted : OneOrMore s.refusal (device.fault_count old.disk) (device.fault_count between.disk))
     (filling : Result ℕ Refusal) (filled : IfOk filling (AllLateFilled device between mid)) (unfilled : IfErr filling (IsFillingRefusal device between mid)) (filled_on : IsFilledOn between mid)
-    (healed : IsHealed device mid new) (keeps : IsTrue device.is_transparent → CrashInvariant device new) (faults : FaultInvariant device new)
+    (healed : TriesToHeal device mid new) (keeps : IsTrue device.is_transparent → CrashInvariant device new) (faults : FaultInvariant device new)
     (kept : IsTrue device.is_transparent → pending_fault_of new.fills ≡ None → IsKeptWithFills device new)
     (bases : (i : Interval) → base_in i old.fills ≡ base_of_filling (fillings_in old.filled) i)
     (output output' : OutputState) (report : Report) where

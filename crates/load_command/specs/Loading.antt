@@ -1,5 +1,5 @@
 -- The steps of a load: how its asks are checked and its dump is read, and what is told and reported of its session.
-use Rattle.std.specs.Prelude.{◌≡◌, ◌⊎◌, ◌<◌, ◌-◌, ℕ, List, length, Option, Some, None, IfSome, Result, Ok, Err, nat_lt, if◌then◌else◌}
+use Rattle.std.specs.Prelude.{◌≡◌, ◌⊎◌, ◌<◌, ◌≤◌, ◌-◌, ℕ, ℤ, List, length, Option, Some, None, IfSome, Result, Ok, Err, nat_lt, if◌then◌else◌}
 use Rattle.asks.specs.declared.ask.Ask.{Ask}
 use Rattle.refusals.specs.declared.refusal.Refusal.{Refusal}
 use Rattle.refusals.specs.declared.refusal.Refusal.TheVariants as refused
@@ -7,11 +7,17 @@ use Rattle.refusals.specs.declared.refusal.Which.TheVariants.{DumpOctets, Links}
 use Rattle.refusals.specs.Limits.{limit_of}
 use Rattle.outer_traits.specs.declared.whole.ReadFault.{ReadFault}
 use Rattle.outer_traits.specs.declared.whole.ReadFault.TheVariants as faulted
-use Rattle.outer_traits.specs.Outside.{Stays}
+use Rattle.outer_traits.specs.Outside.{Files, IsLeftAtFirst, Stays}
 use Rattle.outer_traits.specs.States.{SourceState}
 use Rattle.archive_store.specs.Entries.{Archive}
 use Rattle.mdb_sheets.specs.Sheets.{ReadsCounted}
 use Rattle.ask_answers.specs.Asks.{AreAnswerable, AreRefused}
+use Rattle.text_forms.specs.ClockTime.{IsClockTime}
+use Rattle.command_words.specs.Job.{LoadWords}
+use Rattle.command_plans.specs.Ledger.{Counted}
+use Rattle.command_plans.specs.Plan.{OfInputs, Way}
+use Rattle.command_runs.specs.Command.{Progress, failed_at, sources_at}
+use Rattle.command_runs.specs.Moment.{IsMomentOf}
 use Rattle.command_runs.specs.declared.report.Report.{Report}
 use Rattle.load_session.specs.declared.session.DumpSummary.{DumpSummary}
 pub use Rattle.command_plans.specs.Reading.{IsOpeningFault}
@@ -94,6 +100,22 @@ IsDumpRefusalFor faulted.Failed number refusal link = (refusal ≡ refused.ReadF
 IsDumpRefusalFor faulted.TooLong number refusal link =
     (refusal ≡ refused.Limit DumpOctets dump_limit) × (link ≡ Some number)
 IsDumpRefusalFor other number refusal link = (refusal ≡ refused.OutOfMemory) × (link ≡ None)
+
+-- A load may begin with a source: that has what the input of the dump's name has, the clock told the moment at which its
+-- packets are received, and links are numbered from 1.
+pub record MayLoad (files : Option Files) (next : Option ℤ) (words : LoadWords) (moment : ℤ) (source : SourceState)
+    : Type 0 where
+  pub dump : IsLeftAtFirst files words.dump source.left
+  pub told : IsMomentOf next moment
+  pub clock : IsClockTime moment
+  pub link : 1 ≤ words.link
+
+-- what a load did to the one source that was given for it, by the way that it took: it was read from, and failed where
+-- the way ended by that
+pub record UsedSource (old new : SourceState) (way : Way Progress ⊥) : Type 0 where
+  pub one : sources_at way ≡ 1
+  pub counted : Counted (failed_at way OfInputs) old.faults new.faults
+  pub reliable : old.never_fails → Stays old.faults new.faults
 
 -- ---- the session
 

@@ -1,6 +1,6 @@
 //! The command `load`: the packets of a dump, ingested into an archive.
 
-ghost use Rattle.std.specs.Prelude.{◌≡◌, ◌≤◌, ◌+◌, ◌-◌, ◌++◌, [], IsSome, IsTrue, IfOk, IfErr, IfSome, MatchResult, OnOk, None, Some, length, option_map};
+ghost use Rattle.std.specs.Prelude.{◌≡◌, ◌<◌, ◌≤◌, ◌+◌, ◌-◌, ◌++◌, [], IsSome, IsTrue, IfOk, IfErr, IfSome, MatchResult, OnErr, OnOk, None, Some, length, option_map};
 ghost use Rattle.refusals.specs.Limits.{limit_of};
 ghost use Rattle.refusals.specs.declared.refusal.Which.TheVariants as limits;
 ghost use Rattle.outer_traits.specs.Outside.{Stays};
@@ -13,9 +13,10 @@ ghost use Rattle.retrieval.specs.FoundAsks.{AreFound, asks_found};
 ghost use Rattle.ask_answers.specs.Asks.{ArePrinted, archive_asks_text};
 ghost use Rattle.command_runs.specs.Command.{Ran, RanOver, effects_of};
 ghost use Rattle.command_runs.specs.FillingPlan.{IsRecordCount};
+ghost use Rattle.command_runs.specs.Healing.{TriesToHeal};
 ghost use Rattle.command_runs.specs.Opened.{IsOpenedOn, WasOpened};
 ghost use Rattle.archive_store.specs.Keeping.{IsKept};
-ghost use Rattle.archive_store.specs.StoreView.{archive_of, filled_of};
+ghost use Rattle.archive_store.specs.StoreView.{StoreView, archive_of, filled_of};
 ghost use Rattle.history_items.specs.Items.{rows_in};
 ghost use Rattle.load_session.specs.Receiving.{receiving, IsRouteOver};
 ghost use Rattle.script_answers.specs.Scripts.{OrNoMemory};
@@ -24,17 +25,19 @@ ghost use Rattle.load_command.specs.LoadLine.{load_line};
 ghost use Rattle.load_command.specs.Loading.{IsDumpRefusal, IsDumpRefusalFor, IsNotReceived, IsReady, IsRouteAnswer, IsTold, IsWholeDump, link_refusal, load_asked, printed_report};
 ghost use Rattle.command_runs.specs.Report.{disk_of_work, loaded, read_only, report_of_work, status_at};
 ghost use Rattle.line_buffer.specs.LineRoom.{HasLineRoom};
+ghost use Rattle.line_buffer.specs.Printed.{PrintsText};
 ghost use Rattle.command_runs.specs.DumpRest.{dump_limit, ending_of};
 
 use arch_disk::Disk;
 use arch_types::octets::Octets;
+use arch_types::steps::Steps;
 use archive_store::Store;
 use ask_answers::answers::{check_asks, print_asks};
 use asks::Asks;
 use command_plans::read::{read_limited, refusal_of_opening};
+use command_runs::archive_work::{ArchiveWork, with_archive};
 use command_runs::dump_rest::bad_packet;
 use command_runs::finishing::finish;
-use command_runs::healing::heal;
 use command_runs::report::{Ended, LoadCounts, Report};
 use command_words::job::LoadWords;
 use line_buffer::LineBuffer;
@@ -42,6 +45,7 @@ use load_session::{DumpSummary, fill_late, run_session};
 use mdb_sheets::read_asks;
 use outer_traits::clock::Clock;
 use outer_traits::inputs::Inputs;
+use outer_traits::print_fault::PrintFault;
 use outer_traits::sink::Sink;
 use outer_traits::source::Source;
 use outer_traits::whole::{ReadFault, read_whole};
@@ -51,6 +55,9 @@ use script_answers::scripts::typed_text;
 use space_packet::dump::Why;
 use ssql_types::place::ScriptPlace;
 use std::alloc::Global;
+use std::marker::Brand;
+use std::snapshot::Snapshot;
+use std::sync::ledger::{Blank, Ledger};
 use stream_graph::graph::Graph;
 
 /// Opens a dump and the archive of a disk, ingests the dump's packets in batches of 64 into the tables that a route names, or where none is given into
@@ -160,7 +167,7 @@ fn load_routed<D: Disk, I: Inputs, K: Sink, C: Clock>(
     }
 }
 
-/// Opens a dump and the archive of a disk, and loads the dump by the route of a text, behind which the asks of a sheet are answered.
+/// Opens a dump, and loads it into the archive of a disk by the route of a text, behind which the asks of a sheet are answered.
 fn load_archive<D: Disk, I: Inputs, K: Sink, C: Clock>(
     alloc: Global,
     text: Option<&[u8]>,
@@ -178,29 +185,97 @@ fn load_archive<D: Disk, I: Inputs, K: Sink, C: Clock>(
         (I.state inputs.old) (I.state inputs.new) }
     ensures clock { UsedClock (C.state clock.old) (C.state clock.new) }
 {
-    let Ok(line_buffer) = LineBuffer::new(alloc) else {
-        return Err((disk, Refusal::OutOfMemory));
-    };
+    let known_inputs = Snapshot::of(&*inputs);
+    let known_clock = Snapshot::of(&*clock);
     let mut source = match inputs.open(alloc, words.dump) {
         Ok(source) => source,
         Err(fault) => return Err((disk, refusal_of_opening(alloc, fault, words.dump))),
     };
-    let mut store = match Store::open(alloc, disk) {
-        Ok(store) => store,
-        Err(refused) => {
-            inputs.close(source);
-            return Err(refused);
-        }
-    };
     let moment = clock.now();
-    let received = receive(alloc, &store, text, sheet, &mut source, words.link);
-    inputs.close(source);
-    let report = match received {
-        Ok(received) => load_dump(alloc, &mut store, &received, moment, line_buffer, sink),
-        Err(unread) => nothing_loaded(&store, unread),
+    let loading = Loading {
+        words,
+        text,
+        sheet,
+        moment,
+        known_inputs,
+        known_clock,
     };
-    store.is_kept();
-    Ok((store.into_disk(), report))
+    let loaded = with_archive(alloc, disk, &mut source, sink, loading);
+    inputs.close(source);
+    loaded
+}
+
+/// The loading of a dump that was opened, as a work with an archive.
+struct Loading<'a, I: Inputs, C: Clock> {
+    words: LoadWords<'a>,
+    text: Option<&'a [u8]>,
+    sheet: Result<Asks, Refusal>,
+    /// When the packets are received, in milliseconds since 1970.
+    moment: i64,
+    /// The inputs before the dump was opened and the clock before it told the moment, for contracts alone: a snapshot takes no
+    /// memory.
+    known_inputs: Snapshot<I>,
+    known_clock: Snapshot<C>,
+}
+
+impl<I: Inputs, C: Clock> Drop for Loading<'_, I, C> {
+    fn drop(self) {
+        let Self {
+            words: _,
+            text: _,
+            sheet: _,
+            moment: _,
+            known_inputs: _,
+            known_clock: _,
+        } = self;
+    }
+}
+
+impl<'a, I: Inputs, C: Clock> ArchiveWork for Loading<'a, I, C> {
+    ghost use Rattle.std.specs.Prelude.{option_map};
+    ghost use Rattle.command_words.specs.JobView.{load_words_of};
+    ghost use Rattle.load_command.specs.Load.{loading_plan};
+    ghost use Rattle.load_command.specs.Loading.{MayLoad, UsedSource};
+
+    type Input = I::Source;
+
+    ghost may = { λ work source. MayLoad (I.state work.known_inputs.value).files (C.state work.known_clock.value).next
+        (load_words_of work.words) work.moment (I.Source.state source) };
+
+    ghost plan = { λ work records found. loading_plan records (I.state work.known_inputs.value).files
+        (C.state work.known_clock.value).next (load_words_of work.words) (option_map (λ text. text.now) work.text)
+        work.sheet found };
+
+    ghost used = { λ old new way. UsedSource (I.Source.state old) (I.Source.state new) way };
+
+    fn work<D: Disk, K: Sink>(
+        self,
+        alloc: Global,
+        store: Store<D>,
+        input: &mut I::Source,
+        line_buffer: LineBuffer,
+        sink: &mut K,
+    ) -> (Store<D>, Report) {
+        let Loading {
+            words,
+            text,
+            sheet,
+            moment,
+            known_inputs: _,
+            known_clock: _,
+        } = self;
+        let mut store = store;
+        match receive(alloc, &store, text, sheet, input, words.link) {
+            Ok(received) => {
+                let report = load_dump(alloc, &mut store, &received, moment, line_buffer, sink);
+                (store, report)
+            }
+            Err(unread) => {
+                let report = nothing_loaded(&store, unread);
+                (store, report)
+            }
+        }
+    }
 }
 
 /// A dump that was read to its end, the link that it came by, the route of its packets, and the asks that are answered behind it.
@@ -372,9 +447,9 @@ fn nothing_loaded<D: Disk>(store: &Store<D>, unread: LoadRefusal) -> Report
     report
 }
 
-/// Ingests the packets of a dump that was received at a moment, in milliseconds since 1970, fills what is late behind them
-/// whatever that came to, and takes a failed write of either back. Then it prints the answers to the asks and what became of
-/// the packets, or tells why not.
+/// Ingests the packets of a dump that was received at a moment, in milliseconds since 1970, and fills what is late behind them
+/// whatever that came to. Then it prints the answers to the asks and what became of the packets, or tells why not. A write that
+/// failed stays pending: what comes behind the work takes it back.
 fn load_dump<D: Disk, K: Sink>(
     alloc: Global,
     store: &mut Store<D>,
@@ -391,12 +466,13 @@ fn load_dump<D: Disk, K: Sink>(
     requires empty { line_buffer ≡ [] }
     requires opened { WasOpened D.device store.old }
 
-    // Whichever disk it was opened on, it took a way through the plan of a session, and did what is said where that ends.
-    // What a store keeps is given.
-    ensures { (disk : D) → IsOpenedOn D.device disk store.old → IsKept D.device store.new → Ran D.device
+    // Whichever disk it was opened on, and whatever taking a failed write back leaves: it took a way through the plan of a
+    // session, and did what is said where that ends. What a store keeps is given.
+    ensures { (disk : D) (healed : StoreView D) → IsOpenedOn D.device disk store.old →
+        TriesToHeal D.device store.new healed → IsKept D.device healed → Ran D.device
         (session_plan (IsRecordCount D.device disk) (filled_of store.old)
         (receiving store.old.head store.old.history received.now.graph received.now.link moment) (asks_found received.now.asks)
-        received.now.dump) (effects_of disk store.new.disk (K.state sink.old) (K.state sink.new) result) }
+        received.now.dump) (effects_of disk healed.disk (K.state sink.old) (K.state sink.new) result) }
 {
     store.is_kept();
     let before = store.front();
@@ -409,7 +485,6 @@ fn load_dump<D: Disk, K: Sink>(
         moment,
     );
     let filled = fill_late(alloc, store);
-    heal(store);
     let after = store.front();
     match whole_dump(ended, filled, received.link) {
         Ok(whole) => print(
@@ -498,7 +573,8 @@ fn print<D: Disk, K: Sink>(
         duplicates: whole.routed - (after - before),
         idle: whole.idle,
     };
-    match print_asks(alloc, asks, store, &mut line_buffer, sink) {
+    let blank = Blank::new(1);
+    match print_answers::<D, K, Brand>(alloc, blank, asks, store, &mut line_buffer, sink) {
         Ok(()) => {
             put_line(&mut line_buffer, counts, after - before, rows);
             match finish(line_buffer, sink) {
@@ -508,6 +584,28 @@ fn print<D: Disk, K: Sink>(
         }
         Err(fault) => stopped(before, after, None, Refusal::from(fault)),
     }
+}
+
+/// Prints the answers to asks that were found, whose steps are counted in one book.
+fn print_answers<D: Disk, K: Sink, L: Ledger>(
+    alloc: Global,
+    blank: Blank,
+    asks: &[FoundAsk],
+    store: &mut Store<D>,
+    line_buffer: &mut LineBuffer,
+    sink: &mut K,
+) -> Result<(), PrintFault>
+    requires found { AreFound store.old.head store.old.history asks.now }
+    requires empty { line_buffer.old ≡ [] }
+    requires blank { (blank.name ≡ L.name) × (blank.parts ≡ L.parts) × (0 < blank.parts) }
+    ensures printed { PrintsText result (K.state sink.old) (K.state sink.new)
+        (archive_asks_text (filled_of store.old) 1 (asks_found asks.now)) line_buffer.new }
+    ensures asked { OnErr result (0 < length (asks_found asks.now)) }
+    ensures same { store.new ≡ store.old }
+{
+    let (book, share) = blank.open::<L>();
+    let mut steps = Steps::new(book, share);
+    print_asks(alloc, asks, store, line_buffer, sink, &mut steps)
 }
 
 /// Adds the last line.

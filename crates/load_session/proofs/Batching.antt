@@ -38,7 +38,7 @@ use Rattle.archive_store.specs.StoreView.{AddsFault, StoreView}
 use Rattle.archive_store.proofs.Calls.{ingest_cases}
 use Rattle.load_session.specs.declared.batches.NextBatch.{NextBatch}
 use Rattle.load_session.specs.Receiving.{Receiving, arrived, rows_received}
-use Rattle.load_session.specs.Batches.{arrivals_with, batch_at, IsNextBatch, IsRun}
+use Rattle.load_session.specs.Batches.{arrivals_with, batch_at, IsNextBatch, IsPacketRun}
 use Rattle.load_session.specs.Session.{ExactlyOne, HoldsFailedWrite, IsBetweenBatches, IsLimitOf, IsSessionEnd, IsSessionRun, SessionResult, OneOrMore}
 use Rattle.load_session.proofs.Arrived.{CanReceive, batch_none, batch_more, rows-append, arrived-append, few_arrived}
 use Rattle.load_session.proofs.Taking.{run_none, run_more, completes}
@@ -164,7 +164,7 @@ none_behind dump before (p ∷ ps) at rest cut joined each none =
     absurd (none p (concat ps ++ rest) (All-head IsPacket p ps first) after)
 
 -- one batch more is a whole one, or the last
-batches_more : (dump : List ℕ) (before packets : List (List ℕ)) (start end count : ℕ) → IsCut dump before start → IsRun dump start packets end → AreWholeBatches dump before start
+pub batches_more : (dump : List ℕ) (before packets : List (List ℕ)) (start end count : ℕ) → IsCut dump before start → IsPacketRun dump start packets end → AreWholeBatches dump before start
     → count ≡ length packets → length packets ≤ 64 → 0 < length packets → (count < 64 → BeginsWithNoPacket (drop end dump)) → AreWholeBatches dump (before ++ packets) end
 batches_more dump before packets start end count cut run batches is few some last = go (ltb count 64) refl batches
   where
@@ -302,7 +302,7 @@ module _ {D : Type 0} (old : StoreView D) (dump : List ℕ) (r : Receiving) wher
       }
 
   -- the place behind so many packets of a dump is between two batches
-  between_is : (so_far more : List (List ℕ)) (at : ℕ) (rest : List ℕ) → IsCut dump so_far at → AreWholeBatches dump so_far at → IsDump dump (so_far ++ more) rest → IsBetweenBatches (length so_far) (so_far ++ more)
+  pub between_is : (so_far more : List (List ℕ)) (at : ℕ) (rest : List ℕ) → IsCut dump so_far at → AreWholeBatches dump so_far at → IsDump dump (so_far ++ more) rest → IsBetweenBatches (length so_far) (so_far ++ more)
   between_is so_far more at rest cut (inl whole) parts = inr whole
   between_is so_far more at rest cut (inr none) parts =
       let nothing = none_behind dump so_far more at rest cut parts.joined parts.each none in
@@ -317,7 +317,7 @@ module _ {D : Type 0} (old : StoreView D) (dump : List ℕ) (r : Receiving) wher
       (subst (λ (l : List (List ℕ)). HasIngested old new r l) (sym (take-append_seam s.so_far all.0)) s.done) s.no_fault
 
   -- the batch from a place on
-  batch_is : (first batch more : List (List ℕ)) → length batch ≤ 64 → (length batch ≡ 64) ⊎ (more ≡ []) → batch_at (length first) (first ++ (batch ++ more)) ≡ batch
+  pub batch_is : (first batch more : List (List ℕ)) → length batch ≤ 64 → (length batch ≡ 64) ⊎ (more ≡ []) → batch_at (length first) (first ++ (batch ++ more)) ≡ batch
   batch_is first batch more few (inl full) =
       ap (take 64) (drop-append_seam first (batch ++ more)) ∙ ap (λ (n : ℕ). take n (batch ++ more)) (sym full) ∙ take-append_seam batch more
   batch_is first batch more few (inr none) =

@@ -26,7 +26,7 @@ use Rattle.history_items.proofs.FillLists.{base_after_item, flight_after_item}
 use Rattle.history_items.proofs.Late.{last_is_greatest, late_by_last}
 use Rattle.late_marks.specs.Mark.{is_late_by}
 use Rattle.interval_fills.specs.Intervals.{NoneSince, rows_of_interval}
-use Rattle.interval_fills.specs.Steps.{AllLateInFlight, MachineState, freed}
+use Rattle.interval_fills.specs.Steps.{AllLateInFlight, IsFillBase, MachineState, freed}
 use Rattle.interval_fills.proofs.Steps.{same_interval}
 use Rattle.interval_walks.specs.Counts.{intervals_in, late_intervals}
 use Rattle.interval_walks.proofs.Counts.{none_late, one_late_less}
@@ -181,15 +181,15 @@ module _ (head : Head) (exponent : ℕ) (history : List Item) (old now : Filling
       go (inl same) = ap late_by (sym same) ∙ late
       go (inr whole) = whole.0
 
-  one_whole : (base : ℕ) (set : List SetRow) → base ≡ length history → is_late_in_archive (filled_archive head exponent history now) i ≡ true → HoldsRows (database_in head.mdb history) set (rows_of_interval exponent i history)
+  one_whole : (base : ℕ) (set : List SetRow) → base ≡ length history → IsFillBase exponent i base history → is_late_in_archive (filled_archive head exponent history now) i ≡ true → HoldsRows (database_in head.mdb history) set (rows_of_interval exponent i history)
       → AddsRightFills head exponent history old (with_filling now i (fill_over base set))
-  one_whole base set over late holds j = go (is_same j i) refl
+  one_whole base set over may late holds j = go (is_same j i) refl
     where
       go : (b : Bool) → is_same j i ≡ b → ((if b then Some (fill_over base set) else now j) ≡ old j) ⊎ IsAddedFill head exponent history old j (if b then Some (fill_over base set) else now j)
       go true same =
           let whole : prefix base history ≡ history = take_all base history (omega (arith, over)) in
           inr (subst (λ (k : Interval). IsAddedFill head exponent history old k (Some (fill_over base set))) (sym (same_interval j i same))
-          (was_late late, (base, set, omega (arith, over), refl, subst (λ (h : List Item). HoldsRows (database_in head.mdb h) set (rows_of_interval exponent i h)) (sym whole) holds)))
+          (was_late late, (base, set, may, refl, subst (λ (h : List Item). HoldsRows (database_in head.mdb h) set (rows_of_interval exponent i h)) (sym whole) holds)))
       go false other = adds j
 
 -- ---- whether the log has room for the fills
@@ -355,13 +355,18 @@ module _ {D : Type 0} (device : Device D) (old now begun_store : StoreView D) (f
         };
         sets =
             subst (AddsRightFills old.head old.exponent old.history (fillings_in old.filled)) (sym (done.appended.filled ∙ ap (λ (x : PlacedFills). with_filling (fillings_in x) i (fill_over task.base done.set)) same_filled))
-            (one_whole old.head old.exponent old.history (fillings_in old.filled) (fillings_in now.filled) f.sets i task.base done.set (began.step.base_is ∙ ap length f.history) late_now held);
+            (one_whole old.head old.exponent old.history (fillings_in old.filled) (fillings_in now.filled) f.sets i task.base done.set (began.step.base_is ∙ ap length f.history) may late_now held);
         head = same.0 ∙ same_head ∙ f.head;
         exponent = same.1 ∙ same_exponent ∙ f.exponent;
         opened = same.2 ∙ same_opened ∙ f.opened;
         unchanged = λ none. absurd (omega (arith, none));
       }
         where
+          may : IsFillBase old.exponent i task.base old.history
+          may =
+              subst (IsFillBase old.exponent i task.base) begun_history
+              (subst (λ (e : ℕ). IsFillBase e i task.base begun_store.history) (same_exponent ∙ f.exponent) done.appended.may)
+
           late_now : is_late_in_archive (filled_archive old.head old.exponent old.history (fillings_in now.filled)) i ≡ true
           late_now =
               ap (λ (h : List Item). is_late_in_archive (filled_archive old.head old.exponent h (fillings_in now.filled)) i) (sym f.history)

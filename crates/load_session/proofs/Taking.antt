@@ -12,7 +12,7 @@ use Rattle.arch_types.specs.Packet.{IsPacket, packet_length}
 use Rattle.arch_types.proofs.Slices.{slice_length}
 use Rattle.space_packet.specs.Cut.{IsCut, IsPacketRange}
 use Rattle.space_packet.proofs.Cuts.{cut_more}
-use Rattle.load_session.specs.Batches.{IsRun}
+use Rattle.load_session.specs.Batches.{IsPacketRun}
 
 -- ---- each dump has packets and a rest
 
@@ -118,13 +118,13 @@ completes dump packets at cut =
 
 -- ---- runs of packets
 
-pub run_none : (dump : List ℕ) (at : ℕ) → IsRun dump at [] at
+pub run_none : (dump : List ℕ) (at : ℕ) → IsPacketRun dump at [] at
 run_none dump at = record {
   rising = omega arith;
   follows = λ before cut. subst (λ (l : List (List ℕ)). IsCut dump l at) (sym (append-nil before)) cut;
 }
 
-pub run_more : (dump : List ℕ) (start : ℕ) (packets : List (List ℕ)) (mid end : ℕ) → IsRun dump start packets mid → IsPacketRange dump mid end → IsRun dump start (packets ++ slice_range dump mid end ∷ []) end
+pub run_more : (dump : List ℕ) (start : ℕ) (packets : List (List ℕ)) (mid end : ℕ) → IsPacketRun dump start packets mid → IsPacketRange dump mid end → IsPacketRun dump start (packets ++ slice_range dump mid end ∷ []) end
 run_more dump start packets mid end run range =
     let rising = run.rising in
     let header = range.packet.header in

@@ -25,7 +25,7 @@ abbrev pub arrivals_with : Receiving → List Arrival → List ℕ → List Arri
 arrivals_with r before packet = if is_idle packet then before else before ++ arrival_from r packet ∷ []
 
 -- the octets of a dump from one place to another are these packets joined
-pub record IsRun (dump : List ℕ) (start : ℕ) (packets : List (List ℕ)) (end : ℕ) : Type 0 where
+pub record IsPacketRun (dump : List ℕ) (start : ℕ) (packets : List (List ℕ)) (end : ℕ) : Type 0 where
   pub rising : start + length packets ≤ end
   pub follows : (before : List (List ℕ)) → IsCut dump before start → IsCut dump (before ++ packets) end
 
@@ -39,7 +39,7 @@ pub record IsBatchOf (r : Receiving) (packets : List (List ℕ)) (batch : Batch)
 -- packets that were taken from a dump for a batch
 pub record IsNextBatch (dump : List ℕ) (start end : ℕ) (r : Receiving) (taken : NextBatch) : Type 0 where
   pub packets : List (List ℕ)
-  pub run : IsRun dump start packets end
+  pub run : IsPacketRun dump start packets end
   pub count : taken.packets ≡ length packets
   pub few : length packets ≤ 64
   pub batch : IsBatchOf r packets taken.batch

@@ -25,15 +25,15 @@ const BATCH: u64 = 64;
 
 /// Packets that were taken from a dump for a batch, from which idle ones are left out.
 #[derive(Drop)]
-pub(crate) struct NextBatch {
-    pub(crate) batch: Batch,
+pub struct NextBatch {
+    pub batch: Batch,
     /// All packets, idle ones counted too.
-    pub(crate) packets: u64,
+    pub packets: u64,
 }
 
 /// Takes the next packets of a dump for a batch: fewer than it takes only where no more follow. Their packet names are those of the
 /// head's database, as they are behind rows alone.
-pub(crate) fn next_batch(
+pub fn next_batch(
     alloc: Global,
     head: &Head,
     graph: &Graph,

@@ -19,5 +19,6 @@ mod filling;
 pub mod laws;
 mod session;
 
+pub use batches::{NextBatch, next_batch};
 pub use filling::fill_late;
 pub use session::{DumpSummary, run_session};

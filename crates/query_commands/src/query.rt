@@ -1,6 +1,6 @@
 //! The command `query --ask`: the answers of an archive to a sheet of asks.
 
-ghost use Rattle.std.specs.Prelude.{◌≡◌, [], IsSome, IsTrue, None};
+ghost use Rattle.std.specs.Prelude.{◌≡◌, ◌<◌, [], IsSome, IsTrue, None};
 ghost use Rattle.archive_store.specs.StoreView.{filled_of};
 ghost use Rattle.retrieval.specs.FoundAsks.{AreFound, asks_found};
 ghost use Rattle.command_plans.specs.Plan.{IsDue};
@@ -11,6 +11,7 @@ ghost use Rattle.query_commands.specs.QueryReplying.{IsSheetReply};
 ghost use Rattle.command_runs.specs.Report.{disk_of_work, report_of_work, status_at};
 
 use arch_disk::Disk;
+use arch_types::steps::Steps;
 use archive_store::Store;
 use ask_answers::answers::{check_asks, print_asks};
 use asks::Asks;
@@ -24,6 +25,8 @@ use outer_traits::sink::Sink;
 use refusals::Refusal;
 use retrieval::found_asks::FoundAsk;
 use std::alloc::Global;
+use std::marker::Brand;
+use std::sync::ledger::{Blank, Ledger};
 
 /// Answers the asks of a sheet over the whole history of a disk's archive.
 ///
@@ -66,7 +69,7 @@ fn work<D: Disk, I: Inputs, K: Sink>(
         (I.state inputs.old) (I.state inputs.new) }
 {
     match read_asks(alloc, inputs, name) {
-        Ok(sheet) => with_archive(alloc, disk, sink, SheetAnswering { sheet }),
+        Ok(sheet) => with_archive(alloc, disk, &mut (), sink, SheetAnswering { sheet }),
         Err(refusal) => Err((disk, refusal)),
     }
 }
@@ -80,18 +83,22 @@ struct SheetAnswering {
 impl ArchiveWork for SheetAnswering {
     ghost use Rattle.query_commands.specs.Query.{answering_plan};
 
-    ghost plan = { λ job records found. answering_plan job.sheet found };
+    type Input = ();
+
+    ghost plan = { λ work records found. answering_plan work.sheet found };
 
     fn work<D: Disk, K: Sink>(
         self,
         alloc: Global,
-        store: &mut Store<D>,
+        store: Store<D>,
+        _input: &mut (),
         line_buffer: LineBuffer,
         sink: &mut K,
-    ) -> Report {
+    ) -> (Store<D>, Report) {
+        let mut store = store;
         let front = store.front();
-        let refusal = answer_sheet(alloc, self.sheet, store, line_buffer, sink);
-        Report::read_only(refusal, front)
+        let refusal = answer_sheet(alloc, self.sheet, &mut store, line_buffer, sink);
+        (store, Report::read_only(refusal, front))
     }
 }
 
@@ -108,14 +115,18 @@ fn answer_sheet<D: Disk, K: Sink>(
     ensures same { store.new ≡ store.old }
 {
     match check_asks(alloc, store, sheet) {
-        Ok(asks) => answer_asks(alloc, asks.as_slice(), store, line_buffer, sink),
+        Ok(asks) => {
+            let asks = asks.as_slice();
+            answer_asks::<D, K, Brand>(alloc, Blank::new(1), asks, store, line_buffer, sink)
+        }
         Err(refusal) => Some(refusal),
     }
 }
 
-/// Prints the answers to asks that were found.
-fn answer_asks<D: Disk, K: Sink>(
+/// Prints the answers to asks that were found, whose steps are counted in one book.
+fn answer_asks<D: Disk, K: Sink, L: Ledger>(
     alloc: Global,
+    blank: Blank,
     asks: &[FoundAsk],
     store: &mut Store<D>,
     line_buffer: LineBuffer,
@@ -123,12 +134,15 @@ fn answer_asks<D: Disk, K: Sink>(
 ) -> Option<Refusal>
     requires found { AreFound store.old.head store.old.history asks.now }
     requires empty { line_buffer ≡ [] }
+    requires blank { (blank.name ≡ L.name) × (blank.parts ≡ L.parts) × (0 < blank.parts) }
     ensures printed { ArePrinted (asks_found asks.now) result (K.state sink.old) (K.state sink.new)
         (archive_asks_text (filled_of store.old) 1 (asks_found asks.now)) }
     ensures same { store.new ≡ store.old }
 {
     let mut line_buffer = line_buffer;
-    match print_asks(alloc, asks, store, &mut line_buffer, sink) {
+    let (book, share) = blank.open::<L>();
+    let mut steps = Steps::new(book, share);
+    match print_asks(alloc, asks, store, &mut line_buffer, sink, &mut steps) {
         Ok(()) => finish(line_buffer, sink),
         Err(fault) => Some(Refusal::from(fault)),
     }

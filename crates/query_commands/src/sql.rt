@@ -1,6 +1,6 @@
 //! The command `query --sql`: the answers of an archive to a script.
 
-ghost use Rattle.std.specs.Prelude.{◌≡◌, [], length, IsSome, IsTrue};
+ghost use Rattle.std.specs.Prelude.{◌≡◌, ◌<◌, [], length, IsSome, IsTrue};
 ghost use Rattle.std.specs.List.{AllByRecursion};
 ghost use Rattle.archive_store.specs.StoreView.{archive_of};
 ghost use Rattle.command_plans.specs.Plan.{IsDue};
@@ -13,6 +13,7 @@ ghost use Rattle.script_answers.specs.Statements.{packet_names, statements_text}
 
 use arch_disk::Disk;
 use arch_types::name::Names;
+use arch_types::steps::Steps;
 use archive_store::Store;
 use command_plans::read::read_limited;
 use command_runs::archive_work::{ArchiveWork, with_archive};
@@ -28,6 +29,8 @@ use ssql_types::laws::typed_names_tables;
 use ssql_types::place::ScriptPlace;
 use ssql_types::statement::TypedStatement;
 use std::alloc::Global;
+use std::marker::Brand;
+use std::sync::ledger::{Blank, Ledger};
 
 /// Answers the statements of a script over the whole history of a disk's archive.
 ///
@@ -73,7 +76,7 @@ fn work<D: Disk, I: Inputs, K: Sink>(
     match read_limited(alloc, inputs, name, Which::ScriptOctets) {
         Ok(octets) => {
             let text = octets.as_slice();
-            with_archive(alloc, disk, sink, TextAnswering { text })
+            with_archive(alloc, disk, &mut (), sink, TextAnswering { text })
         }
         Err(refusal) => Err((disk, refusal)),
     }
@@ -88,18 +91,21 @@ struct TextAnswering<'a> {
 impl<'a> ArchiveWork for TextAnswering<'a> {
     ghost use Rattle.query_commands.specs.Sql.{text_plan};
 
-    ghost plan = { λ job records found. text_plan job.text.now found };
+    type Input = ();
+
+    ghost plan = { λ work records found. text_plan work.text.now found };
 
     fn work<D: Disk, K: Sink>(
         self,
         alloc: Global,
-        store: &mut Store<D>,
+        store: Store<D>,
+        _input: &mut (),
         line_buffer: LineBuffer,
         sink: &mut K,
-    ) -> Report {
+    ) -> (Store<D>, Report) {
         let front = store.front();
-        let refusal = answer_text(alloc, self.text, store, line_buffer, sink);
-        Report::read_only(refusal, front)
+        let refusal = answer_text(alloc, self.text, &store, line_buffer, sink);
+        (store, Report::read_only(refusal, front))
     }
 }
 
@@ -137,14 +143,19 @@ fn answer_over<D: Disk, K: Sink>(
     store.is_kept();
     let head = store.head();
     match typed_text(alloc, text, ScriptPlace::Sql, &head.tables, names) {
-        Ok(script) => print_answers(alloc, script.as_slice(), names, store, line_buffer, sink),
+        Ok(script) => {
+            let script = script.as_slice();
+            let blank = Blank::new(1);
+            print_answers::<D, K, Brand>(alloc, blank, script, names, store, line_buffer, sink)
+        }
         Err(refusal) => Some(refusal),
     }
 }
 
-/// Prints the answers to statements, and what is still buffered.
-fn print_answers<D: Disk, K: Sink>(
+/// Prints the answers to statements, whose steps are counted in one book, and what is still buffered.
+fn print_answers<D: Disk, K: Sink, L: Ledger>(
     alloc: Global,
+    blank: Blank,
     statements: &[TypedStatement],
     names: &Names,
     store: &Store<D>,
@@ -154,11 +165,22 @@ fn print_answers<D: Disk, K: Sink>(
     requires names { names.now ≡ packet_names store.now.head store.now.history }
     requires tables { AllByRecursion (NamesTables (length store.now.head.tables)) statements.now }
     requires empty { line_buffer ≡ [] }
+    requires blank { (blank.name ≡ L.name) × (blank.parts ≡ L.parts) × (0 < blank.parts) }
     ensures { IsTextPrinted result (K.state sink.old) (K.state sink.new)
         (statements_text (archive_of store.now) statements.now) }
 {
     let mut line_buffer = line_buffer;
-    match answer_statements(alloc, statements, names, store, &mut line_buffer, sink) {
+    let (book, share) = blank.open::<L>();
+    let mut steps = Steps::new(book, share);
+    match answer_statements(
+        alloc,
+        statements,
+        names,
+        store,
+        &mut line_buffer,
+        sink,
+        &mut steps,
+    ) {
         Ok(()) => finish(line_buffer, sink),
         Err(fault) => Some(Refusal::from(fault)),
     }

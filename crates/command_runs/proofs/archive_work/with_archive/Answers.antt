@@ -1,32 +1,29 @@
 use Rattle.std.proofs.Common.{sym, subst}
 use Rattle.std.proofs.lemmas.Result.{err_from_is_err_and}
 use Rattle.archive_store.specs.StoreView.{filled_of}
-use Rattle.command_plans.specs.Plan.{OfMemory, and_then}
-use Rattle.command_runs.specs.ArchiveWork.{opened_plan}
-use Rattle.command_runs.specs.Command.{Ran, effects_of, nothing_done, opening_plan}
-use Rattle.command_runs.specs.FillingPlan.{IsRecordCount}
-use Rattle.command_runs.proofs.Commands.{ran_later, ran_opened, ran_refused_opening, ran_without_memory}
+use Rattle.command_runs.specs.ArchiveWork.{RanWith, UsedByWork, opened_plan}
+use Rattle.command_runs.specs.Command.{effects_of}
+use Rattle.command_runs.proofs.Commands.{work_done, work_unopened, work_without_memory}
 use Rattle.command_runs.proofs.Openings.{opened_on}
 use Rattle.command_runs.proofs.archive_work.with_archive.Goals as goal
 
 pub returns-in_default : goal.returns-in_default
 returns-in_default g c = λ sources.
-    let device = g.D.Disk.device in
-    let disk = c.args.disk in
-    ran_without_memory device disk (g.K.Sink.state c.args.sink.now) sources (and_then (opening_plan sources device disk) (g.W.ArchiveWork.plan c.args.job (IsRecordCount device disk)))
+    let input = c.args.input.now in
+    work_without_memory g.D.Disk.device c.args.disk (g.K.Sink.state c.args.sink.now) sources input (g.W.ArchiveWork.used input) (g.W.ArchiveWork.plan c.args.work)
 
 pub returns-in_err-store : goal.returns-in_err-store
 returns-in_err-store g c = λ sources.
-    let device = g.D.Disk.device in
-    let disk = c.args.disk in
+    let input = c.args.input.now in
     let e = c.in_err-store.ensures in
     let p = err_from_is_err_and c.from_residual.result c.from_residual.ensures.1 in
-    rw (p.1, p.2) (ran_refused_opening device disk (g.K.Sink.state c.args.sink.now) sources (g.W.ArchiveWork.plan c.args.job (IsRecordCount device disk)) c.in_err-store.field-0.0 e.refused e.reads e.crash e.counts)
+    rw (p.1, p.2)
+    (work_unopened g.D.Disk.device c.args.disk (g.K.Sink.state c.args.sink.now) sources input (g.W.ArchiveWork.used input) (g.W.ArchiveWork.plan c.args.work) c.in_err-store.field-0.0 e.refused e.reads e.crash)
 
 -- ---- the archive was opened
 
-pub work-report-requires-clause-opened : goal.work-report-requires-clause-opened
-work-report-requires-clause-opened g c = let e = c.in_ok-store.ensures in (c.args.disk, opened_on e.opened e.reads e.crash e.counts)
+pub work-store-requires-clause-opened : goal.work-store-requires-clause-opened
+work-store-requires-clause-opened g c = let e = c.in_ok-store.ensures in (c.args.disk, opened_on e.opened e.reads e.crash e.counts)
 
 -- and the work done
 pub returns : goal.returns
@@ -35,12 +32,13 @@ returns g c = λ sources.
     let disk = c.args.disk in
     let s = c.in_ok-store.store in
     let e = c.in_ok-store.ensures in
-    let report = c.work-report.result in
+    let healed = c.heal.new.store in
+    let input = c.args.input.now in
+    let input' = c.work-store.new.input in
     let output = g.K.Sink.state c.args.sink.now in
-    let output' = g.K.Sink.state c.work-report.new.sink in
-    let went = effects_of disk c.work-report.new.store.disk output output' report in
-    let work = g.W.ArchiveWork.plan c.args.job (IsRecordCount device disk) in
-    subst (λ (d : g.row.D.Denot). Ran device (opened_plan sources device disk (g.W.ArchiveWork.plan c.args.job)) (effects_of disk d output output' report)) (sym c.into_disk.ensures.disk)
-    (ran_later device went OfMemory (nothing_done sources) (and_then (opening_plan sources device disk) work)
-    (ran_opened device went work sources (filled_of s) (λ known. e.opened.filled known)
-    (c.work-report.ensures disk (opened_on e.opened e.reads e.crash e.counts) c.is_kept.ensures)))
+    let output' = g.K.Sink.state c.work-store.new.sink in
+    let report = c.work-store.result.1 in
+    let plan = g.W.ArchiveWork.plan c.args.work in
+    subst (λ (d : g.row.D.Denot). RanWith device (opened_plan sources device disk plan) (effects_of disk d output output' report) (UsedByWork sources input input' (g.W.ArchiveWork.used input input'))) (sym c.into_disk.ensures.disk)
+    (work_done device disk output sources input (g.W.ArchiveWork.used input) plan (effects_of disk healed.disk output output' report) input' (filled_of s) (λ known. e.opened.filled known)
+    (c.work-store.ensures disk healed (opened_on e.opened e.reads e.crash e.counts) c.heal.ensures c.is_kept.ensures))

@@ -13,12 +13,12 @@ returns-in-None g c =
     let is = ap (λ (r : Report). r.refusal) c.loaded.ensures ∙ sym c.in-None.is in
     let line = rw (c.front-after.ensures, c.row_count-rows.ensures) at c.put_line.ensures in
     let before = g.K.Sink.state c.args.sink.now in
-    let mid = g.K.Sink.state c.print_asks.new.sink in
+    let mid = g.K.Sink.state c.print_answers.new.sink in
     let after = g.K.Sink.state c.finish.new.sink in
     let answers = archive_asks_text (filled_of c.args.store.now) 1 (asks_found c.args.asks.now) in record {
-      printed = finished_line (asks_found c.args.asks.now) c.finish.result c.loaded.result.refusal before mid after answers c.print_asks.new.line_buffer _ c.put_line.new.line_buffer is line c.in-Ok.ensures.printed c.finish.ensures;
+      printed = finished_line (asks_found c.args.asks.now) c.finish.result c.loaded.result.refusal before mid after answers c.print_answers.new.line_buffer _ c.put_line.new.line_buffer is line c.in-Ok.ensures.printed c.finish.ensures;
       report = printed c.loaded.result c.args.before c.front-after.result _ c.args.whole.packets c.args.whole.routed c.args.whole.idle c.front-after.ensures c.loaded.ensures;
-      same = c.print_asks.ensures.same;
+      same = c.print_answers.ensures.same;
     }
 
 pub returns-in-Some : goal.returns-in-Some
@@ -26,12 +26,12 @@ returns-in-Some g c =
     let is = ap (λ (r : Report). r.refusal) c.stopped.ensures ∙ sym c.in-Some.is in
     let line = rw (c.front-after.ensures, c.row_count-rows.ensures) at c.put_line.ensures in
     let before = g.K.Sink.state c.args.sink.now in
-    let mid = g.K.Sink.state c.print_asks.new.sink in
+    let mid = g.K.Sink.state c.print_answers.new.sink in
     let after = g.K.Sink.state c.finish.new.sink in
     let answers = archive_asks_text (filled_of c.args.store.now) 1 (asks_found c.args.asks.now) in record {
-      printed = finished_line (asks_found c.args.asks.now) c.finish.result c.stopped.result.refusal before mid after answers c.print_asks.new.line_buffer _ c.put_line.new.line_buffer is line c.in-Ok.ensures.printed c.finish.ensures;
+      printed = finished_line (asks_found c.args.asks.now) c.finish.result c.stopped.result.refusal before mid after answers c.print_answers.new.line_buffer _ c.put_line.new.line_buffer is line c.in-Ok.ensures.printed c.finish.ensures;
       report = not_printed c.stopped.result c.in-Some.refusal c.args.before _ c.args.whole.packets c.args.whole.routed c.args.whole.idle (rw c.front-after.ensures at c.stopped.ensures);
-      same = c.print_asks.ensures.same;
+      same = c.print_answers.ensures.same;
     }
 
 pub returns-in-Err : goal.returns-in-Err
@@ -39,9 +39,9 @@ returns-in-Err g c =
     let is = ap (λ (r : Report). r.refusal) c.stopped-in-Err.ensures in
     let from : c.from.result ≡ refusal_of_print c.in-Err.fault = c.from.ensures in
     let before = g.K.Sink.state c.args.sink.now in
-    let after = g.K.Sink.state c.print_asks.new.sink in
+    let after = g.K.Sink.state c.print_answers.new.sink in
     let answers = archive_asks_text (filled_of c.args.store.now) 1 (asks_found c.args.asks.now) in record {
-      printed = rw (is, from) (unfinished_line (asks_found c.args.asks.now) c.in-Err.fault before after answers c.print_asks.new.line_buffer _ c.in-Err.ensures.asked c.in-Err.ensures.printed);
+      printed = rw (is, from) (unfinished_line (asks_found c.args.asks.now) c.in-Err.fault before after answers c.print_answers.new.line_buffer _ c.in-Err.ensures.asked c.in-Err.ensures.printed);
       report = not_printed c.stopped-in-Err.result c.from.result c.args.before _ c.args.whole.packets c.args.whole.routed c.args.whole.idle (rw c.front-after.ensures at c.stopped-in-Err.ensures);
-      same = c.print_asks.ensures.same;
+      same = c.print_answers.ensures.same;
     }

@@ -9,15 +9,12 @@ typed_text-requires g c = record {
   names = rw c.requires.names (omega (arith, c.is_kept.ensures.few_names));
 }
 
-pub print_answers-requires : goal.print_answers-requires
-print_answers-requires g c = record {
-  names = c.requires.names;
-  tables = rw c.as_slice.ensures (named_tables (archive_of c.args.store.now) c.args.text.now c.in-Ok.script c.typed_names_tables.ensures (rw (c.requires.names, c.head-head.ensures.head) at c.in-Ok.ensures));
-  empty = c.requires.empty;
-}
+pub print_answers-requires-clause-tables : goal.print_answers-requires-clause-tables
+print_answers-requires-clause-tables g c =
+    rw c.as_slice-script.ensures (named_tables (archive_of c.args.store.now) c.args.text.now c.in-Ok.script c.typed_names_tables.ensures (rw (c.requires.names, c.head-head.ensures.head) at c.in-Ok.ensures))
 
 pub returns-in-Ok : goal.returns-in-Ok
-returns-in-Ok g c = inr (c.in-Ok.script, rw (c.requires.names, c.head-head.ensures.head) at c.in-Ok.ensures, rw c.as_slice.ensures at c.print_answers.ensures)
+returns-in-Ok g c = inr (c.in-Ok.script, rw (c.requires.names, c.head-head.ensures.head) at c.in-Ok.ensures, rw c.as_slice-script.ensures at c.print_answers.ensures)
 
 pub returns-in-Err : goal.returns-in-Err
 returns-in-Err g c = inl (rw c.head-head.ensures.head at c.in-Err.ensures, refl)

@@ -18,21 +18,20 @@ use Rattle.archive_commands.proofs.Recovered.{ran_recovered, ran_unrecovered}
 use Rattle.command_runs.proofs.During.{IsOpened, opened_store}
 use Rattle.archive_commands.proofs.recover.RecoveringArchiveWork.work.Goals as goal
 
-pub fill_late-filled-requires : goal.fill_late-filled-requires
-fill_late-filled-requires g c = idle_done c.args.store.now.fills c.requires.opened.1.opened.fills
+pub fill_late-requires : goal.fill_late-requires
+fill_late-requires g c = idle_done c.args.store.fills c.requires.opened.1.opened.fills
 
 -- each late interval was filled
 pub returns-in-Ok : goal.returns-in-Ok
-returns-in-Ok g c = λ disk on after.
+returns-in-Ok g c = λ disk new on heals after.
     let device = g.D.Disk.device in
-    let s = c.args.store.now in
+    let s = c.args.store in
     let front = c.front-front.ensures in
     let kept = c.is_kept.ensures in
-    let mid = c.fill_late-filled.new.store in
-    let new = c.heal.new.store in
-    let left = c.fill_late-filled.ensures.left in
+    let mid = c.fill_late.new.store in
+    let left = c.fill_late.ensures.left in
     let filled = c.in-Ok.filled in
-    let done : AllLateFilled device s mid filled = rw c.in-Ok.is at c.fill_late-filled.ensures.filled in
+    let done : AllLateFilled device s mid filled = c.in-Ok.ensures.filled in
     let refusal = c.finish-refusal.result in
     let report = c.read_only.result in
     let output = g.K.Sink.state c.args.sink.now in
@@ -49,24 +48,25 @@ returns-in-Ok g c = λ disk on after.
     let opened : IsTrue device.is_transparent → IsOpened device disk s = λ known. opened_store device disk s (on.opened.filled known) on.reads on.opened.opening on.crash in
     let no_fault = faults_in-done s.fills on.opened.fills in
     let outcome =
-    filled_disk device disk s s mid new opened on.counts.faults refl refl refl refl left c.heal.ensures after.images after.faults after.kept no_fault on.opened.no_fault on.opened.no_failed_write
+    filled_disk device disk s s mid new opened on.counts.faults refl refl refl refl left heals after.images after.faults after.kept no_fault on.opened.no_fault on.opened.no_failed_write
     filled done (λ known. after.bases) in
-    let still = still_opened device disk s new on kept as_late (unchanged_by device s mid new no_fault left.unchanged c.heal.ensures) in
-    ran_recovered device went (IsRecordCount device disk) s mid on.opened.records as_late still refusal text is outcome
-    (ap (filling_refusal s.records) (sym as_filled) ∙ done.fits)
+    let still = still_opened device disk s new on kept as_late (unchanged_by device s mid new no_fault left.unchanged heals) in
+    record {
+      ran = ran_recovered device went (IsRecordCount device disk) s mid on.opened.records as_late still refusal text is outcome (ap (filling_refusal s.records) (sym as_filled) ∙ done.fits);
+      used = tt;
+    }
 
 -- not each was
 pub returns-in-Err : goal.returns-in-Err
-returns-in-Err g c = λ disk on after.
+returns-in-Err g c = λ disk new on heals after.
     let device = g.D.Disk.device in
-    let s = c.args.store.now in
+    let s = c.args.store in
     let front = c.front-front.ensures in
     let kept = c.is_kept.ensures in
-    let mid = c.fill_late-filled.new.store in
-    let new = c.heal.new.store in
-    let left = c.fill_late-filled.ensures.left in
+    let mid = c.fill_late.new.store in
+    let left = c.fill_late.ensures.left in
     let refusal = c.in-Err.refusal in
-    let refused : IsFillingRefusal device s mid refusal = rw c.in-Err.is at c.fill_late-filled.ensures.refused in
+    let refused : IsFillingRefusal device s mid refusal = c.in-Err.ensures.refused in
     let report = c.read_only-in-Err.result in
     let output = g.K.Sink.state c.args.sink.now in
     let went = effects_of disk new.disk output output report in
@@ -75,8 +75,12 @@ returns-in-Err g c = λ disk on after.
     let opened : IsTrue device.is_transparent → IsOpened device disk s = λ known. opened_store device disk s (on.opened.filled known) on.reads on.opened.opening on.crash in
     let no_fault = faults_in-done s.fills on.opened.fills in
     let healed = pending_fault_of-in s.fills ∙ ap pending_fault_of no_fault in
-    let still = still_opened device disk s new on kept as_late (unchanged_by device s mid new no_fault left.unchanged c.heal.ensures) in
-    ran_unrecovered device went (IsRecordCount device disk) s mid on.opened.records as_late still refl healed (none_failed device s mid on.opened.fills as_late left.unchanged)
-    (unfailed_disk device disk s s mid new opened on.counts.faults refl refl refl refl left c.heal.ensures after.images after.faults after.kept no_fault on.opened.no_fault on.opened.no_failed_write)
-    (failed_disk device disk s s mid new opened on.counts.faults refl refl refl refl left c.heal.ensures after.images after.faults after.kept no_fault on.opened.no_fault on.opened.no_failed_write)
-    refusal refused is
+    let still = still_opened device disk s new on kept as_late (unchanged_by device s mid new no_fault left.unchanged heals) in
+    record {
+      ran =
+          ran_unrecovered device went (IsRecordCount device disk) s mid on.opened.records as_late still refl healed (none_failed device s mid on.opened.fills as_late left.unchanged)
+          (unfailed_disk device disk s s mid new opened on.counts.faults refl refl refl refl left heals after.images after.faults after.kept no_fault on.opened.no_fault on.opened.no_failed_write)
+          (failed_disk device disk s s mid new opened on.counts.faults refl refl refl refl left heals after.images after.faults after.kept no_fault on.opened.no_fault on.opened.no_failed_write)
+          refusal refused is;
+      used = tt;
+    }
