@@ -12,9 +12,9 @@ use std::sync::Wait;
 /// The most wake-ups that a begin waits for.
 const MOST: u64 = 64;
 
-/// A target whose begins wait once an install was stale: for 1, 2, 4 .. 64 wake-ups, twice as many after each stale install,
-/// until one is there. So an interval that grows while it is filled is begun about as often as its length has binary digits,
-/// and not once for each batch that comes to it.
+/// A target whose begins wait once an install was stale: for 1, 2, 4 .. 64 wake-ups, twice as many after each stale
+/// install, until one is there. So an interval that grows while it is filled is begun about as often as its length has
+/// binary digits, and not once for each batch that comes to it.
 pub struct Patient<'a, T: FillTarget, R: Wait> {
     pub target: T,
     rt: &'a R,

@@ -1,4 +1,4 @@
-//! A filler who works whenever he is woken.
+//! A filler that works whenever it is woken.
 
 ghost use Rattle.std.specs.Prelude.{OnOk, IfErr};
 ghost use Rattle.backfiller.specs.Work.{AreAllDone, IsOneRefused};
@@ -10,8 +10,8 @@ use outer_traits::gate::Gate;
 use refusals::Refusal;
 use std::sync::Wait;
 
-/// Works once after each wake-up, until nobody is left who could send one. Of wake-ups that have gathered one is enough, since
-/// a work leaves none to begin.
+/// Works once after each wake-up, until nobody is left who could send one. Of wake-ups that have gathered one is
+/// enough, since a work leaves none to begin.
 pub fn work_when_woken<R: Wait, T: FillTarget, G: Gate>(
     rt: &R,
     target: &mut T,

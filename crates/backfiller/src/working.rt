@@ -9,8 +9,8 @@ use outer_traits::gate::Gate;
 use refusals::Refusal;
 use std::sync::Wait;
 
-/// Begins fills and hands their tasks to an install, one after the other, until a begin gives none, and tells how many were
-/// installed. It passes the gate before each call, and waits where its target waits.
+/// Begins fills and hands their tasks to an install, one after the other, until a begin gives none, and tells how many
+/// were installed. It passes the gate before each call, and waits where its target waits.
 pub fn work<R: Wait, T: FillTarget, G: Gate>(
     rt: &R,
     target: &mut T,

@@ -1,8 +1,11 @@
 -- Each call of a store goes on from what there was.
-use Rattle.std.proofs.Common.{◌≡◌, inl, inr, ⊎_elim, ℕ, suc, ◌+◌, ◌≤◌, Bool, true, false, List, [], ◌∷◌, ◌++◌, length, fold, IsTrue, Option, Some, None, Result, Ok, Err, MatchResult, if◌then◌else◌, refl, sym, ap, ◌∙◌, subst, arith, append_assoc, append-nil, length-append, le_refl}
+use Rattle.std.proofs.Common.{◌≡◌, ◌⊎◌, inl, inr, ⊎_elim, ℕ, suc, ◌+◌, ◌≤◌, Bool, true, false, List, [], ◌∷◌, ◌++◌, length, fold, IsTrue, Option, Some, None, Result, Ok, Err, MatchResult, if◌then◌else◌, refl, sym, ap, ◌∙◌, subst, arith, append_assoc, append-nil, length-append, le_refl}
+use Rattle.std.specs.List.{filter_map}
 use Rattle.std.specs.Option.{is_some, option_or}
+use Rattle.std.specs.Prelude.{slice_get}
+use Rattle.std.proofs.lemmas.List.Elements.{filter_map-append}
 use mathlib.Core.List.{IsPrefix}
-use Rattle.arch_disk.specs.Disk.{Device, raised}
+use Rattle.arch_disk.specs.Disk.{Device, LeavesOnly, raised}
 use Rattle.intervals.specs.declared.interval.Interval.{Interval}
 use Rattle.arch_types.specs.declared.inserted.Inserted.{Inserted}
 use Rattle.arch_types.specs.declared.inserted.Installed.{Installed}
@@ -14,11 +17,15 @@ use Rattle.history_items.specs.declared.fills.Addition.{Addition}
 use Rattle.history_items.specs.declared.fills.Addition.TheVariants as additions
 use Rattle.history_items.specs.declared.fills.Fill.{Fill}
 use Rattle.history_items.specs.declared.fills.Fill.TheVariants.{Begun, Done, Freed, Fault}
+use Rattle.mdb_items.specs.Database.{Database}
 use Rattle.history_items.specs.declared.items.Item.{Item}
-use Rattle.history_items.specs.Items.{items_of}
+use Rattle.history_items.specs.Items.{databases_in, items_of}
+use Rattle.history_items.specs.Databases.{database_in, names_in}
 use Rattle.history_items.specs.Fills.{in_flight, is_same, pending_fault_of}
 use Rattle.history_items.specs.FillList.{flights_of}
 use Rattle.history_items.specs.Outcomes.{fresh_of}
+use Rattle.history_items.proofs.ItemLists.{databases_in-append, no_databases}
+use Rattle.history_items.proofs.Databases.{rows_keep_database, rows_keep_names}
 use Rattle.history_items.proofs.Outcomes.{fresh_added}
 use Rattle.interval_fills.specs.Steps.{freed, all_freed}
 use Rattle.interval_fills.proofs.Steps.{same_interval}
@@ -30,14 +37,18 @@ use Rattle.store_fills.specs.LastFills.{fillings_in, fill_over}
 use Rattle.store_fills.specs.Sound.{Filling, Fillings}
 use Rattle.store_fills.proofs.RightFills.{right_fill_stays}
 use Rattle.archive_store.specs.declared.head.Head.{Head}
-use Rattle.archive_store.specs.StoreView.{StoreView, OnlyAppends, AddsFault}
-use Rattle.archive_store.specs.Calls.{AreIngested, IsIngestRefusal}
-use Rattle.archive_store.specs.Installs.{IsStoreInstalled, IsInstallRefusal, IsAbandoned, IsRightFor, FillIsAppended}
+use Rattle.archive_store.specs.StoreView.{StoreView, OnlyAppends, AddsFault, filled_of}
+use Rattle.archive_store.specs.Stands.{StandsFilled}
+use Rattle.archive_store.specs.Calls.{AreIngested, CrashLeavesEither, IsIngestRefusal, archive_with}
+use Rattle.archive_store.specs.Installs.{IsStoreInstalled, IsInstallRefusal, IsAbandoned, IsRightFor, FillIsAppended, filled_with}
 use Rattle.archive_store.specs.Tasks.{IsFillBegun}
 use Rattle.store_fills.specs.Faults.{faults_in}
 use Rattle.store_fills.proofs.Faults.{faults_in-append, pending_fault_of-in}
 use Rattle.history_items.proofs.FillLists.{pending_fault_of-append}
-use Rattle.live_archive.specs.GoesOn.{GoesOn, HasFillOrRight, NoneFailed, OneFailed, dones}
+use Rattle.live_archive.proofs.Places.{at_behind, at_later}
+use Rattle.live_archive.proofs.Images.{batch_came, batch_failed, fill_tried, same_pending, without_disk}
+use Rattle.live_archive.specs.Images.{LeavesBetween}
+use Rattle.live_archive.specs.GoesOn.{GoesOn, HasFillOrNew, HasNewFill, NoneFailed, OneFailed, SameDatabase, done_of_fill, dones}
 
 prefix_self : {A : Type 0} (xs : List A) → IsPrefix xs xs
 prefix_self xs = ([], append-nil xs)
@@ -48,12 +59,9 @@ prefix_trans xs ys zs p q = (p.0 ++ q.0, sym (append_assoc xs p.0 q.0) ∙ (ap (
 pub prefix_length : {A : Type 0} (xs ys : List A) → IsPrefix xs ys → length xs ≤ length ys
 prefix_length xs ys p = omega (arith, sym (ap length p.1) ∙ length-append xs p.0)
 
-dones-append : (fills more : List Fill) → dones (fills ++ more) ≡ dones fills + dones more
-dones-append [] more = omega arith
-dones-append (Begun i b ∷ fills) more = dones-append fills more
-dones-append (Done i b ∷ fills) more = let h = dones-append fills more in omega (arith, h)
-dones-append (Freed i ∷ fills) more = dones-append fills more
-dones-append (Fault c w u ∷ fills) more = dones-append fills more
+pub dones-append : (fills more : List Fill) → dones (fills ++ more) ≡ dones fills + dones more
+dones-append fills more =
+    ap length (filter_map-append done_of_fill fills more) ∙ length-append (filter_map done_of_fill fills) (filter_map done_of_fill more)
 
 -- a failed write is pending behind whatever came before it
 still_pending : (fills : List Fill) (count : ℕ) (addition : Addition) → pending_fault_of (fills ++ Fault count true addition ∷ []) ≡ None → ⊥
@@ -76,18 +84,28 @@ all_freed_is : (flights : List Interval) (fills : List Fill) → (dones (fold (�
 all_freed_is [] fills = (refl, refl, prefix_self fills)
 all_freed_is (i ∷ flights) fills = let a = freed_is i fills in let b = all_freed_is flights (freed i fills) in (b.0 ∙ a.0, b.1 ∙ a.1, prefix_trans fills (freed i fills) _ a.2 b.2)
 
--- a fill that is right for the history
-abbrev pub HasRight : {D : Type 0} → StoreView D → StoreView D → Interval → Type 0
-HasRight old new i = (f : Filling (List SetRow)) × (fillings_in new.filled i ≡ Some f) × IsRightFill old.exponent old.head.mdb new.history i f.base f.set
+-- rows bring no database
+rows_same : {D : Type 0} (a b : StoreView D) (rows : List Row) → b.head ≡ a.head → b.history ≡ a.history ++ items_of rows → SameDatabase a b
+rows_same a b rows head history = record {
+  alone = ap databases_in history ∙ databases_in-append a.history (items_of rows) ∙ ap (λ (l : List Database). databases_in a.history ++ l) (no_databases rows) ∙ append-nil (databases_in a.history);
+  in_force = ap (λ (h : Head). database_in h.mdb b.history) head ∙ ap (database_in a.head.mdb) history ∙ rows_keep_database a.head.mdb a.history rows;
+  names = ap (λ (h : Head). names_in h.mdb b.history) head ∙ ap (names_in a.head.mdb) history ∙ rows_keep_names a.head.mdb a.history rows;
+}
+
+-- nor does what leaves a history as it was
+history_same : {D : Type 0} (a b : StoreView D) → b.head ≡ a.head → b.history ≡ a.history → SameDatabase a b
+history_same a b head history = rows_same a b [] head (history ∙ sym (append-nil a.history))
 
 module _ {D : Type 0} (device : Device D) where
   -- nothing happened
   pub goes_same : (a b : StoreView D) → b ≡ a → GoesOn device a b
   goes_same a b is = subst (GoesOn device a) (sym is) (record {
     appends = record { history = prefix_self a.history; fills = prefix_self a.fills; head = refl; exponent = refl; opened = refl };
+    database = record { alone = refl; in_force = refl; names = refl };
     records = le_refl _;
-    faults = inl (refl, refl);
+    faults = inl (record { same_faults = refl; no_failed_write = refl; no_fault = refl });
     sets = λ _ i. inl refl;
+    images = λ _ start since. since;
   })
 
   pub goes_start : (a : StoreView D) → GoesOn device a a
@@ -102,44 +120,71 @@ module _ {D : Type 0} (device : Device D) where
       exponent = q.appends.exponent ∙ p.appends.exponent;
       opened = q.appends.opened ∙ p.appends.opened;
     };
+    database = record { alone = q.database.alone ∙ p.database.alone; in_force = q.database.in_force ∙ p.database.in_force; names = q.database.names ∙ p.database.names };
     records = let x = p.records in let y = q.records in omega (arith, x, y);
     faults = ⊎_elim
         (λ (x : NoneFailed device a b). ⊎_elim
-        (λ (y : NoneFailed device b c). inl (y.0 ∙ x.0, y.1 ∙ x.1))
+        (λ (y : NoneFailed device b c). inl (record { same_faults = y.same_faults ∙ x.same_faults; no_failed_write = y.no_failed_write ∙ x.no_failed_write; no_fault = y.no_fault ∙ x.no_fault }))
         (λ (y : OneFailed device b c). inr (record {
-          healed = pending_fault_of-in a.fills ∙ (ap pending_fault_of (sym x.0) ∙ (sym (pending_fault_of-in b.fills) ∙ y.healed));
+          healed = pending_fault_of-in a.fills ∙ (ap pending_fault_of (sym x.same_faults) ∙ (sym (pending_fault_of-in b.fills) ∙ y.healed));
           count = y.count;
           addition = y.addition;
-          faults = y.faults ∙ ap (λ (l : List Fill). l ++ Fault y.count true y.addition ∷ []) x.0;
-          wrote = y.wrote ∙ ap raised x.1;
+          faults = y.faults ∙ ap (λ (l : List Fill). l ++ Fault y.count true y.addition ∷ []) x.same_faults;
+          wrote = y.wrote ∙ ap raised x.no_failed_write;
+          rose = subst (λ (n : ℕ). raised n ≤ device.fault_count c.disk) x.no_fault y.rose;
         }))
         q.faults)
         (λ (x : OneFailed device a b). ⊎_elim
-        (λ (y : NoneFailed device b c). inr (record { healed = x.healed; count = x.count; addition = x.addition; faults = y.0 ∙ x.faults; wrote = y.1 ∙ x.wrote }))
+        (λ (y : NoneFailed device b c). inr (record {
+          healed = x.healed;
+          count = x.count;
+          addition = x.addition;
+          faults = y.same_faults ∙ x.faults;
+          wrote = y.no_failed_write ∙ x.wrote;
+          rose = subst (λ (n : ℕ). raised (device.fault_count a.disk) ≤ n) (sym y.no_fault) x.rose;
+        }))
         (λ (y : OneFailed device b c). absurd (still_pending (faults_in a.fills) x.count x.addition (ap pending_fault_of (sym x.faults) ∙ (sym (pending_fault_of-in b.fills) ∙ y.healed))))
         q.faults)
         p.faults;
     sets = λ clear i. ⊎_elim
         (λ (same : fillings_in c.filled i ≡ fillings_in b.filled i). ⊎_elim
         (λ (was : fillings_in b.filled i ≡ fillings_in a.filled i). inl (same ∙ was))
-        (λ (f : HasRight a b i). inr (
-          f.0,
-          same ∙ f.1,
-          subst (λ (l : List Item). IsRightFill a.exponent a.head.mdb l i f.0.base f.0.set) q.appends.history.1 (right_fill_stays a.exponent a.head.mdb b.history q.appends.history.0 i f.0.base f.0.set f.2),
-        ))
+        (λ (f : HasNewFill a b i). inr (record {
+          fill = f.fill;
+          has = same ∙ f.has;
+          place = f.place;
+          since = f.since;
+          there = at_later b.fills c.fills f.place (Done i f.fill.base) q.appends.fills f.there;
+          right = subst (λ (l : List Item). IsRightFill a.exponent a.head.mdb l i f.fill.base f.fill.set) q.appends.history.1
+              (right_fill_stays a.exponent a.head.mdb b.history q.appends.history.0 i f.fill.base f.fill.set f.right);
+        }))
         (p.sets clear i))
-        (λ (f : HasRight b c i). inr (
-          f.0,
-          f.1,
-          subst (λ (e : ℕ). IsRightFill e a.head.mdb c.history i f.0.base f.0.set) p.appends.exponent
-              (subst (λ (h : Head). IsRightFill b.exponent h.mdb c.history i f.0.base f.0.set) p.appends.head f.2),
-        ))
+        (λ (f : HasNewFill b c i). inr (record {
+          fill = f.fill;
+          has = f.has;
+          place = f.place;
+          since = let long = prefix_length a.fills b.fills p.appends.fills in let s = f.since in omega (arith, long, s);
+          there = f.there;
+          right = subst (λ (e : ℕ). IsRightFill e a.head.mdb c.history i f.fill.base f.fill.set) p.appends.exponent
+              (subst (λ (h : Head). IsRightFill b.exponent h.mdb c.history i f.fill.base f.fill.set) p.appends.head f.right);
+        }))
         (q.sets clear i);
+    images = λ clear start since. q.images clear start (p.images clear start since);
   }
 
+  -- what a crash leaves of the call of a batch, and of a fill
+  abbrev LeavesBatch : StoreView D → StoreView D → List Row → Type 0
+  LeavesBatch a b rows = pending_fault_of a.fills ≡ None → CrashLeavesEither device a.disk b.disk (filled_of a) (archive_with a rows)
+
+  abbrev LeavesFill : StoreView D → StoreView D → BuiltFill → Type 0
+  LeavesFill a b done = pending_fault_of a.fills ≡ None → CrashLeavesEither device a.disk b.disk (filled_of a) (filled_with a done)
+
+  abbrev KeepsImages : StoreView D → StoreView D → Type 0
+  KeepsImages a b = IsTrue device.is_transparent → (start : StoreView D) → LeavesBetween device start a → LeavesBetween device start b
+
   -- rows came
-  pub goes_rows : (a b : StoreView D) (rows : List Row) (outcomes : List Inserted) → OnlyAppends a b → AreIngested device a b rows outcomes → GoesOn device a b
-  goes_rows a b rows outcomes appends i = by_fresh (fresh_of a.history rows) refl
+  pub goes_rows : (a b : StoreView D) (rows : List Row) (outcomes : List Inserted) → OnlyAppends a b → LeavesBatch a b rows → AreIngested device a b rows outcomes → GoesOn device a b
+  goes_rows a b rows outcomes appends crash i = by_fresh (fresh_of a.history rows) refl
     where
       by_fresh : (fresh : List Row) → fresh_of a.history rows ≡ fresh → GoesOn device a b
       by_fresh [] none = goes_same a b (i.no_call none)
@@ -148,40 +193,50 @@ module _ {D : Type 0} (device : Device D) where
           let grown : length b.history ≡ length a.history + suc (length (items_of more)) = ap length (i.history ∙ fresh_added a.history rows ∙ ap (λ (l : List Row). a.history ++ items_of l) some) ∙ length-append a.history (items_of (row ∷ more)) in
           record {
             appends = appends;
+            database = rows_same a b (fresh_of a.history rows) appends.head (i.history ∙ fresh_added a.history rows);
             records = let f = ap dones i.fills in omega (arith, count, grown, f);
-            faults = inl (ap faults_in i.fills, i.no_failed_write);
+            faults = inl (record { same_faults = ap faults_in i.fills; no_failed_write = i.no_failed_write; no_fault = i.no_fault });
             sets = λ _ j. inl (ap (λ f. fillings_in f j) i.filled);
+            images = λ clear start since. batch_came device start a b since appends rows i.healed i.history (crash i.healed clear);
           }
 
   -- a write failed
-  pub goes_fault : (a b : StoreView D) (addition : Addition) → pending_fault_of a.fills ≡ None → AddsFault device a b true addition → b.head ≡ a.head → b.exponent ≡ a.exponent → b.opened ≡ a.opened → GoesOn device a b
-  goes_fault a b addition healed f head exponent opened = record {
+  pub goes_fault : (a b : StoreView D) (addition : Addition) → pending_fault_of a.fills ≡ None → AddsFault device a b true addition → b.head ≡ a.head → b.exponent ≡ a.exponent → b.opened ≡ a.opened → KeepsImages a b → GoesOn device a b
+  goes_fault a b addition healed f head exponent opened images = record {
     appends = record { history = ([], append-nil a.history ∙ sym f.history); fills = (Fault f.count true addition ∷ [], sym f.fills); head = head; exponent = exponent; opened = opened };
+    database = history_same a b head f.history;
     records = let h = ap length f.history in let r = f.records in let d = ap dones f.fills ∙ dones-append a.fills (Fault f.count true addition ∷ []) in omega (arith, h, r, d);
-    faults = inr (record { healed = healed; count = f.count; addition = addition; faults = ap faults_in f.fills ∙ faults_in-append a.fills (Fault f.count true addition ∷ []); wrote = f.writes });
+    faults = inr (record { healed = healed; count = f.count; addition = addition; faults = ap faults_in f.fills ∙ faults_in-append a.fills (Fault f.count true addition ∷ []); wrote = f.writes; rose = f.rose });
     sets = λ _ j. inl (ap (λ g. fillings_in g j) f.filled);
+    images = images;
   }
 
-  pub goes_ingest_refused : (a b : StoreView D) (rows : List Row) (e : Refusal) → OnlyAppends a b → IsIngestRefusal device a b rows e → GoesOn device a b
-  goes_ingest_refused a b rows refused.Usage g i = absurd i
-  goes_ingest_refused a b rows (refused.NeedsReopen n) g i = goes_same a b i.1
-  goes_ingest_refused a b rows (refused.Limit w n) g i = goes_same a b i.1
-  goes_ingest_refused a b rows refused.DiskFault g i = goes_fault a b _ i.healed i.fault g.head g.exponent g.opened
-  goes_ingest_refused a b rows refused.OutOfMemory g i = goes_same a b i.1
-  goes_ingest_refused a b rows _ g i = absurd i
+  pub goes_ingest_refused : (a b : StoreView D) (rows : List Row) (e : Refusal) → OnlyAppends a b → LeavesBatch a b rows → IsIngestRefusal device a b rows e → GoesOn device a b
+  goes_ingest_refused a b rows refused.Usage g crash i = absurd i
+  goes_ingest_refused a b rows (refused.NeedsReopen n) g crash i = goes_same a b i.1
+  goes_ingest_refused a b rows (refused.Limit w n) g crash i = goes_same a b i.1
+  goes_ingest_refused a b rows refused.DiskFault g crash i =
+      goes_fault a b _ i.healed i.fault g.head g.exponent g.opened (λ clear start since. batch_failed device start a b since g rows i.healed i.fault (crash i.healed clear))
+  goes_ingest_refused a b rows refused.OutOfMemory g crash i = goes_same a b i.1
+  goes_ingest_refused a b rows _ g crash i = absurd i
 
-  pub goes_ingest : {X : Type 0} (a b : StoreView D) (rows : List Row) (r : Result X Refusal) (outcomes : X → List Inserted) → OnlyAppends a b → MatchResult r (λ x. AreIngested device a b rows (outcomes x)) (IsIngestRefusal device a b rows) → GoesOn device a b
-  goes_ingest a b rows (Ok x) outcomes g i = goes_rows a b rows (outcomes x) g i
-  goes_ingest a b rows (Err e) outcomes g i = goes_ingest_refused a b rows e g i
+  pub goes_ingest : {X : Type 0} (a b : StoreView D) (rows : List Row) (r : Result X Refusal) (outcomes : X → List Inserted) → OnlyAppends a b → LeavesBatch a b rows → MatchResult r (λ x. AreIngested device a b rows (outcomes x)) (IsIngestRefusal device a b rows) → GoesOn device a b
+  goes_ingest a b rows (Ok x) outcomes g crash i = goes_rows a b rows (outcomes x) g crash i
+  goes_ingest a b rows (Err e) outcomes g crash i = goes_ingest_refused a b rows e g crash i
 
   -- a fill list with more items of which none is there and none a fault
   goes_noted : (a : StoreView D) (fills : List Fill) → (dones fills ≡ dones a.fills) × (faults_in fills ≡ faults_in a.fills) × IsPrefix a.fills fills → GoesOn device a (record a { fills = fills })
   goes_noted a fills k = record {
-    appends = record { history = prefix_self a.history; fills = k.2; head = refl; exponent = refl; opened = refl };
+    appends = grew;
+    database = record { alone = refl; in_force = refl; names = refl };
     records = let d = k.0 in omega (arith, d);
-    faults = inl (k.1, refl);
+    faults = inl (record { same_faults = k.1; no_failed_write = refl; no_fault = refl });
     sets = λ _ j. inl refl;
+    images = λ clear start since. let new = record a { fills = fills } in without_disk device start a new since grew (same_pending device start a new since grew k.1 refl) refl;
   }
+    where
+      grew : OnlyAppends a (record a { fills = fills })
+      grew = record { history = prefix_self a.history; fills = k.2; head = refl; exponent = refl; opened = refl }
 
   pub goes_freed : (a b : StoreView D) (i : Interval) → IsAbandoned a b i → GoesOn device a b
   goes_freed a b i is = subst (GoesOn device a) (sym is) (goes_noted a (freed i a.fills) (freed_is i a.fills))
@@ -197,11 +252,13 @@ module _ {D : Type 0} (device : Device D) where
     (_, sym i.step.fills),
   ))
 
-  pub goes_filled : (a b : StoreView D) (done : BuiltFill) → OnlyAppends a b → (IsTrue device.is_transparent → IsRightFor a done) → FillIsAppended device a b done → GoesOn device a b
-  goes_filled a b done g right f = record {
+  pub goes_filled : (a b : StoreView D) (done : BuiltFill) → OnlyAppends a b → (IsTrue device.is_transparent → IsRightFor a done) → LeavesFill a b done → pending_fault_of a.fills ≡ None → FillIsAppended device a b done → GoesOn device a b
+  goes_filled a b done g right crash healed f = record {
     appends = g;
+    database = history_same a b g.head history;
     records = let r = f.records in let h = ap length history in let d = ap dones fills ∙ dones-append a.fills (Done done.interval done.base ∷ []) in omega (arith, r, h, d);
-    faults = inl (ap faults_in fills ∙ (faults_in-append a.fills (Done done.interval done.base ∷ []) ∙ append-nil (faults_in a.fills)), f.no_failed_write);
+    faults = inl (record { same_faults = ap faults_in fills ∙ (faults_in-append a.fills (Done done.interval done.base ∷ []) ∙ append-nil (faults_in a.fills)); no_failed_write = f.no_failed_write; no_fault = f.no_fault });
+    images = λ clear start since. fill_tried device start a b since g done healed (crash healed clear);
     sets = λ clear j. by_same (right clear).1 j (is_same j done.interval) refl (ap (λ (s : Fillings (List SetRow)). s j) f.filled);
   }
     where
@@ -211,34 +268,59 @@ module _ {D : Type 0} (device : Device D) where
       fills : b.fills ≡ a.fills ++ Done done.interval done.base ∷ []
       fills = ap (λ s. s.fills) f.step.1
 
+      at_end : slice_get b.fills (length a.fills) ≡ Some (Done done.interval done.base)
+      at_end =
+          let here : length a.fills ≡ length a.fills + 0 = omega arith in
+          ap (λ (l : List Fill). slice_get l (length a.fills)) fills ∙ (ap (slice_get (a.fills ++ Done done.interval done.base ∷ [])) here ∙ at_behind a.fills (Done done.interval done.base ∷ []) 0)
+
       by_same : IsRightFill a.exponent a.head.mdb a.history done.interval done.base done.set → (j : Interval) (same : Bool) → is_same j done.interval ≡ same → fillings_in b.filled j ≡ (if same then Some (fill_over done.base done.set) else fillings_in a.filled j)
-          → HasFillOrRight a b j
-      by_same own j true e at = inr (
-        fill_over done.base done.set,
-        at,
-        subst (λ (l : List Item). IsRightFill a.exponent a.head.mdb l j done.base done.set) (sym history) (subst (λ (i : Interval). IsRightFill a.exponent a.head.mdb a.history i done.base done.set) (sym (same_interval j done.interval e)) own),
-      )
+          → HasFillOrNew a b j
+      by_same own j true e at =
+          let is : done.interval ≡ j = sym (same_interval j done.interval e) in
+          inr (record {
+            fill = fill_over done.base done.set;
+            has = at;
+            place = length a.fills;
+            since = le_refl _;
+            there = subst (λ (i : Interval). slice_get b.fills (length a.fills) ≡ Some (Done i done.base)) is at_end;
+            right = subst (λ (l : List Item). IsRightFill a.exponent a.head.mdb l j done.base done.set) (sym history) (subst (λ (i : Interval). IsRightFill a.exponent a.head.mdb a.history i done.base done.set) is own);
+          })
       by_same own j false e at = inl at
 
-  pub goes_installed : (a b : StoreView D) (done : BuiltFill) (r : Installed) → OnlyAppends a b → (IsTrue device.is_transparent → IsRightFor a done) → IsStoreInstalled device a b done r → GoesOn device a b
-  goes_installed a b done became.Done g right i = goes_filled a b done g right i.1
-  goes_installed a b done (became.Stale position) g right i = goes_freed a b done.interval i.2
+  pub goes_installed : (a b : StoreView D) (done : BuiltFill) (r : Installed) → OnlyAppends a b → (IsTrue device.is_transparent → IsRightFor a done) → LeavesFill a b done → IsStoreInstalled device a b done r → GoesOn device a b
+  goes_installed a b done became.Done g right crash i = goes_filled a b done g right crash i.0.healed i.1
+  goes_installed a b done (became.Stale position) g right crash i = goes_freed a b done.interval i.2
 
-  pub goes_install_refused : (a b : StoreView D) (done : BuiltFill) (e : Refusal) → OnlyAppends a b → IsInstallRefusal device a b done e → GoesOn device a b
-  goes_install_refused a b done refused.Usage g i = absurd i
-  goes_install_refused a b done (refused.NeedsReopen n) g i = goes_freed a b done.interval i.1
-  goes_install_refused a b done (refused.Limit w n) g i = goes_freed a b done.interval i.5
-  goes_install_refused a b done refused.OutOfMemory g i = goes_freed a b done.interval i.2
-  goes_install_refused a b done refused.DiskFault g i =
-      let failed = i.2 in
-      let same = failed.2 in
-      goes_trans a failed.0 b (goes_fault a failed.0 (additions.Fill done.interval done.base) i.0.healed failed.1 (sym (ap (λ s. s.head) same) ∙ g.head) (sym (ap (λ s. s.exponent) same) ∙ g.exponent) (sym (ap (λ s. s.opened) same) ∙ g.opened)) (goes_freed failed.0 b done.interval same)
-  goes_install_refused a b done _ g i = absurd i
+  pub goes_install_refused : (a b : StoreView D) (done : BuiltFill) (e : Refusal) → OnlyAppends a b → LeavesFill a b done → IsInstallRefusal device a b done e → GoesOn device a b
+  goes_install_refused a b done refused.Usage g crash i = absurd i
+  goes_install_refused a b done (refused.NeedsReopen n) g crash i = goes_freed a b done.interval i.1
+  goes_install_refused a b done (refused.Limit w n) g crash i = goes_freed a b done.interval i.5
+  goes_install_refused a b done refused.OutOfMemory g crash i = goes_freed a b done.interval i.2
+  goes_install_refused a b done refused.DiskFault g crash i =
+      let failed = i.2.0 in
+      let fault = i.2.1 in
+      let same = i.2.2 in
+      let head = sym (ap (λ s. s.head) same) ∙ g.head in
+      let exponent = sym (ap (λ s. s.exponent) same) ∙ g.exponent in
+      let opened = sym (ap (λ s. s.opened) same) ∙ g.opened in
+      let grew : OnlyAppends a failed = record {
+        history = ([], append-nil a.history ∙ sym fault.history);
+        fills = (Fault fault.count true (additions.Fill done.interval done.base) ∷ [], sym fault.fills);
+        head = head;
+        exponent = exponent;
+        opened = opened;
+      } in
+      let disk : b.disk ≡ failed.disk = ap (λ s. s.disk) same in
+      goes_trans a failed b
+      (goes_fault a failed (additions.Fill done.interval done.base) i.0.healed fault head exponent opened
+      (λ clear start since. fill_tried device start a failed since grew done i.0.healed (subst (λ (d : D). LeavesOnly device a.disk d (λ c. StandsFilled c (filled_of a) ⊎ StandsFilled c (filled_with a done))) disk (crash i.0.healed clear))))
+      (goes_freed failed b done.interval same)
+  goes_install_refused a b done _ g crash i = absurd i
 
-  pub goes_install : (a b : StoreView D) (done : BuiltFill) (r : Result Installed Refusal) → OnlyAppends a b → (IsTrue device.is_transparent → IsRightFor a done)
+  pub goes_install : (a b : StoreView D) (done : BuiltFill) (r : Result Installed Refusal) → OnlyAppends a b → (IsTrue device.is_transparent → IsRightFor a done) → LeavesFill a b done
       → MatchResult r (IsStoreInstalled device a b done) (IsInstallRefusal device a b done) → GoesOn device a b
-  goes_install a b done (Ok o) g right i = goes_installed a b done o g right i
-  goes_install a b done (Err e) g right i = goes_install_refused a b done e g i
+  goes_install a b done (Ok o) g right crash i = goes_installed a b done o g right crash i
+  goes_install a b done (Err e) g right crash i = goes_install_refused a b done e g crash i
 
   pub goes_begin : (a b : StoreView D) (r : Result (Option FillTask) Refusal) → MatchResult r (IsFillBegun a b) (λ e. (e ≡ refused.OutOfMemory) × (b ≡ a)) → GoesOn device a b
   goes_begin a b (Ok o) i = goes_begun a b o i

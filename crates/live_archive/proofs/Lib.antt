@@ -1,3 +1,5 @@
+pub mod Places
+pub mod Images
 pub mod Going
 pub mod Turning
 pub mod Later

@@ -10,7 +10,7 @@ use Rattle.turn_cell.specs.Lists.{left_seen}
 use Rattle.turn_cell.specs.Pass.{PassView, Found, Left}
 use Rattle.archive_store.specs.StoreView.{StoreView}
 use Rattle.live_archive.specs.GoesOn.{GoesOn}
-use Rattle.live_archive.specs.Laws.{IsTold}
+use Rattle.live_archive.specs.Laws.{TellsTurn}
 use Rattle.live_archive.specs.Turns.{TookTurn, Turned}
 use Rattle.live_archive.proofs.Going.{goes_trans, prefix_length, prefix_trans}
 
@@ -69,7 +69,7 @@ module _ {D T : Type 0} (device : Device D) where
   }
 
   -- what a turn tells of its pass
-  pub told : (first before after : StoreView D) (old new : PassView Item Fill T) → Turned device first before after old new → IsTold first before after old new
+  pub told : (first before after : StoreView D) (old new : PassView Item Fill T) → Turned device first before after old new → TellsTurn first before after old new
   told first before after old new t =
       let is = t.pass in
       let seen : new.history.seen ≡ after.history = ap (λ (p : PassView Item Fill T). p.history.seen) is in

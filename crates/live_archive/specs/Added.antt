@@ -68,6 +68,7 @@ abbrev pub flight_begun : Option FillTask → List Fill
 flight_begun None = []
 flight_begun (Some task) = Begun task.interval task.base ∷ []
 
+-- what a begin leaves behind the fill list; where it is refused, nothing
 abbrev pub begin_notes : Result (Option FillTask) Refusal → List Fill
 begin_notes (Ok begun) = flight_begun begun
 begin_notes (Err refusal) = []

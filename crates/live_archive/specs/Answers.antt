@@ -23,7 +23,8 @@ use Rattle.archive_store.specs.StoreView.{StoreView}
 use Rattle.archive_store.specs.Tasks.{IsFillBegun}
 
 -- of a batch
-abbrev pub SaysIngested : {D : Type 0} → Device D → List Row → Result Ingested Refusal → StoreView D → StoreView D → Type 0
+abbrev pub SaysIngested
+    : {D : Type 0} → Device D → List Row → Result Ingested Refusal → StoreView D → StoreView D → Type 0
 SaysIngested device rows answer before after =
     MatchResult answer (λ ingest. AreIngested device before after rows ingest.outcomes)
     (IsIngestRefusal device before after rows)
@@ -34,7 +35,8 @@ SaysBegun answer before after =
     MatchResult answer (IsFillBegun before after) (λ refusal. (refusal ≡ OutOfMemory) × (after ≡ before))
 
 -- of a fill that is installed
-abbrev pub SaysInstalled : {D : Type 0} → Device D → BuiltFill → Result Installed Refusal → StoreView D → StoreView D → Type 0
+abbrev pub SaysInstalled
+    : {D : Type 0} → Device D → BuiltFill → Result Installed Refusal → StoreView D → StoreView D → Type 0
 SaysInstalled device done answer before after =
     MatchResult answer (IsStoreInstalled device before after done) (IsInstallRefusal device before after done)
 
@@ -42,11 +44,13 @@ SaysInstalled device done answer before after =
 abbrev pub WhereSound : {D : Type 0} → Device D → StoreView D → Type 0 → Type 0
 WhereSound device store P = IsTrue device.is_transparent → IsSoundImage (device.reads store.opened) → P
 
--- the set of an interval's last fill, which holds what its rows give, where its fills were sound; none where the interval
--- is late or has no fill that is read
+-- the set of an interval's last fill, which holds what its rows give, where its fills were sound; none where the
+-- interval is late or has no fill
 pub record AreSegments {D : Type 0} (device : Device D) (store : StoreView D) (interval : Interval)
     (found : Option (List SetRow)) : Type 0 where
   pub some : IfSome found (IsCurrentSet store interval)
-  pub none : IfNone found (IsLate store.exponent interval store.history store.fills ⊎ (fillings_in store.filled interval ≡ None))
+  pub none : IfNone found (IsLate store.exponent interval store.history store.fills
+      ⊎ (fillings_in store.filled interval ≡ None))
   pub holds : WhereSound device store (IfSome found (λ set.
-      HoldsRows (database_in store.head.mdb store.history) set (rows_of_interval store.exponent interval store.history)))
+      HoldsRows (database_in store.head.mdb store.history) set
+      (rows_of_interval store.exponent interval store.history)))

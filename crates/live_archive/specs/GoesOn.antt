@@ -1,30 +1,36 @@
 -- What stays true of a store while it is taken in turns, beside the one that the turns began with.
-use Rattle.std.specs.Prelude.{◌≡◌, ◌⊎◌, ℕ, suc, ◌+◌, ◌≤◌, List, [], ◌∷◌, ◌++◌, length, Some, None, IsTrue, true}
-use Rattle.arch_disk.specs.Disk.{Device, raised}
+use Rattle.std.specs.Prelude.{◌≡◌, ◌⊎◌, ℕ, ◌+◌, ◌≤◌, List, [], ◌∷◌, ◌++◌, length, slice_get, Option, Some, None, IsTrue, true}
+use Rattle.std.specs.List.{filter_map}
+use Rattle.arch_disk.specs.Disk.{Device, NoFault, NoWriteFailed, raised}
 use Rattle.intervals.specs.declared.interval.Interval.{Interval}
 use Rattle.history_items.specs.declared.fills.Addition.{Addition}
 use Rattle.history_items.specs.declared.fills.Fill.{Fill}
-use Rattle.history_items.specs.declared.fills.Fill.TheVariants.{Begun, Done, Freed, Fault}
+use Rattle.history_items.specs.declared.fills.Fill.TheVariants.{Done, Fault}
+use Rattle.history_items.specs.Databases.{database_in, names_in}
 use Rattle.history_items.specs.Fills.{pending_fault_of}
+use Rattle.history_items.specs.Items.{databases_in}
+use Rattle.history_items.specs.Noted.{IntervalFill, noted_of}
 use Rattle.param_segments.specs.Rows.{SetRow}
 use Rattle.store_fills.specs.Faults.{faults_in}
 use Rattle.store_fills.specs.Filled.{IsRightFill}
 use Rattle.store_fills.specs.LastFills.{fillings_in}
 use Rattle.store_fills.specs.Sound.{Filling}
 use Rattle.archive_store.specs.StoreView.{StoreView, OnlyAppends}
+use Rattle.live_archive.specs.Images.{LeavesBetween}
+
+-- the fill that is there by an item of a fill list, where there is one
+abbrev pub done_of_fill : Fill → Option IntervalFill
+done_of_fill item = (noted_of item).done
 
 -- how many fills of a fill list are there
 abbrev pub dones : List Fill → ℕ
-dones [] = 0
-dones (Begun i b ∷ fills) = dones fills
-dones (Done i b ∷ fills) = suc (dones fills)
-dones (Freed i ∷ fills) = dones fills
-dones (Fault count wrote unacknowledged ∷ fills) = dones fills
+dones fills = length (filter_map done_of_fill fills)
 
--- no fault was noted, and no write of the disk failed
-abbrev pub NoneFailed : {D : Type 0} → Device D → StoreView D → StoreView D → Type 0
-NoneFailed device old new =
-    (faults_in new.fills ≡ faults_in old.fills) × (device.failed_writes new.disk ≡ device.failed_writes old.disk)
+-- no fault was noted, and no call of the disk failed
+pub record NoneFailed {D : Type 0} (device : Device D) (old new : StoreView D) : Type 0 where
+  pub same_faults : faults_in new.fills ≡ faults_in old.fills
+  pub no_failed_write : NoWriteFailed device old.disk new.disk
+  pub no_fault : NoFault device old.disk new.disk
 
 -- one write of the disk failed, where none was pending: what its call would have added stands in one fault more
 pub record OneFailed {D : Type 0} (device : Device D) (old new : StoreView D) : Type 0 where
@@ -33,19 +39,38 @@ pub record OneFailed {D : Type 0} (device : Device D) (old new : StoreView D) : 
   pub addition : Addition
   pub faults : faults_in new.fills ≡ faults_in old.fills ++ Fault count true addition ∷ []
   pub wrote : device.failed_writes new.disk ≡ raised (device.failed_writes old.disk)
+  pub rose : raised (device.fault_count old.disk) ≤ device.fault_count new.disk
 
--- the interval has the fill that it had, or one that is right for the history
-abbrev pub HasFillOrRight : {D : Type 0} → StoreView D → StoreView D → Interval → Type 0
-HasFillOrRight old new interval =
-    (fillings_in new.filled interval ≡ fillings_in old.filled interval)
-    ⊎ ((fill : Filling (List SetRow)) × (fillings_in new.filled interval ≡ Some fill)
-    × IsRightFill old.exponent old.head.mdb new.history interval fill.base fill.set)
+-- no database came, so the one in force and the packet names are the same
+pub record SameDatabase {D : Type 0} (old new : StoreView D) : Type 0 where
+  pub alone : databases_in new.history ≡ databases_in old.history
+  pub in_force : database_in new.head.mdb new.history ≡ database_in old.head.mdb old.history
+  pub names : names_in new.head.mdb new.history ≡ names_in old.head.mdb old.history
 
--- Both lists go on from the first ones. Each record more is one of an item or of a fill. One write of the disk failed at
--- most. Where the disk is transparent, each interval has the fill that it had, or one that is right.
+-- the interval has a fill that came since, and which is right for the history
+pub record HasNewFill {D : Type 0} (old new : StoreView D) (interval : Interval) : Type 0 where
+  pub fill : Filling (List SetRow)
+  pub has : fillings_in new.filled interval ≡ Some fill
+  pub place : ℕ
+  pub since : length old.fills ≤ place
+  pub there : slice_get new.fills place ≡ Some (Done interval fill.base)
+  pub right : IsRightFill old.exponent old.head.mdb new.history interval fill.base fill.set
+
+-- it has the fill that it had, or such a one
+abbrev pub HasFillOrNew : {D : Type 0} → StoreView D → StoreView D → Interval → Type 0
+HasFillOrNew old new interval =
+    (fillings_in new.filled interval ≡ fillings_in old.filled interval) ⊎ HasNewFill old new interval
+
+-- Both lists go on from the first ones, under one database. Each record more is one of an item or of a fill. One call
+-- of the disk failed at most, a write. Where the disk is transparent, each interval has the fill that it had, or a
+-- right one since; and what power lost since an earlier store leaves lies between that store and this one, if it did up
+-- to the first.
 pub record GoesOn {D : Type 0} (device : Device D) (first now : StoreView D) : Type 0 where
   pub appends : OnlyAppends first now
+  pub database : SameDatabase first now
   pub records : now.records + length first.history + dones first.fills
       ≤ first.records + length now.history + dones now.fills
   pub faults : NoneFailed device first now ⊎ OneFailed device first now
-  pub sets : IsTrue device.is_transparent → (interval : Interval) → HasFillOrRight first now interval
+  pub sets : IsTrue device.is_transparent → (interval : Interval) → HasFillOrNew first now interval
+  pub images : IsTrue device.is_transparent → (start : StoreView D) →
+      LeavesBetween device start first → LeavesBetween device start now

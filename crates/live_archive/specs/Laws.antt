@@ -16,10 +16,10 @@ use Rattle.archive_store.specs.StoreView.{StoreView, OnlyAppends}
 use Rattle.archive_store.specs.Tasks.{BeginsTask}
 use Rattle.live_archive.specs.Turns.{Turned, as_seen}
 
--- The pass has had one turn more. It has seen the whole lists that the turn left, which begin with those that it had seen;
--- cut to the lengths that the turn found, at least those seen before, they are the lists that it found. The turn's places
--- are those behind the lists that it found. Head, exponent and opening are those of the first store.
-pub record IsTold {D T : Type 0} (first before after : StoreView D) (old new : PassView Item Fill T) : Type 0 where
+-- The pass has had one turn more. It has seen the whole lists that the turn left, which begin with those that it had
+-- seen; cut to the lengths that the turn found, at least those seen before, they are the lists that it found. The
+-- turn's places are those behind the lists that it found. Head, exponent and opening are those of the first store.
+pub record TellsTurn {D T : Type 0} (first before after : StoreView D) (old new : PassView Item Fill T) : Type 0 where
   pub turns : new.turns ≡ old.turns + 1
   pub share : new.share ≡ old.share
   pub seen : (new.history.seen ≡ after.history) × (new.fills.seen ≡ after.fills)
@@ -34,9 +34,10 @@ pub record IsTold {D T : Type 0} (first before after : StoreView D) (old new : P
       ++ range_with_len new.fills.found (length new.fills.seen - new.fills.found)
   pub same : OnlyAppends first after
 
+-- of each turn its pass tells what it found and what it left
 abbrev pub TurnsAreTold : {D : Type 0} → (T : Type 0) → Device D → Type 0
 TurnsAreTold {D = D} T device = (first before after : StoreView D) (old new : PassView Item Fill T) →
-    Turned device first before after old new → IsTold first before after old new
+    Turned device first before after old new → TellsTurn first before after old new
 
 -- a fill is built of a task: its set is of the task's interval and database, and holds what the task's rows give
 pub record IsBuiltOf (task : FillTask) (done : BuiltFill) : Type 0 where
@@ -56,4 +57,5 @@ BuiltIsRight {D = D} T device = (first before after : StoreView D) (old new : Pa
 -- It stays so as the pass sees more.
 abbrev pub RightStays : {D : Type 0} → (T : Type 0) → Device D → Type 0
 RightStays {D = D} T device = (first : StoreView D) (old new : PassView Item Fill T) (done : BuiltFill) →
-    IsPrefix old.history.seen new.history.seen → IsRightFor (as_seen first old) done → IsRightFor (as_seen first new) done
+    IsPrefix old.history.seen new.history.seen → IsRightFor (as_seen first old) done →
+    IsRightFor (as_seen first new) done

@@ -1,3 +1,4 @@
+pub mod Images
 pub mod GoesOn
 pub mod Turns
 pub mod Answers

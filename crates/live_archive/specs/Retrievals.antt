@@ -45,8 +45,8 @@ late_rows_asked store request =
 abbrev pub steps_allowed : {D : Type 0} → StoreView D → Request → ℕ → ℕ
 steps_allowed store request taken = taken + length (late_rows_asked store request)
 
--- the request was found in the database in force, and planned over the whole history, whose fill list has the bases of the
--- fills that are there
+-- the request was found in the database in force, and planned over the whole history, whose fill list has the bases of
+-- the fills that are there
 pub record IsPlannedIn {D : Type 0} (device : Device D) (store : StoreView D) (request : Request) (planned : Planned)
     : Type 0 where
   pub asked : planned.found.request ≡ request

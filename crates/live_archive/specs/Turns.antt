@@ -15,7 +15,8 @@ abbrev pub as_seen : {D T : Type 0} → StoreView D → PassView Item Fill T →
 as_seen first pass = record first { history = pass.history.seen }
 
 -- a pass after a turn that found one store and left another
-abbrev pub after_turn : {D T : Type 0} → PassView Item Fill T → StoreView D → StoreView D → Standing T → PassView Item Fill T
+abbrev pub after_turn
+    : {D T : Type 0} → PassView Item Fill T → StoreView D → StoreView D → Standing T → PassView Item Fill T
 after_turn old before after standing = record old {
   history = left_seen (found_seen old.history before.history) after.history;
   fills = left_seen (found_seen old.fills before.fills) after.fills;
@@ -23,8 +24,8 @@ after_turn old before after standing = record old {
   standing = standing;
 }
 
--- A turn of a pass found a store that goes on from the first one, with lists that begin with those that the pass had seen,
--- and left one that goes on from that.
+-- A turn of a pass found a store that goes on from the first one, with lists that begin with those that the pass had
+-- seen, and left one that goes on from that.
 pub record Turned {D T : Type 0} (device : Device D) (first before after : StoreView D) (old new : PassView Item Fill T)
     : Type 0 where
   pub found : GoesOn device first before

@@ -21,8 +21,8 @@ use std::alloc::{AllocError, Global};
 use std::sync::Wait;
 
 impl<D: Disk> LiveOver<HeldStore<D>> {
-    /// Opens the replay of a request whose table was found: of the rows that there are in its turn, whatever comes later.
-    /// The one error is want of memory.
+    /// Opens the replay of a request whose table was found: of the rows that there are in its turn, whatever comes
+    /// later. The one error is want of memory.
     pub fn replay_open<R: Wait>(
         &self,
         rt: &R,
@@ -42,7 +42,8 @@ impl<D: Disk> LiveOver<HeldStore<D>> {
         result
     }
 
-    /// The next rows of a replay, at most `limit`, whose front the caller has seen. No row, for a limit above 0, is the end.
+    /// The next rows of a replay, at most `limit`, whose front the caller has seen. No row, for a limit above 0, is the
+    /// end.
     pub fn replay_next<R: Wait>(
         &self,
         rt: &R,

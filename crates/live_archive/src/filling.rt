@@ -41,8 +41,8 @@ impl<D: Disk> LiveOver<HeldStore<D>> {
         result
     }
 
-    /// Installs a fill. Where the disk tells what it holds, the fill is of the database and right for the history that its
-    /// caller has seen.
+    /// Installs a fill. Where the disk tells what it holds, the fill is of the database and right for the history that
+    /// its caller has seen.
     pub fn install<R: Wait>(
         &self,
         rt: &R,

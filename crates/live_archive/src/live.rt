@@ -15,7 +15,8 @@ use archive_store::Store;
 use std::alloc::{AllocError, Global};
 use turn_cell::{Growing, Pass, TurnCell};
 
-/// An archive whose value is taken in turns. It is generic so that it may be shared between threads, and ends by `close`.
+/// An archive whose value is taken in turns. It is generic so that it may be shared between threads, and ends by
+/// `close`.
 pub struct LiveOver<T: Growing> {
     pub cell: TurnCell<T>,
 }
@@ -83,7 +84,8 @@ impl<D: Disk> LiveOver<HeldStore<D>> {
         self.cell.join(pass, other);
     }
 
-    /// Gives the store back, and ends each flight without a fill. Who closes the archive has added each item of both lists.
+    /// Gives the store back, and ends each flight without a fill. Who closes the archive has added each item of both
+    /// lists.
     pub fn close(self, pass: LivePass<D>) -> Store<D>
         requires free { IsFree self.cell pass }
         requires share { pass.share ≡ 2 ^ 63 }

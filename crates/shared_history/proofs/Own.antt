@@ -84,7 +84,7 @@ walk test k (x ∷ xs) (p ∷ ps) (y ∷ rs) r ((suc i, e, at), f) all know =
     let above : RiseFrom (suc k) (p ∷ ps) = (omega (arith, e), r.1) in
     passed_over test k x xs (p ∷ ps) (y ∷ rs) above know (walk test (suc k) xs (p ∷ ps) (y ∷ rs) above (shift k x xs (p ∷ ps) (y ∷ rs) above ((suc i, e, at), f)) all (later test k x xs (p ∷ ps) know))
 
-get_drop : {X : Type 0} (low : ℕ) (xs : List X) (i : ℕ) → slice_get (drop low xs) i ≡ slice_get xs (low + i)
+pub get_drop : {X : Type 0} (low : ℕ) (xs : List X) (i : ℕ) → slice_get (drop low xs) i ≡ slice_get xs (low + i)
 get_drop zero xs i = let e : 0 + i ≡ i = omega arith in ap (slice_get xs) (sym e)
 get_drop (suc low) [] i = refl
 get_drop (suc low) (x ∷ xs) i = let e : suc low + i ≡ suc (low + i) = omega arith in get_drop low xs i ∙ ap (slice_get (x ∷ xs)) (sym e)

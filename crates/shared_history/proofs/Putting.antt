@@ -14,12 +14,12 @@ weaken : (low high : ℕ) (ps : List ℕ) → low ≤ high → RiseFrom high ps 
 weaken low high [] le r = tt
 weaken low high (q ∷ qs) le r = (omega (arith, le, r.0), r.1)
 
-get_begins : {X : Type 0} (xs more : List X) (i : ℕ) (x : X) → slice_get xs i ≡ Some x → slice_get (xs ++ more) i ≡ Some x
+pub get_begins : {X : Type 0} (xs more : List X) (i : ℕ) (x : X) → slice_get xs i ≡ Some x → slice_get (xs ++ more) i ≡ Some x
 get_begins [] more i x e = absurd cc
 get_begins (y ∷ xs) more zero x e = e
 get_begins (y ∷ xs) more (suc i) x e = get_begins xs more i x e
 
-get_next : {X : Type 0} (xs : List X) (x : X) (more : List X) → slice_get (xs ++ x ∷ more) (length xs) ≡ Some x
+pub get_next : {X : Type 0} (xs : List X) (x : X) (more : List X) → slice_get (xs ++ x ∷ more) (length xs) ≡ Some x
 get_next [] x more = refl
 get_next (y ∷ xs) x more = get_next xs x more
 

@@ -15,8 +15,8 @@ AreSomeOf {X = X} some (x ∷ xs) = AreSomeOf some xs ⊎ ((rest : List X) × (s
 abbrev pub AreKept : List Item → List Row → Type 0
 AreKept history rows = AllByRecursion (λ row. list_any (has_key_of row) history ≡ true) rows
 
--- What it put is some of the first of each table and key of those that arrived, and the table and key of each are in the
--- history that it has seen.
+-- What it put is some of the first of each table and key of those that arrived, and the table and key of each are in
+-- the history that it has seen.
 pub record HasSent (arrived : List Row) (seen : List Item) (put : List Row) : Type 0 where
   pub some : AreSomeOf put (firsts arrived)
   pub kept : AreKept seen arrived

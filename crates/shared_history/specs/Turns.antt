@@ -32,7 +32,8 @@ abbrev pub with_more : LinkWork → List Item → List Row → LinkWork
 with_more work found rows =
     record work { places = work.places ++ places_behind found rows; rows = work.rows ++ rows }
 
--- The rows stand at the places, which rise from the first one that is no place of an old row, and have the link's number.
+-- The rows stand at the places, which rise from the first one that is no place of an old row, and have the link's
+-- number.
 pub record HasPut (low : ℕ) (history : List Item) (work : LinkWork) : Type 0 where
   pub rising : RiseFrom low work.places
   pub stand : StandAt history work.places (items_of work.rows)

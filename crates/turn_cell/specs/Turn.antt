@@ -34,6 +34,7 @@ tickets_at Idle = 0
 tickets_at (Waits t) = 1
 tickets_at (Turn t) = 1
 
+-- whoever is at this stage has no turn: he is idle, or waits for one
 abbrev pub HasNoTurn : Stage → Type 0
 HasNoTurn Idle = Unit {0}
 HasNoTurn (Waits t) = Unit {0}

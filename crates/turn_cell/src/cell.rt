@@ -110,7 +110,7 @@ impl<T: Growing> TurnCell<T> {
         let ticket = draw(rt, shared, &mut pass.seat);
         wait(rt, shared, &mut pass.seat, ticket);
         pass.ticket = ticket;
-        shared.exchange(&mut pass.seat, 0, None).unwrap()
+        pass.seat.slot_mut(shared, 0).take().unwrap()
     }
 
     /// Takes the value back, and passes the turn on.
@@ -124,7 +124,7 @@ impl<T: Growing> TurnCell<T> {
     {
         let front = value.len();
         let shared = &self.table.shared;
-        let old = shared.exchange(&mut pass.seat, 0, Some(value));
+        let old = pass.seat.slot_mut(shared, 0).replace(value);
         let None = old else { unreachable!() };
         shared.store::<WriteFront>(&mut pass.seat, 2, front);
         shared.store::<PassOn>(&mut pass.seat, 1, pass.ticket + 1);

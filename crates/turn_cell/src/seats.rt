@@ -9,11 +9,15 @@ use crate::growing::Growing;
 use crate::steps::{Draw, Look, ReadFront, Settle, Turns, Unite};
 use crate::view::View;
 use atomic_table::{Seat, Shared};
+use crossbeam_utils::Backoff;
 use std::snapshot::Snapshot;
 use std::sync::Wait;
-use std::thread;
 
-/// Draws a ticket. After the last one it goes on for ever.
+/// How often a caller looks whether the turn is free before it draws a ticket all the same. Callers that draw at once would
+/// hand the value, and with it each octet that a turn touches, from processor to processor at every turn.
+const LOOKS: u32 = 256;
+
+/// Draws a ticket, once the turn is free or was looked for often enough. After the last ticket it goes on for ever.
 pub(crate) fn draw<T: Growing, R: Wait>(
     rt: &R,
     shared: &Shared<Option<T>, View<T::Item, T::Fill, T>, Snapshot<T>, Turns>,
@@ -26,15 +30,21 @@ pub(crate) fn draw<T: Growing, R: Wait>(
     ensures drawn { seat.new.me ≡ (record seat.old.me.0 { stage = Waits result }, []) }
     ensures next { result + 1 < 2 ^ 64 }
 {
+    let backoff = Backoff::new();
+    let mut looks = 0;
     for _ in rt.forever() {
         let ticket = shared.peek(0);
-        if ticket < u64::MAX {
+        let is_free = shared.peek(1) == ticket;
+        if ticket < u64::MAX && (is_free || looks == LOOKS) {
             let found = shared.compare_exchange::<Draw>(seat, 0, ticket, ticket + 1);
             if found == ticket {
                 return ticket;
             }
         }
-        thread::yield_now();
+        if looks < LOOKS {
+            looks += 1;
+        }
+        backoff.snooze();
     }
     unreachable!()
 }
@@ -52,11 +62,12 @@ pub(crate) fn wait<T: Growing, R: Wait>(
     ensures same { (seat.new.table_id ≡ seat.old.table_id) × (seat.new.id ≡ seat.old.id) }
     ensures served { Served T.history T.fills T.goes_on seat.old.me seat.new.me ticket }
 {
+    let backoff = Backoff::new();
     for _ in rt.forever() {
         if shared.load::<Look>(seat, 1) == ticket {
             return;
         }
-        thread::yield_now();
+        backoff.snooze();
     }
     unreachable!()
 }

@@ -4,8 +4,7 @@ use Rattle.std.specs.List.{AllByRecursion, range_with_len}
 use Rattle.std.proofs.lemmas.List.Elements.{Contains-append_cases, Contains-append_left, Contains-push, Contains-push_cases}
 use Rattle.std.proofs.lemmas.List.FromFn.{get_or-range_with_len, length-range_with_len}
 use mathlib.Core.List.{IsPrefix}
-use Rattle.turn_cell.specs.declared.view.SeenList.{SeenList}
-use Rattle.turn_cell.specs.Lists.{total}
+use Rattle.turn_cell.specs.Lists.{given_seen, total}
 use Rattle.turn_cell.specs.Pass.{PassView, both_passes, given_half, kept_half}
 use Rattle.turn_cell.proofs.Fronts.{prefix_trans}
 use Rattle.turn_passes.specs.Laws.{FillPlacesAreOfPasses, PlacesAreOfPasses}
@@ -32,7 +31,7 @@ all_but_last P (y ∷ xs) x all = let rest = all_but_last P xs x all.1 in ((all.
 
 module _ {I F T : Type 0} where
   pub split_none : (pass : PassView I F T) (before : List (PassView I F T)) → AreSplitOff pass pass before before 0
-  split_none pass before = record { split = []; added = sym (append-nil before); count_is = refl; each = tt; shares = omega arith; same = (refl, refl) }
+  split_none pass before = record { split = []; added = sym (append-nil before); count_is = refl; each = tt; shares = omega arith; same = (refl, refl, refl) }
 
   pub split_more : (old mid new other : PassView I F T) (before passes passes' : List (PassView I F T)) (count : ℕ) → AreSplitOff old mid before passes count → new ≡ kept_half mid → other ≡ given_half mid
       → passes' ≡ passes ++ other ∷ [] → AreSplitOff old new before passes' (suc count)
@@ -47,14 +46,18 @@ module _ {I F T : Type 0} where
         let x : new.share ≡ mid.share - mid.share / 2 = ap (λ (p : PassView I F T). p.share) kept in
         let y : other.share ≡ mid.share / 2 = ap (λ (p : PassView I F T). p.share) given in
         omega (arith, a, b, x, y);
-    same = (ap (λ (p : PassView I F T). p.history) kept ∙ s.same.0, ap (λ (p : PassView I F T). p.fills) kept ∙ s.same.1);
+    same = (
+      ap (λ (p : PassView I F T). p.history) kept ∙ s.same.0,
+      ap (λ (p : PassView I F T). p.fills) kept ∙ s.same.1,
+      ap (λ (p : PassView I F T). p.turns) kept ∙ s.same.2,
+    );
   }
     where
       as_much : HasSeenAsMuch old other
       as_much = record {
-        history = ap (λ (p : PassView I F T). p.history.seen) given ∙ ap (λ (l : SeenList I). l.seen) s.same.0;
-        fills = ap (λ (p : PassView I F T). p.fills.seen) given ∙ ap (λ (l : SeenList F). l.seen) s.same.1;
-        none = (ap (λ (p : PassView I F T). p.history.places) given, ap (λ (p : PassView I F T). p.fills.places) given);
+        history = ap (λ (p : PassView I F T). p.history) given ∙ ap given_seen s.same.0;
+        fills = ap (λ (p : PassView I F T). p.fills) given ∙ ap given_seen s.same.1;
+        turns = ap (λ (p : PassView I F T). p.turns) given;
       }
 
   pub joins_none : (passes : List (PassView I F T)) (pass : PassView I F T) → Joins passes pass pass passes
@@ -64,6 +67,9 @@ module _ {I F T : Type 0} where
     begins = (([], append-nil pass.history.seen), ([], append-nil pass.fills.seen));
     places = λ place has. inl has;
     fills_places = λ place has. inl has;
+    turns = refl;
+    added = refl;
+    fills_added = refl;
     shares = refl;
   }
 
@@ -81,6 +87,9 @@ module _ {I F T : Type 0} where
     begins = seen_on old now (both_passes now other) before.begins mine;
     places = λ place has. placed place (Contains-append_cases now.history.places other.history.places place has);
     fills_places = λ place has. fills_placed place (Contains-append_cases now.fills.places other.fills.places place has);
+    turns = let t = total_push (λ (p : PassView I F T). p.turns) left other in let s = before.turns in omega (arith, t, s);
+    added = let t = total_push (λ (p : PassView I F T). p.history.added) left other in let s = before.added in omega (arith, t, s);
+    fills_added = let t = total_push (λ (p : PassView I F T). p.fills.added) left other in let s = before.fills_added in omega (arith, t, s);
     shares = let t = total_push (λ (p : PassView I F T). p.share) left other in let s = before.shares in omega (arith, t, s);
   }
     where

@@ -1,6 +1,6 @@
 use denote.Param.Send.{sendable}
 use Rattle.std.proofs.Crossing.{crosses}
-use Rattle.live_archive.proofs.Sending.{mdb_send, set_send, set_sync}
+use Rattle.archive_store.proofs.Sending.{mdb_send, set_send, set_sync}
 use Rattle.live_archive.proofs.laws.fills_are_sendable.Goals as goal
 
 pub is_sendable-requires-send-T : goal.is_sendable-requires-send-T

@@ -5,13 +5,13 @@ use Rattle.live_archive.proofs.ingesting.LiveOver+HeldStore+D.ingest.Goals as go
 
 pub leave-requires : goal.leave-requires
 leave-requires g c =
-    let go = goes_ingest g.D.Disk.device c.enter-held.result.store c.ingest-result.new.self _ c.ingest-result.result (λ i. i.outcomes) c.ingest-result.ensures.grows (matched c.ingest-result.result _ _ c.ingest-result.ensures.ingested c.ingest-result.ensures.refused) in
+    let go = goes_ingest g.D.Disk.device c.enter-held.result.store c.ingest-result.new.self _ c.ingest-result.result (λ i. i.outcomes) c.ingest-result.ensures.grows c.ingest-result.ensures.crash (matched c.ingest-result.result _ _ c.ingest-result.ensures.ingested c.ingest-result.ensures.refused) in
     let left = leaving g.D.Disk.device _ c.enter-held.result.store c.ingest-result.new.self c.args.pass.now c.enter-held.new.pass c.enter-held.ensures.value go c.enter-held.ensures.found in
     record { turn = c.enter-held.ensures.turn; begins = left.begins; fills_begin = left.fills_begin; value = left.value }
 
 pub returns-clause-turn : goal.returns-clause-turn
 returns-clause-turn g c =
-    let go = goes_ingest g.D.Disk.device c.enter-held.result.store c.ingest-result.new.self _ c.ingest-result.result (λ i. i.outcomes) c.ingest-result.ensures.grows (matched c.ingest-result.result _ _ c.ingest-result.ensures.ingested c.ingest-result.ensures.refused) in
+    let go = goes_ingest g.D.Disk.device c.enter-held.result.store c.ingest-result.new.self _ c.ingest-result.result (λ i. i.outcomes) c.ingest-result.ensures.grows c.ingest-result.ensures.crash (matched c.ingest-result.result _ _ c.ingest-result.ensures.ingested c.ingest-result.ensures.refused) in
     let entered = c.enter-held.ensures in
     took g.D.Disk.device _ c.enter-held.result.store c.ingest-result.new.self c.args.pass.now c.enter-held.new.pass c.leave.new.pass _
     entered.value go entered.begins entered.fills_begin entered.found c.leave.ensures.left
