@@ -1,0 +1,113 @@
+-- Asks that are answered in a turn.
+use Rattle.std.proofs.Common.{◌≡◌, ◌⊎◌, inl, inr, ℕ, ◌≤◌, List, length, Result, Ok, Err, MatchResult, Option, Some, None, sym, ap, ◌∙◌, subst, arith}
+use Rattle.arch_disk.specs.Disk.{Device}
+use Rattle.asks.specs.declared.ask.Answer.{Answer}
+use Rattle.asks.specs.declared.ask.Request.{Request}
+use Rattle.asks.specs.Names.{parameter_number, table_number}
+use Rattle.asks.specs.declared.refusal.AskRefusal.{AskRefusal}
+use Rattle.asks.specs.Refusals.{request_refusal}
+use Rattle.asks.specs.Laws.{RequestHasAnswerExactly}
+use Rattle.mdb_items.specs.Database.{Database}
+use Rattle.arch_types.specs.declared.row.Row.{Row}
+use Rattle.refusals.specs.declared.refusal.Refusal.{Refusal}
+use Rattle.refusals.specs.declared.refusal.Refusal.TheVariants.{OutOfMemory}
+use Rattle.container_extract.specs.Answer.{answer_of}
+use Rattle.history_items.specs.declared.fills.Fill.{Fill}
+use Rattle.history_items.specs.declared.items.Item.{Item}
+use Rattle.history_items.specs.Databases.{database_in, names_in}
+use Rattle.history_items.specs.Items.{rows_in}
+use Rattle.replay_merge.specs.Cursor.{CursorView, rest_of}
+use Rattle.replay_merge.specs.Replay.{replay_of}
+use Rattle.turn_cell.specs.Pass.{PassView}
+use Rattle.archive_store.specs.declared.finding.FoundReplay.{FoundReplay}
+use Rattle.archive_store.specs.declared.finding.FoundRequest.{FoundRequest}
+use Rattle.archive_store.specs.declared.head.Head.{Head}
+use Rattle.archive_store.specs.Finding.{IsNotFound, IsRequestFound}
+use Rattle.archive_store.specs.Replays.{IsReplayOpened, rows_below}
+use Rattle.archive_store.specs.Stands.{IsSoundImage}
+use Rattle.archive_store.specs.StoreView.{StoreView}
+use Rattle.retrieval.specs.declared.found_asks.FoundAsk.TheVariants as looked_up
+use Rattle.live_archive.specs.Retrievals.{IsAnswerIn, IsNotAnswered}
+use Rattle.live_archive.specs.Turns.{TookTurn}
+use Rattle.live_archive.proofs.Going.{prefix_trans}
+use Rattle.live_asks.specs.declared.answered.AskAnswer.TheVariants as answered
+use Rattle.live_asks.specs.LiveAsks.{IsAnsweredInTurn, OnlySees}
+use Rattle.live_asks.proofs.Sees.{found_begins, found_is_seen, sees_turn}
+
+-- a request that was found is refused for want of memory alone
+memory_alone : RequestHasAnswerExactly → (db : Database) (found : FoundRequest) (refusal : Refusal) → IsRequestFound db found → IsNotFound (request_refusal db found.request) refusal ⊎ (refusal ≡ OutOfMemory) → refusal ≡ OutOfMemory
+memory_alone exactly db found refusal is (inr memory) = memory
+memory_alone exactly db found refusal is (inl not) =
+    let none : request_refusal db found.request ≡ None = (exactly db found.request).1 ((λ no. absurd (cc (no, is.number))), is.range) in
+    subst (λ (o : Option AskRefusal). IsNotFound o refusal) none not
+
+module _ {D T : Type 0} (device : Device D) (first : StoreView D) (old new : PassView Item Fill T) where
+  -- ---- values
+  module _ (found : FoundRequest) where
+    values_answered : (answer : Answer) (turn : TookTurn device first old new (λ before after. (after ≡ before) × IsAnswerIn device before found.request answer))
+        → IsAnsweredInTurn device first old.history.seen new.history.seen (looked_up.Values found) (answered.Values answer)
+    values_answered answer turn =
+        let before = turn.before in
+        let request = found.request in
+        let goes = turn.turned.found.appends in record {
+          over = before.history;
+          later = turn.turned.begins;
+          begins = found_begins device first before turn.after old new turn.turned turn.said.0;
+          answers = record {
+            front = turn.said.1.filled.front;
+            cells = λ clear sound. subst
+                (λ (head : Head). (number : ℕ) × (parameter_number (database_in head.mdb before.history) request.parameter ≡ Some number)
+                × (answer.cells ≡ answer_of (database_in head.mdb before.history) number request (rows_in before.history)))
+                goes.head (turn.said.1.answered clear (subst (λ (disk : D). IsSoundImage (device.reads disk)) (sym goes.opened) sound));
+          };
+        }
+
+    -- what a retrieval of an equal request says in its turn, of either answer
+    module _ (request : Request) (same : request ≡ found.request) where
+      abbrev Retrieves : Result Answer Refusal → Type 0
+      Retrieves result = TookTurn device first old new (λ before after. (after ≡ before) × MatchResult result (IsAnswerIn device before request) (IsNotAnswered before request))
+
+      of_found : (result : Result Answer Refusal) → Retrieves result → TookTurn device first old new (λ before after. (after ≡ before) × MatchResult result (IsAnswerIn device before found.request) (IsNotAnswered before found.request))
+      of_found result turn = subst (λ (r : Request). TookTurn device first old new (λ before after. (after ≡ before) × MatchResult result (IsAnswerIn device before r) (IsNotAnswered before r))) same turn
+
+      pub retrieval_sees : (result : Result Answer Refusal) → Retrieves result → OnlySees old new
+      retrieval_sees result turn = sees_turn device first turn.before turn.after old new turn.turned turn.said.0
+
+      pub retrieval_answers : (answer : Answer) → Retrieves (Ok answer) → IsAnsweredInTurn device first old.history.seen new.history.seen (looked_up.Values found) (answered.Values answer)
+      retrieval_answers answer turn = values_answered answer (of_found (Ok answer) turn)
+
+      pub retrieval_refuses : RequestHasAnswerExactly → (refusal : Refusal) → IsRequestFound (database_in first.head.mdb first.history) found → Retrieves (Err refusal) → refusal ≡ OutOfMemory
+      retrieval_refuses exactly refusal is turn =
+          let t = of_found (Err refusal) turn in
+          memory_alone exactly (database_in t.before.head.mdb t.before.history) found refusal (subst (λ (db : Database). IsRequestFound db found) (sym t.turned.found.database.in_force) is) t.said.1
+
+  -- ---- replays
+  abbrev Opens : FoundReplay → CursorView → Type 0
+  Opens found cursor = TookTurn device first old new (λ before after. (after ≡ before) × IsReplayOpened before.head before.history found.request cursor)
+
+  -- the front is that of the history found
+  pub front_is_seen : (found : FoundReplay) (cursor : CursorView) → Opens found cursor → cursor.front ≤ length new.history.seen
+  front_is_seen found cursor turn =
+      let seen = ap (λ (l : List Item). length l) (found_is_seen device first turn.before turn.after old new turn.turned turn.said.0) in
+      let front = turn.said.1.front in
+      omega (arith, seen, front)
+
+  -- all rows that were left were taken
+  pub replay_answers : (found : FoundReplay) (cursor : CursorView) (rows : List Row) (last : PassView Item Fill T) → Opens found cursor → OnlySees new last
+      → rows ≡ rest_of cursor (rows_below last.history.seen)
+      → IsAnsweredInTurn device first old.history.seen last.history.seen (looked_up.Replay found) (answered.Replay (record { front = cursor.front; rows = rows }))
+  replay_answers found cursor rows last turn sees is =
+      let before = turn.before in
+      let opened = turn.said.1 in
+      let head = turn.turned.found.appends.head in
+      let begins = prefix_trans before.history new.history.seen last.history.seen (found_begins device first before turn.after old new turn.turned turn.said.0) sees.begins in record {
+        over = before.history;
+        later = turn.turned.begins;
+        begins = begins;
+        answers = record {
+          front = opened.front;
+          table = cursor.table;
+          table_is = subst (λ (h : Head). table_number h.tables found.request.table ≡ Some cursor.table) head opened.table;
+          rows = is ∙ (opened.replay last.history.seen begins ∙ ap (λ (h : Head). replay_of (names_in h.mdb before.history) cursor.table found.request (rows_in before.history)) head);
+        };
+      }

@@ -1,0 +1,4 @@
+pub mod Sees
+pub mod Taken
+pub mod Asking
+pub mod Each

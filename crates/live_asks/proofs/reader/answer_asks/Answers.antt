@@ -1,0 +1,102 @@
+use Rattle.std.proofs.Common.{◌≡◌, ◌∙◌, ◌+◌, ◌<◌, ◌∷◌, length, drop, ap, arith, subst, sym, refl}
+use Rattle.std.proofs.lemmas.List.{drop_all, drop_more}
+use Rattle.std.proofs.lemmas.Result.{err_from_is_err_and}
+use Rattle.refusals.specs.declared.refusal.Refusal.TheVariants.{OutOfMemory}
+use Rattle.retrieval.specs.declared.found_asks.FoundAsk.{FoundAsk}
+use Rattle.retrieval.specs.FoundAsks.{AreFound}
+use Rattle.live_asks.specs.LiveAsks.{every_fourth}
+use Rattle.live_asks.proofs.Each.{ended_all, ended_at, none_so_far, one_more, passed_by}
+use Rattle.live_asks.proofs.Sees.{sees_on, sees_same}
+use Rattle.live_asks.proofs.reader.answer_asks.Goals as goal
+
+pub loop-ask-init : goal.loop-ask-init
+loop-ask-init g c = record {
+  free = c.requires.free;
+  sees = sees_same c.args.pass.now;
+  found = c.requires.found;
+  answered = none_so_far g.D.Disk.device c.args.live.now.cell.first.store c.args.pass.now.history.seen c.args.pass.now.history.seen c.args.asks.now c.args.before c.args.answers.now c.requires.none;
+}
+
+pub answer_ask-requires-clause-found : goal.answer_ask-requires-clause-found
+answer_ask-requires-clause-found g c =
+    let asks = c.args.asks.now in
+    let i = c.loop-ask.ask-index in
+    let ask = c.ask-item.result in
+    let lt : i < length asks = omega (arith, c.loop-ask-test.true) in
+    let step : drop i asks ≡ ask ∷ drop (i + 1) asks = drop_more asks i ask lt ∙ ap (λ (a : FoundAsk). a ∷ drop (i + 1) asks) (sym c.ask-item.is) in
+    let first = c.args.live.now.cell.first.store in
+    (subst (AreFound first.head first.history) step c.loop-ask.invariant.found).0
+
+pub loop-ask-preserved-then-skip-gt0 : goal.loop-ask-preserved-then-skip-gt0
+loop-ask-preserved-then-skip-gt0 g c =
+    let asks = c.args.asks.now in
+    let i = c.loop-ask.ask-index in
+    let ask = c.ask-item.result in
+    let lt : i < length asks = omega (arith, c.loop-ask-test.true) in
+    let step : drop i asks ≡ ask ∷ drop (i + 1) asks = drop_more asks i ask lt ∙ ap (λ (a : FoundAsk). a ∷ drop (i + 1) asks) (sym c.ask-item.is) in
+    let first = c.args.live.now.cell.first.store in
+    let inv = c.loop-ask.invariant in
+    record {
+      free = inv.free;
+      sees = inv.sees;
+      found = (subst (AreFound first.head first.history) step inv.found).1;
+      answered = passed_by g.D.Disk.device first c.args.pass.now.history.seen c.loop-ask.pass.history.seen (every_fourth c.args.before asks) (drop i asks) (drop (i + 1) asks) ask step
+          c.loop-ask.skip c.loop-ask.answers c.if-skip-gt0.true inv.answered;
+    }
+
+pub loop-ask-preserved : goal.loop-ask-preserved
+loop-ask-preserved g c =
+    let asks = c.args.asks.now in
+    let i = c.loop-ask.ask-index in
+    let ask = c.ask-item.result in
+    let lt : i < length asks = omega (arith, c.loop-ask-test.true) in
+    let step : drop i asks ≡ ask ∷ drop (i + 1) asks = drop_more asks i ask lt ∙ ap (λ (a : FoundAsk). a ∷ drop (i + 1) asks) (sym c.ask-item.is) in
+    let first = c.args.live.now.cell.first.store in
+    let inv = c.loop-ask.invariant in
+    record {
+      free = c.answer_ask.ensures.free;
+      sees = sees_on c.args.pass.now c.loop-ask.pass c.answer_ask.new.pass inv.sees c.answer_ask.ensures.sees;
+      found = (subst (AreFound first.head first.history) step inv.found).1;
+      answered = one_more g.D.Disk.device first c.args.pass.now.history.seen c.loop-ask.pass.history.seen (every_fourth c.args.before asks) (drop i asks) (drop (i + 1) asks) ask step
+          c.answer_ask.new.pass.history.seen c.loop-ask.skip c.loop-ask.answers c.push.new.self c.in_ok-answer.answer (omega (arith, c.if-skip-gt0.false)) inv.sees.begins c.answer_ask.ensures.sees.begins
+          c.in_ok-answer.ensures.answered c.in_ok-push.ensures.ok inv.answered;
+    }
+
+pub returns-in_err-answer-clause-sees : goal.returns-in_err-answer-clause-sees
+returns-in_err-answer-clause-sees g c = sees_on c.args.pass.now c.loop-ask.pass c.answer_ask.new.pass c.loop-ask.invariant.sees c.answer_ask.ensures.sees
+
+pub returns-in_err-answer-clause-answered : goal.returns-in_err-answer-clause-answered
+returns-in_err-answer-clause-answered g c =
+    let asks = c.args.asks.now in
+    let i = c.loop-ask.ask-index in
+    let ask = c.ask-item.result in
+    let lt : i < length asks = omega (arith, c.loop-ask-test.true) in
+    let step : drop i asks ≡ ask ∷ drop (i + 1) asks = drop_more asks i ask lt ∙ ap (λ (a : FoundAsk). a ∷ drop (i + 1) asks) (sym c.ask-item.is) in
+    let inv = c.loop-ask.invariant in
+    let p = err_from_is_err_and c.from_residual.result c.from_residual.ensures.1 in
+    rw (p.1, p.2)
+    (ended_at g.D.Disk.device c.args.live.now.cell.first.store c.args.pass.now.history.seen c.loop-ask.pass.history.seen (every_fourth c.args.before asks) (drop i asks) (drop (i + 1) asks) ask step
+    c.answer_ask.new.pass.history.seen c.loop-ask.skip c.loop-ask.answers c.in_err-answer.field-0.0 (omega (arith, c.if-skip-gt0.false)) c.answer_ask.ensures.sees.begins c.in_err-answer.ensures.refused inv.answered)
+
+pub returns-in_err-push-clause-sees : goal.returns-in_err-push-clause-sees
+returns-in_err-push-clause-sees g c = sees_on c.args.pass.now c.loop-ask.pass c.answer_ask.new.pass c.loop-ask.invariant.sees c.answer_ask.ensures.sees
+
+pub returns-in_err-push-clause-answered : goal.returns-in_err-push-clause-answered
+returns-in_err-push-clause-answered g c =
+    let asks = c.args.asks.now in
+    let i = c.loop-ask.ask-index in
+    let ask = c.ask-item.result in
+    let lt : i < length asks = omega (arith, c.loop-ask-test.true) in
+    let step : drop i asks ≡ ask ∷ drop (i + 1) asks = drop_more asks i ask lt ∙ ap (λ (a : FoundAsk). a ∷ drop (i + 1) asks) (sym c.ask-item.is) in
+    let inv = c.loop-ask.invariant in
+    let p = err_from_is_err_and c.from_residual-in_err-push.result c.from_residual-in_err-push.ensures.1 in
+    rw (p.1, p.2, c.in_err-push.ensures.err)
+    (ended_at g.D.Disk.device c.args.live.now.cell.first.store c.args.pass.now.history.seen c.loop-ask.pass.history.seen (every_fourth c.args.before asks) (drop i asks) (drop (i + 1) asks) ask step
+    c.answer_ask.new.pass.history.seen c.loop-ask.skip c.loop-ask.answers OutOfMemory (omega (arith, c.if-skip-gt0.false)) c.answer_ask.ensures.sees.begins refl inv.answered)
+
+pub returns-clause-answered : goal.returns-clause-answered
+returns-clause-answered g c =
+    let asks = c.args.asks.now in
+    let i = c.loop-ask.ask-index in
+    ended_all g.D.Disk.device c.args.live.now.cell.first.store c.args.pass.now.history.seen c.loop-ask.pass.history.seen (every_fourth c.args.before asks) (drop i asks) c.loop-ask.skip c.loop-ask.answers
+    (drop_all i asks (omega (arith, c.loop-ask-test.false))) c.loop-ask.invariant.answered

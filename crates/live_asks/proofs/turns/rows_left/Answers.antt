@@ -1,0 +1,68 @@
+use Rattle.std.proofs.Common.{◌∙◌, ◌++◌, List, ap, sym, refl, arith}
+use Rattle.std.proofs.lemmas.List.{nil_from_length}
+use Rattle.arch_types.specs.declared.row.Row.{Row}
+use Rattle.archive_store.specs.Replays.{rows_below}
+use Rattle.replay_merge.specs.Cursor.{rest_of}
+use Rattle.live_asks.proofs.Sees.{sees_on, sees_same, sees_turn, still_within}
+use Rattle.live_asks.proofs.Taken.{all_taken, taken_more}
+use Rattle.live_asks.proofs.turns.rows_left.Goals as goal
+
+pub steps-init : goal.steps-init
+steps-init g c = record {
+  free = c.requires.free;
+  sees = sees_same c.args.pass.now;
+  within = c.requires.front;
+  at_front = refl;
+  rows = ap (λ (l : List Row). l ++ rest_of c.args.cursor (rows_below c.args.pass.now.history.seen)) c.new-rows.ensures.items;
+}
+
+pub replay_next-requires-clause-front : goal.replay_next-requires-clause-front
+replay_next-requires-clause-front g c =
+    let here = c.steps.invariant in
+    let front = here.at_front in
+    let within = here.within in
+    omega (arith, front, within)
+
+pub returns-then-len-eq0-clause-sees : goal.returns-then-len-eq0-clause-sees
+returns-then-len-eq0-clause-sees g c =
+    let turn = c.in_ok-piece.ensures.turn in
+    sees_on c.args.pass.now c.steps.pass c.replay_next.new.pass c.steps.invariant.sees
+    (sees_turn g.D.Disk.device c.args.live.now.cell.first.store turn.before turn.after c.steps.pass c.replay_next.new.pass turn.turned turn.said)
+
+pub returns-then-len-eq0-clause-rows : goal.returns-then-len-eq0-clause-rows
+returns-then-len-eq0-clause-rows g c =
+    let here = c.steps.invariant in
+    let turn = c.in_ok-piece.ensures.turn in
+    let sees = sees_turn g.D.Disk.device c.args.live.now.cell.first.store turn.before turn.after c.steps.pass c.replay_next.new.pass turn.turned turn.said in
+    let none = nil_from_length c.in_ok-piece.piece (sym c.len.ensures ∙ c.if-len-eq0.true) in
+    let end = c.end_has_no_rest.ensures c.replay_next.new.cursor (rows_below c.steps.pass.history.seen) (c.in_ok-piece.ensures.end.none_is_end none (omega arith)) in
+    rw c.from_vec.ensures
+    (all_taken c.args.cursor c.steps.cursor c.replay_next.new.cursor c.steps.rows.items c.in_ok-piece.piece c.steps.pass.history.seen c.replay_next.new.pass.history.seen
+    c.replays_keep_their_front.ensures here.within sees.begins none end c.in_ok-piece.ensures.rows here.rows)
+
+pub returns-in_err-piece-clause-sees : goal.returns-in_err-piece-clause-sees
+returns-in_err-piece-clause-sees g c =
+    let turn = c.in_err-piece.ensures.turn in
+    sees_on c.args.pass.now c.steps.pass c.replay_next.new.pass c.steps.invariant.sees
+    (sees_turn g.D.Disk.device c.args.live.now.cell.first.store turn.before turn.after c.steps.pass c.replay_next.new.pass turn.turned turn.said)
+
+pub returns-in_err-append-clause-sees : goal.returns-in_err-append-clause-sees
+returns-in_err-append-clause-sees g c =
+    let turn = c.in_ok-piece.ensures.turn in
+    sees_on c.args.pass.now c.steps.pass c.replay_next.new.pass c.steps.invariant.sees
+    (sees_turn g.D.Disk.device c.args.live.now.cell.first.store turn.before turn.after c.steps.pass c.replay_next.new.pass turn.turned turn.said)
+
+pub steps-preserved : goal.steps-preserved
+steps-preserved g c =
+    let here = c.steps.invariant in
+    let turn = c.in_ok-piece.ensures.turn in
+    let sees = sees_turn g.D.Disk.device c.args.live.now.cell.first.store turn.before turn.after c.steps.pass c.replay_next.new.pass turn.turned turn.said in
+    record {
+      free = c.in_ok-piece.ensures.free;
+      sees = sees_on c.args.pass.now c.steps.pass c.replay_next.new.pass here.sees sees;
+      within = still_within c.args.cursor.front c.steps.pass c.replay_next.new.pass sees here.within;
+      at_front = c.replay_next.ensures.asked.at_front ∙ here.at_front;
+      rows = rw (c.in_ok-append.ensures.items, c.into_vec-more.ensures)
+          (taken_more c.args.cursor c.steps.cursor c.replay_next.new.cursor c.steps.rows.items c.in_ok-piece.piece c.steps.pass.history.seen c.replay_next.new.pass.history.seen
+          c.replays_keep_their_front.ensures here.within (c.replay_next.ensures.asked.at_front ∙ here.at_front) sees.begins c.in_ok-piece.ensures.rows here.rows);
+    }

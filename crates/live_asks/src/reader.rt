@@ -1,0 +1,124 @@
+//! The job of a reader.
+
+ghost use Rattle.std.specs.Prelude.{◌≡◌, []};
+ghost use Rattle.retrieval.specs.FoundAsks.{AreFound};
+ghost use Rattle.std.specs.Result.{result_err};
+ghost use Rattle.turn_cell.specs.Pass.{IsFree};
+ghost use Rattle.live_asks.specs.LiveAsks.{AreAnswered, OnlySees, every_fourth};
+
+use crate::answered::AskAnswers;
+use crate::turns::{Gated, answer_ask};
+use arch_disk::Disk;
+use jobs::Job;
+use live_archive::{Live, LivePass};
+use outer_traits::gate::Gate;
+use refusals::Refusal;
+use retrieval::found_asks::FoundAsk;
+use std::alloc::Global;
+use std::sync::Wait;
+
+/// How many readers there may be.
+pub const READERS: usize = 4;
+
+/// A reader of a load. It is generic in the archive and the pass, so that it may go to another thread.
+#[derive(Drop)]
+pub struct Reader<'a, L, P, G> {
+    pub alloc: Global,
+    pub live: &'a L,
+    pub pass: P,
+    /// All asks, of which it has every fourth.
+    pub asks: &'a [FoundAsk],
+    /// How many asks others have before its first.
+    pub before: usize,
+    pub gate: &'a G,
+    /// Its number among the jobs.
+    pub number: u32,
+}
+
+/// A reader that has ended: the answers to its asks, or to those before one that isn't answered, and why that isn't.
+#[derive(Drop)]
+pub struct ReaderDone<P> {
+    pub pass: P,
+    pub answers: AskAnswers,
+    pub refusal: Option<Refusal>,
+}
+
+impl<'a, D: Disk + Send, G: Gate + Sync> Job for Reader<'a, Live<D>, LivePass<D>, G> {
+    ghost use Rattle.retrieval.specs.FoundAsks.{AreFound};
+    ghost use Rattle.turn_cell.specs.Pass.{IsFree};
+    ghost use Rattle.live_asks.specs.LiveAsks.{AreAnswered, OnlySees, every_fourth};
+
+    type Done = ReaderDone<LivePass<D>>;
+
+    ghost may = { λ reader. IsFree reader.live.now.cell reader.pass
+        × AreFound reader.live.now.cell.first.store.head reader.live.now.cell.first.store.history reader.asks.now };
+
+    ghost did = { λ reader done. IsFree reader.live.now.cell done.pass × OnlySees reader.pass done.pass
+        × AreAnswered D.device reader.live.now.cell.first.store reader.pass.history.seen done.pass.history.seen
+        (every_fourth reader.before reader.asks.now) done.answers done.refusal };
+
+    fn run<R: Wait>(self, rt: &R) -> ReaderDone<LivePass<D>> {
+        let Reader {
+            alloc,
+            live,
+            mut pass,
+            asks,
+            before,
+            gate,
+            number,
+        } = self;
+        let mut answers = AskAnswers::new(alloc);
+        let mut gated = Gated {
+            gate,
+            number,
+            turn: 0,
+        };
+        let answer = answer_asks(
+            rt,
+            alloc,
+            live,
+            &mut pass,
+            &mut gated,
+            asks,
+            before,
+            &mut answers,
+        );
+        ReaderDone {
+            pass,
+            answers,
+            refusal: answer.err(),
+        }
+    }
+}
+
+/// Answers every fourth ask, behind so many that others have before, up to the first that isn't answered.
+fn answer_asks<D: Disk, G: Gate, R: Wait>(
+    rt: &R,
+    alloc: Global,
+    live: &Live<D>,
+    pass: &mut LivePass<D>,
+    gated: &mut Gated<'_, G>,
+    asks: &[FoundAsk],
+    before: usize,
+    answers: &mut AskAnswers,
+) -> Result<(), Refusal>
+    requires free { IsFree live.now.cell pass.old }
+    requires found { AreFound live.now.cell.first.store.head live.now.cell.first.store.history asks.now }
+    requires none { answers.old ≡ [] }
+    ensures free { IsFree live.now.cell pass.new }
+    ensures sees { OnlySees pass.old pass.new }
+    ensures answered { AreAnswered D.device live.now.cell.first.store pass.old.history.seen pass.new.history.seen
+        (every_fourth before asks.now) answers.new (result_err result) }
+{
+    let mut skip = before;
+    for ask in asks {
+        if skip > 0 {
+            skip -= 1;
+            continue;
+        }
+        skip = READERS - 1;
+        let answer = answer_ask(rt, alloc, live, pass, gated, ask)?;
+        answers.push(answer)?;
+    }
+    Ok(())
+}

@@ -1,0 +1,187 @@
+//! The turns that one ask takes.
+
+ghost use Rattle.std.specs.Prelude.{◌≡◌, ◌<◌, ◌≤◌, length, IfOk, IfErr, MatchResult};
+ghost use Rattle.refusals.specs.declared.refusal.Refusal.TheVariants.{OutOfMemory};
+ghost use Rattle.archive_store.specs.Finding.{IsReplayFound, IsRequestFound};
+ghost use Rattle.history_items.specs.Databases.{database_in};
+ghost use Rattle.archive_store.specs.Replays.{rows_below};
+ghost use Rattle.replay_merge.specs.Cursor.{rest_of};
+ghost use Rattle.retrieval.specs.FoundAsks.{IsAskFound};
+ghost use Rattle.retrieval.specs.declared.found_asks.FoundAsk.TheVariants as looked_up;
+ghost use Rattle.turn_cell.specs.Pass.{IsFree};
+ghost use Rattle.live_archive.specs.Retrievals.{IsAnswerIn, IsNotAnswered};
+ghost use Rattle.live_archive.specs.Turns.{TookTurn};
+ghost use Rattle.live_asks.specs.LiveAsks.{IsAnsweredInTurn, OnlySees};
+
+use crate::answered::{AskAnswer, ReplayedRows};
+use arch_disk::Disk;
+use arch_types::row::Rows;
+use arch_types::steps::Steps;
+use archive_store::laws::replays_keep_their_front;
+use archive_store::{FoundReplay, FoundRequest};
+use asks::laws::request_has_answer_exactly;
+use asks::{Answer, Request};
+use live_archive::{Live, LivePass};
+use outer_traits::gate::Gate;
+use refusals::Refusal;
+use replay_merge::cursor::Cursor;
+use replay_merge::laws::end_has_no_rest;
+use retrieval::found_asks::FoundAsk;
+use std::alloc::{AllocError, Global};
+use std::marker::Brand;
+use std::sync::Wait;
+use std::sync::ledger::{Blank, Ledger};
+
+/// The gate before a job's turns, which counts them.
+#[derive(Drop)]
+pub(crate) struct Gated<'a, G> {
+    pub(crate) gate: &'a G,
+    /// The job's number.
+    pub(crate) number: u32,
+    pub(crate) turn: u64,
+}
+
+impl<'a, G: Gate> Gated<'a, G> {
+    fn pass(&mut self) {
+        self.turn = self.turn.saturating_add(1);
+        self.gate.pass(self.number, self.turn);
+    }
+}
+
+/// Answers an ask that was found, over the history that there is in a turn. The one error is want of memory, since
+/// turns bring no database.
+pub(crate) fn answer_ask<D: Disk, G: Gate, R: Wait>(
+    rt: &R,
+    alloc: Global,
+    live: &Live<D>,
+    pass: &mut LivePass<D>,
+    gated: &mut Gated<'_, G>,
+    ask: &FoundAsk,
+) -> Result<AskAnswer, Refusal>
+    requires free { IsFree live.now.cell pass.old }
+    requires found { IsAskFound live.now.cell.first.store.head live.now.cell.first.store.history ask.now }
+    ensures free { IsFree live.now.cell pass.new }
+    ensures sees { OnlySees pass.old pass.new }
+    ensures answered { IfOk result (IsAnsweredInTurn D.device live.now.cell.first.store pass.old.history.seen
+        pass.new.history.seen ask.now) }
+    ensures refused { IfErr result (λ refusal. refusal ≡ OutOfMemory) }
+{
+    match ask {
+        FoundAsk::Values(found) => values(rt, alloc, live, pass, gated, found),
+        FoundAsk::Replay(found) => replay(rt, alloc, live, pass, gated, found),
+    }
+}
+
+/// The values that a request asks for.
+fn values<D: Disk, G: Gate, R: Wait>(
+    rt: &R,
+    alloc: Global,
+    live: &Live<D>,
+    pass: &mut LivePass<D>,
+    gated: &mut Gated<'_, G>,
+    found: &FoundRequest,
+) -> Result<AskAnswer, Refusal>
+    requires free { IsFree live.now.cell pass.old }
+    requires found { IsRequestFound (database_in live.now.cell.first.store.head.mdb
+        live.now.cell.first.store.history) found.now }
+    ensures free { IsFree live.now.cell pass.new }
+    ensures sees { OnlySees pass.old pass.new }
+    ensures answered { IfOk result (IsAnsweredInTurn D.device live.now.cell.first.store pass.old.history.seen
+        pass.new.history.seen (looked_up.Values found.now)) }
+    ensures refused { IfErr result (λ refusal. refusal ≡ OutOfMemory) }
+{
+    request_has_answer_exactly();
+    let request = copy_of(&found.request)?;
+    gated.pass();
+    let answer = retrieved::<D, R, Brand>(rt, alloc, Blank::new(1), live, pass, request)?;
+    Ok(AskAnswer::Values(answer))
+}
+
+/// An equal request.
+fn copy_of(request: &Request) -> Result<Request, AllocError>
+    ensures { IfOk result (λ copy. copy ≡ request.now) }
+{
+    let parameter = request.parameter.copy()?;
+    Ok(Request {
+        parameter,
+        from: request.from,
+        to: request.to,
+        direction: request.direction,
+        limit: request.limit,
+    })
+}
+
+/// The answer to a request, with a count of steps of its own.
+fn retrieved<D: Disk, R: Wait, L: Ledger>(
+    rt: &R,
+    alloc: Global,
+    blank: Blank,
+    live: &Live<D>,
+    pass: &mut LivePass<D>,
+    request: Request,
+) -> Result<Answer, Refusal>
+    requires free { IsFree live.now.cell pass.old }
+    requires blank { (blank.name ≡ L.name) × (blank.parts ≡ L.parts) × (0 < blank.parts) }
+    ensures free { IsFree live.now.cell pass.new }
+    ensures turn { TookTurn D.device live.now.cell.first.store pass.old pass.new (λ before after. (after ≡ before)
+        × MatchResult result (IsAnswerIn D.device before request) (IsNotAnswered before request)) }
+{
+    let (book, share) = blank.open::<L>();
+    live.retrieve(rt, alloc, pass, request, &mut Steps::new(book, share))
+}
+
+/// The replay of a request: of the history that there is in the turn of its opening, whatever comes behind it before
+/// its last rows are taken.
+fn replay<D: Disk, G: Gate, R: Wait>(
+    rt: &R,
+    alloc: Global,
+    live: &Live<D>,
+    pass: &mut LivePass<D>,
+    gated: &mut Gated<'_, G>,
+    found: &FoundReplay,
+) -> Result<AskAnswer, Refusal>
+    requires free { IsFree live.now.cell pass.old }
+    requires found { IsReplayFound live.now.cell.first.store.head.tables found.now }
+    ensures free { IsFree live.now.cell pass.new }
+    ensures sees { OnlySees pass.old pass.new }
+    ensures answered { IfOk result (IsAnsweredInTurn D.device live.now.cell.first.store pass.old.history.seen
+        pass.new.history.seen (looked_up.Replay found.now)) }
+    ensures refused { IfErr result (λ refusal. refusal ≡ OutOfMemory) }
+{
+    gated.pass();
+    let cursor = live.replay_open(rt, alloc, pass, found)?;
+    let front = cursor.front();
+    let rows = rows_left(rt, alloc, live, pass, gated, cursor)?;
+    Ok(AskAnswer::Replay(ReplayedRows { front, rows }))
+}
+
+/// The rows that are left of a replay, each day's in a turn of its own. The one error is want of memory.
+fn rows_left<D: Disk, G: Gate, R: Wait>(
+    rt: &R,
+    alloc: Global,
+    live: &Live<D>,
+    pass: &mut LivePass<D>,
+    gated: &mut Gated<'_, G>,
+    cursor: Cursor,
+) -> Result<Rows, Refusal>
+    requires free { IsFree live.now.cell pass.old }
+    requires front { cursor.front ≤ length pass.old.history.seen }
+    ensures free { IsFree live.now.cell pass.new }
+    ensures sees { OnlySees pass.old pass.new }
+    ensures rows { IfOk result (λ rows. rows ≡ rest_of cursor (rows_below pass.new.history.seen)) }
+    ensures refused { IfErr result (λ refusal. refusal ≡ OutOfMemory) }
+{
+    replays_keep_their_front();
+    end_has_no_rest();
+    let mut cursor = cursor;
+    let mut rows = Vec::new(alloc);
+    'steps: loop {
+        gated.pass();
+        let piece = live.replay_next(rt, alloc, pass, &mut cursor, u64::MAX)?;
+        if piece.len() == 0 {
+            return Ok(Rows::from_vec(rows));
+        }
+        let mut more = piece.into_vec();
+        rows.append(&mut more)?;
+    }
+}

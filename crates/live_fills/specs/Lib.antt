@@ -1,0 +1,3 @@
+pub mod LiveTarget
+pub mod Filler
+pub mod Laws

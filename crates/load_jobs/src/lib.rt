@@ -1,0 +1,21 @@
+//! The links of a load, each with a pass of one live archive.
+//!
+//! Stands for: what came of a link, said of its own dump and of its own pass alone (`IsLinkRun`), so that it holds
+//! whatever the others did. A link (`Link`) reads its dump whole, sends the packets in batches of 64, each in a turn,
+//! and wakes a filler after each that was acknowledged, by a send that never waits. For sessions of several jobs.
+//!
+//! The idea of the proofs: what a link's turns put, and what it knows of its rows, goes on batch by batch by the laws
+//! of shared_history (proofs/SentSoFar.antt). What follows where one link alone put rows is in proofs/OneLink.antt.
+//!
+//! Begin with `IsLinkRun` and `run_link`, and then `IsDumpSent`.
+#![tactic(auto)]
+
+mod ending;
+pub mod laws;
+mod link;
+mod reading;
+mod sending;
+
+pub use ending::LinkEnd;
+pub use link::{Link, LinkDone, run_link};
+pub use sending::Reception;
