@@ -27,11 +27,12 @@ use Rattle.script_answers.specs.Scripts.{after_answer}
 use Rattle.archive_commands.specs.Create.{HasArchiveAs, IsHeadAnswer, after_making, checking_plan, create_plan, head_inputs, named_inputs, named_script_plan, new_archive_plan, script_behind_plan}
 use Rattle.archive_commands.proofs.ArchiveOrNone.{one-not-none}
 use Rattle.archive_commands.proofs.CreatePlan.{one_head_answer}
-use Rattle.command_laws.specs.Calls.{Call, IsRefusedBy, IsRun, IsUnopened, IsUntouched, Prints, PrintsSome, Succeeded, WasInterrupted, effects}
+use Rattle.command_laws.specs.Calls.{Call, IsRefusedBy, IsRun, IsUnopened, LeavesDisk, Prints, PrintsSome, Succeeded, WasInterrupted, effects}
 use Rattle.command_laws.specs.Create.{GivesHead, IsCreated, IsMadeOf, IsNoneOrHead, create_files}
 use Rattle.command_laws.specs.NamedFiles.{HasScript, HasSheets, IsFirstUnread, named_file}
 use Rattle.command_laws.proofs.Files.{one_raw, one_script}
 use Rattle.command_laws.proofs.Left.{is_unopened, not_asked, opened_once, untouched}
+use Rattle.command_laws.proofs.OnlyUnread.{only_made}
 use Rattle.command_laws.proofs.Readings.{IsUnread, each_read, each_sheets, read_due, read_or_not, sheets_due, sheets_unread, unread_due}
 use Rattle.command_laws.proofs.Runs.{IsEndOf, all_is_some, by_due, by_job, none_is_some, none_or_some, or_disk_failed, or_no_memory, or_unwritten, refused, succeeded}
 use Rattle.command_laws.proofs.Ways.{due_in_turn, each_in_turn}
@@ -40,7 +41,7 @@ use Rattle.command_laws.proofs.Ways.{due_in_turn, each_in_turn}
 record IsLeft {D : Type 0} (device : Device D) (e : Call D) (files : Files) (words : CreateWords) : Type 0 where
   made : Succeeded e → (head : Head) × GivesHead files words (Ok head) × IsMadeOf device e head × Prints e (create_line head)
   printed : (head : Head) → GivesHead files words (Ok head) → PrintsSome e (create_line head)
-  kept : BeginsOpen (device.reads e.disk 0) → IsUntouched device e × Prints e []
+  kept : BeginsOpen (device.reads e.disk 0) → LeavesDisk device e × Prints e []
   quiet : (refusal : Refusal) → IsFirstUnread files (create_files words) refusal → Prints e []
   silent : (refusal : Refusal) → GivesHead files words (Err refusal) → Prints e []
   images : ((image : Image) → device.images e.disk image → HoldsNone (image 0)) → LeavesOnly device e.disk e.disk' (IsNoneOrHead files words)
@@ -286,6 +287,7 @@ module _ {D : Type 0} (device : Device D) (e : Call D) (files : Files) (clock : 
       due (IsRefusedBy device e refusal) (λ cut. inr cut) (λ way at required. unread_files_due device e files words run.transparent way at refusal first required),
       left.quiet refusal first,
     );
+    only_unread = only_made device e files words clock run;
     refused = λ refusal gives. (
       due (IsRefusedBy device e refusal) (λ cut. inr cut) (λ way at required. refused_due device e files words run.transparent way at refusal gives required),
       left.silent refusal gives,

@@ -27,11 +27,11 @@ some_moment (Some known) = (known, refl)
 -- ---- the rest
 
 -- a rest is no longer than its dump
-rest_fits : (dump rest : List ℕ) (packets : List (List ℕ)) → IsDump dump packets rest → length rest ≤ length dump
+pub rest_fits : (dump rest : List ℕ) (packets : List (List ℕ)) → IsDump dump packets rest → length rest ≤ length dump
 rest_fits dump rest packets parts = let all = ap (λ (l : List ℕ). length l) parts.joined in let two = length-append (concat packets) rest in omega (arith, all, two)
 
 -- a BadPacket is that of the rest
-bad_rest_of : (dump rest : List ℕ) (at : ℕ) (kind : BadKind) → length rest ≤ length dump → ending_of_rest dump rest ≡ Some (BadPacket at kind) → IsBadRest dump rest at kind
+pub bad_rest_of : (dump rest : List ℕ) (at : ℕ) (kind : BadKind) → length rest ≤ length dump → ending_of_rest dump rest ≡ Some (BadPacket at kind) → IsBadRest dump rest at kind
 bad_rest_of dump [] at kind fits is = absurd (cc (is))
 bad_rest_of dump (octet ∷ rest) at kind fits is =
     let place : length dump - length (octet ∷ rest) ≡ at = cc (is) in

@@ -13,7 +13,7 @@ use Rattle.command_runs.specs.Extension.{KeepsFills}
 use Rattle.command_runs.specs.ReadOnly.{IsOpenedThen, IsReadAsBefore, IsReadOnly}
 use Rattle.command_runs.specs.Report.{read_only, unopened}
 use Rattle.command_laws.specs.HandedBack.{IsHandedBack}
-use Rattle.command_laws.specs.Calls.{Call, IsSameArchive, IsUnopened, IsUntouched, LeavesAll, LeavesSinceOpening, Prints}
+use Rattle.command_laws.specs.Calls.{Call, IsSameArchive, IsUnopened, LeavesDisk, LeavesAll, LeavesSinceOpening, Prints}
 
 -- a call says that an archive was opened, or that none was
 pub opened_once : {Q : Type 0} (b : Bool) → b ≡ true → b ≡ false → Q
@@ -27,7 +27,7 @@ module _ {D : Type 0} (device : Device D) (e : Call D) where
   pub not_asked : e.disk' ≡ e.disk → IsReadAsBefore device e.disk e.disk'
   not_asked same = subst (λ (disk : D). IsReadAsBefore device e.disk disk) (sym same) (record { reads = refl; images = started device e.disk (device.images e.disk) (λ c now. now) })
 
-  pub untouched : IsReadAsBefore device e.disk e.disk' → IsUntouched device e
+  pub untouched : IsReadAsBefore device e.disk e.disk' → LeavesDisk device e
   untouched kept = record { reads = kept.reads; images = kept.images }
 
   pub is_unopened : (refusal : Refusal) → e.report ≡ unopened (Some refusal) → Prints e [] → IsUnopened e
@@ -83,7 +83,7 @@ module _ {D : Type 0} (device : Device D) (e : Call D) where
       (λ c s. s)
 
   -- and where the disk was left as it was
-  pub sound_moments : IsTrue device.is_transparent → (Q : Image → Type 0) → IsUntouched device e ⊎ LeavesSinceOpening device e Q → ((c : Image) → device.images e.disk c → IsSoundImage c × Q c)
+  pub sound_moments : IsTrue device.is_transparent → (Q : Image → Type 0) → LeavesDisk device e ⊎ LeavesSinceOpening device e Q → ((c : Image) → device.images e.disk c → IsSoundImage c × Q c)
       → LeavesOnly device e.disk e.disk' (λ c. IsSoundImage c × Q c)
   sound_moments known Q (inl left) all = weakens device e.disk e.disk' (device.images e.disk) (λ (c : Image). IsSoundImage c × Q c) left.images all
   sound_moments known Q (inr then) all = sound_since known Q then all

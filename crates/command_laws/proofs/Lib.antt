@@ -1,10 +1,13 @@
 pub mod Created
 pub mod Dumps
+pub mod FileRefusals
 pub mod Files
 pub mod Firsts
 pub mod Left
 pub mod LoadDue
+pub mod LoadOnly
 pub mod Loaded
+pub mod OnlyUnread
 pub mod OverRows
 pub mod Queried
 pub mod Readings

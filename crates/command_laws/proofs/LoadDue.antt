@@ -1,6 +1,6 @@
 -- What is due of a load: how far it comes, and why no further.
 use Rattle.std.proofs.Common.{◌≡◌, ◌⊎◌, ◌∙◌, inl, inr, ℕ, ℤ, zero, suc, ◌+◌, ◌<◌, ◌≤◌, List, [], ◌∷◌, ◌++◌, length, Bool, true, false, Option, Some, None, refl, sym, ap, subst, arith}
-use Rattle.std.specs.Prelude.{IsSome, IsTrue, Result, Ok, if◌then◌else◌, nat_lt, IsNone, IsSomeAnd}
+use Rattle.std.specs.Prelude.{IsSome, IsTrue, Result, Ok, Err, if◌then◌else◌, nat_lt, IsNone, IsSomeAnd}
 use Rattle.std.proofs.lemmas.Bool.Decides.{nat_tests}
 use Rattle.arch_disk.specs.Disk.{Device}
 use Rattle.arch_types.proofs.Dumps.{dump_is_one}
@@ -34,17 +34,18 @@ use Rattle.ask_answers.specs.Asks.{asked_plan, with_sources}
 use Rattle.load_command.specs.Load.{IsRecordedBehind, after_dump, after_dump_found, after_link, after_packets, after_route, after_session, answering_asks_plan, archive_load_plan, history_extended, late_behind, load_printing_plan, reading_plan, refused_session_plan, routed_load_plan, routed_plan, extension_failed, dump_too_long, loading_plan}
 use Rattle.load_command.specs.Loading.{IsRouteAnswer, link_refusal}
 use Rattle.command_laws.specs.Calls.{Call, IsNoArchive, IsRefusedBy, Succeeded, WasInterrupted, effects}
-use Rattle.command_laws.specs.Load.{ArePassed, AreRecordsPassed, HasAsks, HasRouteText, IsAsked, IsBroken, IsGrown, IsReceived, WasHindered, load_files}
+use Rattle.command_laws.specs.Answers.{sheet_refusal}
+use Rattle.command_laws.specs.Load.{ArePassed, AreRecordsPassed, HasAsks, HasRouteText, IsAsked, IsBroken, IsGrown, IsLoadRefusal, IsReceived, WasHindered, load_files}
 use Rattle.command_laws.specs.NamedFiles.{IsFirstUnread, named_file}
 use Rattle.command_laws.proofs.Readings.{read_due, unread_due}
-use Rattle.command_laws.proofs.Received.{all_there, batch, grown, received}
+use Rattle.command_laws.proofs.Received.{all_there, batch, grown}
 use Rattle.command_laws.proofs.Runs.{IsEndOf, cut_off, disk_call, no_archive_due, no_memory, none_or_some, refused, risen, told, unread_call, unwritten_call}
 use Rattle.mdb_sheets.specs.Plans.{ask_sheet_plan}
 use Rattle.std.specs.FinMap.{get}
 use Rattle.command_laws.proofs.Ways.{due_alone, due_twice, due_under}
 use Rattle.refusals.specs.declared.refusal.BadKind.{BadKind}
 use Rattle.command_runs.proofs.DumpRest.{bad_ending}
-use Rattle.archive_store.specs.Stands.{StandsFor}
+use Rattle.archive_store.specs.Stands.{StandsFilled, StandsFor}
 use Rattle.load_session.specs.During.{with_history}
 use Rattle.command_runs.specs.Extension.{filled_at}
 use Rattle.command_runs.proofs.Openings.{plain_stands}
@@ -58,6 +59,35 @@ full records (suc late) refusal is = go (nat_lt (limit_of Records) (records + su
         → (refusal ≡ Limit Records (limit_of Records)) × (limit_of Records < records + suc late)
     go true more is = let same : Limit Records (limit_of Records) ≡ refusal = cc (is) in (sym same, grind (arith, nat_tests, more))
     go false within is = absurd (cc (is))
+
+-- ---- behind a session, whatever the filling behind it came to
+
+module _ (before : FilledArchive) (link : Option ℕ) (s : SessionResult) where
+  abbrev pub filled_behind : Option Refusal → Progress
+  filled_behind end = filled_to before s.reached (history_extended before link s) end
+
+  pub after_reached : (end : Option Refusal) → (filled_behind end).report.after ≡ length s.reached
+  after_reached None = refl
+  after_reached (Some DiskFault) = refl
+  after_reached (Some other) = refl
+
+  pub link_named : (end : Option Refusal) → (filled_behind end).report.link ≡ link
+  link_named None = refl
+  link_named (Some DiskFault) = refl
+  link_named (Some other) = refl
+
+  module _ {D : Type 0} (device : Device D) (e : Call D) (known : IsTrue device.is_transparent) where
+    -- the disk handed back stands for what was reached
+    pub reached_stands : (end : Option Refusal) (failed : Bool) → HasDiskOutcome device e.disk e.disk' failed (filled_behind end).disk → StandsFor (device.reads e.disk') (with_history before.plain s.reached)
+    reached_stands None failed h = let x = (h.1 known).extended.kept in plain_stands (device.reads e.disk') (filled_at before s.reached x.fillings) x.durable.reads
+    reached_stands (Some DiskFault) failed h = (h.1 known).durable.reads
+    reached_stands (Some other) failed h = let x = (h.1 known).kept in plain_stands (device.reads e.disk') (filled_at before s.reached x.fillings) x.durable.reads
+
+    -- and the one handed in for the archive
+    pub before_stood : (end : Option Refusal) (failed : Bool) → HasDiskOutcome device e.disk e.disk' failed (filled_behind end).disk → StandsFilled (device.reads e.disk) before
+    before_stood None failed h = (h.1 known).extended.stands
+    before_stood (Some DiskFault) failed h = (h.1 known).stands
+    before_stood (Some other) failed h = (h.1 known).stands
 
 -- the same is done, but for how many sources were given
 pub record KeepsDone (f : Progress → Progress) : Type 0 where
@@ -170,6 +200,45 @@ module _ {D : Type 0} (device : Device D) (e : Call D) (files : Files) (clock : 
       go f keeps (inl cut) = inr (no_memory e way at _ cut)
       go f keeps (inr asked) = opens f keeps (asked true there)
 
+  -- what is refused of a load into an archive
+  pub refused_due : (before : FilledArchive) (text : Option (List ℕ)) (sheet : Result (List Ask) Refusal) (refusal : Refusal) → StandsFilled (device.reads e.disk) before → HasRouteText files words.route text
+      → HasAsks files words.asks sheet → IsSome (get files words.dump) → IsLoadRefusal before.plain words text sheet refusal
+      → Requires (routed_plan (Some files) words.route (routed_load_plan device e.disk (Some files) clock words)) way → IsRefusedBy device e refusal
+  refused_due before text sheet refusal stands named has there is d = elim (files_due text sheet named has d) [
+    | inl went ↦ go went.0 went.1 went.2
+    | inr cut ↦ inr cut
+  ]
+    where
+      asks_refused : (f : Progress → Progress) (route : List RouteStatement) (sheet : Result (List Ask) Refusal) → sheet_refusal before.plain sheet ≡ Some refusal
+          → Requires (map_done f (after_route (IsRecordCount device e.disk) (Some files) clock words sheet before route)) way → IsRefusedBy device e refusal
+      asks_refused f route (Err own) is d = let same : own ≡ refusal = cc (is) in subst (IsRefusedBy device e) same (refused e way at _ own d)
+      asks_refused f route (Ok asks) is (inl cut) = inr (no_memory e way at _ cut)
+      asks_refused f route (Ok asks) is (inr asked) = refused e way at _ refusal (asked (Some refusal) (sym is))
+
+      linked : (f : Progress → Progress) → IsRouteAnswer before.plain text (Err refusal) ⊎ ((route : List RouteStatement) × IsRouteAnswer before.plain text (Ok route) × (sheet_refusal before.plain sheet ≡ Some refusal))
+          → Requires (map_done f (after_link (IsRecordCount device e.disk) (Some files) clock words text sheet before None)) way → IsRefusedBy device e refusal
+      linked f is (inl cut) = inr (no_memory e way at _ cut)
+      linked f (inl of_route) (inr answered) = refused e way at _ refusal (answered (Err refusal) of_route)
+      linked f (inr (route, routed, of_asks)) (inr answered) = asks_refused f route sheet of_asks (answered (Ok route) routed)
+
+      found : (f : Progress → Progress) → IsLoadRefusal before.plain words text sheet refusal
+          → Requires (map_done f (loading_plan (IsRecordCount device e.disk) (Some files) clock words text sheet before)) way → IsRefusedBy device e refusal
+      found f (inl of_link) d = refused e way at _ refusal (d (Some refusal) (sym of_link))
+      found f (inr (none, others)) d = linked f others (d None (sym none))
+
+      sought : ◌≡◌ {A = DiskOutcome} SeekingFailed NotAsked → ⊥
+      sought never = cc (never)
+
+      opened : (f : Progress → Progress) → KeepsDone f → Requires (map_done f (after_dump_found device e.disk (Some files) clock words text sheet true)) way → IsRefusedBy device e refusal
+      opened f keeps (inl cut) = inr (unread_call e way at _ cut)
+      opened f keeps (inr (inl cut)) = inr (no_memory e way at _ cut)
+      opened f keeps (inr (inr (inl cut))) = inr (disk_call e way at (f (seeking_failed 1)) (λ none. sought (sym (keeps.disk (seeking_failed 1)) ∙ none)) cut)
+      opened f keeps (inr (inr (inr held))) = found f is (held (ArchiveFound before) (λ transparent. stands))
+
+      go : (f : Progress → Progress) → KeepsDone f → Requires (map_done f (archive_load_plan device e.disk (Some files) clock words text sheet)) way → IsRefusedBy device e refusal
+      go f keeps (inl cut) = inr (no_memory e way at _ cut)
+      go f keeps (inr asked) = opened f keeps (asked true there)
+
   -- ---- the archive, and what is asked of it
 
   module _ (before : FilledArchive) (ready : IsAsked device e files words before) (text : Option (List ℕ)) (route : List RouteStatement) (routed : IsRouteAnswer before.plain text (Ok route))
@@ -241,19 +310,13 @@ module _ {D : Type 0} (device : Device D) (e : Call D) (files : Files) (clock : 
       -- the disk handed back stands for what was reached, whatever a filling came to
       reached_held : (link : Option ℕ) (end refusal : Option Refusal) → way ≡ Stopped (f (filled_to before s.reached (history_extended before link s) end)) refusal
           → StandsFor (device.reads e.disk') (with_history before.plain s.reached)
-      reached_held link end refusal is = go end (failed_disk end) (subst (λ (o : DiskOutcome). HasDiskOutcome device e.disk e.disk' (failed_disk end) o) (keeps.disk (filled_to before s.reached (history_extended before link s) end)) did.disk)
+      reached_held link end refusal is = reached_stands before link s device e known end (failed_disk end) (subst (λ (o : DiskOutcome). HasDiskOutcome device e.disk e.disk' (failed_disk end) o) (keeps.disk (filled_to before s.reached (history_extended before link s) end)) did.disk)
         where
           did : EndedAt device (effects e) (f (filled_to before s.reached (history_extended before link s) end)) refusal (f (filled_to before s.reached (history_extended before link s) end)).failed
           did = subst (HasEffects device (effects e)) is at.did
 
           failed_disk : Option Refusal → Bool
           failed_disk end = (f (filled_to before s.reached (history_extended before link s) end)).failed OfDisk
-
-          go : (end : Option Refusal) (b : Bool) → HasDiskOutcome device e.disk e.disk' b (filled_to before s.reached (history_extended before link s) end).disk
-              → StandsFor (device.reads e.disk') (with_history before.plain s.reached)
-          go None b h = let x = (h.1 known).extended.kept in plain_stands (device.reads e.disk') (filled_at before s.reached x.fillings) x.durable.reads
-          go (Some DiskFault) b h = (h.1 known).durable.reads
-          go (Some other) b h = let x = (h.1 known).kept in plain_stands (device.reads e.disk') (filled_at before s.reached x.fillings) x.durable.reads
 
       passes : (which : Which) → StandsFor (device.reads e.disk') (with_history before.plain s.reached) → e.report.refusal ≡ Some (Limit which (limit_of which)) → e.report.after ≡ length s.reached
           → ArePassed files moment words before s.reached which ⊎ ((which ≡ Records) × AreRecordsPassed device e before s.reached) → Due
@@ -294,11 +357,6 @@ module _ {D : Type 0} (device : Device D) (e : Call D) (files : Files) (clock : 
       told_after t refusal after is =
           ap (λ (u : Report). u.after) (subst (HasEffects device (effects e)) is at.did).report ∙ ap (λ (u : Report). u.after) (keeps.report t) ∙ after
 
-      filled_after : (link : Option ℕ) (end : Option Refusal) → (filled_to before s.reached (history_extended before link s) end).report.after ≡ length s.reached
-      filled_after link None = refl
-      filled_after link (Some DiskFault) = refl
-      filled_after link (Some other) = refl
-
       -- nothing is left of the dump
       module _ (ends : ending_of_rest mine.dump s.rest ≡ None) where
         whole_told : (u : Progress) → way ≡ Stopped (f u) None → Due
@@ -331,12 +389,7 @@ module _ {D : Type 0} (device : Device D) (e : Call D) (files : Files) (clock : 
       told_link : (refusal : Refusal) (end : Option Refusal) → way ≡ Stopped (f (filled_to before s.reached (history_extended before (Some words.link) s) end)) (Some refusal) → e.report.link ≡ Some words.link
       told_link refusal end is =
           ap (λ (u : Report). u.link) (subst (HasEffects device (effects e)) is at.did).report
-          ∙ ap (λ (u : Report). u.link) (keeps.report (filled_to before s.reached (history_extended before (Some words.link) s) end)) ∙ filled_link end
-        where
-          filled_link : (end : Option Refusal) → (filled_to before s.reached (history_extended before (Some words.link) s) end).report.link ≡ Some words.link
-          filled_link None = refl
-          filled_link (Some DiskFault) = refl
-          filled_link (Some other) = refl
+          ∙ ap (λ (u : Report). u.link) (keeps.report (filled_to before s.reached (history_extended before (Some words.link) s) end)) ∙ link_named before (Some words.link) s end
 
       -- a rest is left, and that is told
       rest_told : (refusal : Refusal) → ending_of_rest mine.dump s.rest ≡ Some refusal → s.place ≡ length s.packets
@@ -349,12 +402,22 @@ module _ {D : Type 0} (device : Device D) (e : Call D) (files : Files) (clock : 
           r = to;
           packets = s.packets;
           rest = s.rest;
-          received = received files words before mine.text mine.named mine.route mine.routed mine.dump mine.file moment Began' s session;
+          received = record {
+            dump = mine.dump;
+            file = mine.file;
+            parts = session.parts;
+            text = mine.text;
+            named = mine.named;
+            route = mine.route;
+            routed = mine.routed;
+            received = refl;
+          };
           reached = s.reached;
           held = reached_held (Some words.link) d.0 (Some refusal) d.2;
-          after = told_after (filled_to before s.reached (history_extended before (Some words.link) s) d.0) (Some refusal) (filled_after (Some words.link) d.0) d.2;
+          after = told_after (filled_to before s.reached (history_extended before (Some words.link) s) d.0) (Some refusal) (after_reached before (Some words.link) s d.0) d.2;
           grown = came_to;
           there = all_there files words before mine.text mine.named mine.route mine.routed mine.dump mine.file moment Began' s session all;
+          bad = subst (λ (r : List ℕ). IsBadRest mine.dump r place kind) same_rest bad;
           refusal = told e way at ∙ ap refusal_at d.2 ∙ sym ends ∙ ap (ending_of_rest mine.dump) (sym same_rest) ∙ sym (bad_ending mine.dump rest place kind bad);
           link = told_link refusal d.0 d.2;
         },
@@ -375,7 +438,7 @@ module _ {D : Type 0} (device : Device D) (e : Call D) (files : Files) (clock : 
       ended_due (Some OutOfMemory) cause d = cut_due (cut_off device e OutOfMemory (told e way at ∙ ap refusal_at d.2) tt)
       ended_due (Some (Limit which number)) cause d =
           passes which (reached_held None d.0 (Some (Limit which number)) d.2) (told e way at ∙ ap refusal_at d.2 ∙ ap (λ (n : ℕ). Some (Limit which n)) cause.0)
-          (told_after (filled_to before s.reached (history_extended before None s) d.0) (Some (Limit which number)) (filled_after None d.0) d.2)
+          (told_after (filled_to before s.reached (history_extended before None s) d.0) (Some (Limit which number)) (after_reached before None s d.0) d.2)
           (session_passed which cause.1.0 cause.1.1 cause.1.2 cause.1.3 cause.1.4)
       ended_due (Some other) cause d = absurd cause
 

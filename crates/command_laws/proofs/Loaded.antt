@@ -22,7 +22,7 @@ use Rattle.load_session.specs.Filling.{filling_refusal}
 use Rattle.load_session.specs.Receiving.{Receiving, receiving, rows_received}
 use Rattle.load_session.specs.Session.{IsSession, IsSessionEnd, SessionResult, next_fresh_rows}
 use Rattle.command_plans.specs.Inputs.{InputRead, IsInputAs, OverLimit, WithinLimit}
-use Rattle.command_plans.specs.Plan.{OfOutput, Choose, CommandPlan, EachEnd, May, Question, Requires, Return, Stop, Way, map_done, and_then}
+use Rattle.command_plans.specs.Plan.{OfOutput, CommandPlan, EachEnd, May, Requires, Stop, Way, map_done, and_then}
 use Rattle.command_plans.proofs.Plans.{each_end, end_of}
 use Rattle.command_words.specs.Job.{Load, LoadWords}
 use Rattle.command_runs.specs.declared.report.Report.{Report}
@@ -39,26 +39,27 @@ use Rattle.ask_answers.specs.Asks.{after_asks_check, asked_plan, with_sources}
 use Rattle.load_command.specs.Load.{after_dump, after_dump_found, after_link, after_packets, after_route, after_session, answering_asks_plan, archive_load_plan, history_extended, late_behind, load_plan, load_printing_plan, loading_plan, reading_plan, refused_session_plan, routed_load_plan, routed_plan}
 use Rattle.load_command.specs.LoadLine.{load_text, whole_report}
 use Rattle.load_command.specs.Loading.{IsRouteAnswer}
-use Rattle.command_laws.specs.Calls.{Call, HasSameHistory, IsNoArchive, IsRefusedBy, IsRun, IsUnopened, IsUntouched, Prints, PrintsSome, Succeeded, WasInterrupted, effects}
+use Rattle.command_laws.specs.Calls.{Call, HasSameHistory, IsNoArchive, IsRefusedBy, IsRun, IsUnopened, LeavesDisk, Prints, PrintsSome, Succeeded, WasInterrupted, effects}
 use Rattle.command_laws.specs.HandedBack.{IsHandedBack}
 use Rattle.command_laws.specs.Load.{AreNewOfBatch, HasAsks, HasRouteText, IsAsked, IsGrown, IsLoadPrinted, IsLoaded, IsLoadedOrNot, IsOnTheWay, IsReachedIn, IsReceived, IsRefusedLoad, IsWholeLoad, WasHindered, load_files, whole_load}
 use Rattle.command_laws.specs.NamedFiles.{HasFile, IsFirstUnread, named_file}
 use Rattle.command_laws.proofs.Dumps.{none_left, some_moment}
 use Rattle.command_laws.proofs.Files.{same_asks}
 use Rattle.command_laws.proofs.Left.{is_unopened, kept_back, not_asked, opened_once, read_back, since_opening, sound_moments, untouched}
-use Rattle.command_laws.proofs.Readings.{IsUnread, each_read, read_or_not}
+use Rattle.command_laws.proofs.Readings.{IsUnread, each_behind, each_read, read_or_not}
+use Rattle.command_laws.proofs.LoadOnly.{only_told}
 use Rattle.command_laws.proofs.Received.{batch, grown, is_whole, on_the_way, one_received, one_sheet, received, rows_answer, with_batch}
 use Rattle.command_laws.proofs.Runs.{IsEndOf, all_is_some, archive_there, by_due, by_job, none_is_some, none_or_some, same_refusal}
 use Rattle.script_answers.specs.Scripts.{after_answer}
 use Rattle.std.specs.FinMap.{get}
-use Rattle.command_laws.proofs.LoadDue.{IsToldOf, absent_due, dump_due, lacking_due, long_dump_due, unread_files_due}
+use Rattle.command_laws.proofs.LoadDue.{IsToldOf, absent_due, dump_due, lacking_due, long_dump_due, refused_due, unread_files_due}
 
 -- ---- ends
 
 -- all but what is due
 record IsLeft {D : Type 0} (device : Device D) (e : Call D) (files : Files) (clock : Option ℤ) (words : LoadWords) : Type 0 where
   opened : e.report.opened ≡ true → IsLoaded device e files clock words
-  unopened : e.report.opened ≡ false → IsUntouched device e × IsUnopened e
+  unopened : e.report.opened ≡ false → LeavesDisk device e × IsUnopened e
   quiet : (refusal : Refusal) → IsFirstUnread files (load_files words) refusal → Prints e []
 
 -- files that were read aren't such as weren't
@@ -319,14 +320,6 @@ module _ {D : Type 0} (device : Device D) (e : Call D) (files : Files) (clock : 
 
   -- ---- before it
 
-  -- ends that say nothing of how many sources were given
-  sources_left : {X : Type 0} (n : ℕ) (p : CommandPlan Progress X) → EachEnd Leaves p → EachEnd Leaves (map_done (with_sources n) p)
-  sources_left n (Return x) d = tt
-  sources_left n (Stop s refusal) d = λ did. d (record { report = did.report; printed = did.printed; output = did.output; disk = did.disk })
-  sources_left n (May fault s p) d = (λ did. d.0 (record { report = did.report; printed = did.printed; output = did.output; disk = did.disk }), sources_left n p d.1)
-  sources_left n (Question is next) d = λ a h. sources_left n (next a) (d a h)
-  sources_left n (Choose is next) d = λ a h. sources_left n (next a) (d a h)
-
   module _ (text : Option (List ℕ)) (named : HasRouteText files words.route text) (filled : FilledArchive) where
     module _ (route : List RouteStatement) (routed : IsRouteAnswer filled.plain text (Ok route)) where
       dump_left : (asks : List Ask) → HasAsks files words.asks (Ok asks) → (read : InputRead (List ℕ)) → IsInputAs (Some files) DumpOctets (λ octets. octets) words.dump read
@@ -382,14 +375,14 @@ module _ {D : Type 0} (device : Device D) (e : Call D) (files : Files) (clock : 
   asked_left None next each = each (Ok []) refl
   asked_left (Some name) next each =
       each_read device e Left files SheetOctets (λ octets. asks_of octets) name 0 (λ (sheet : Result (List Ask) Refusal). map_done (with_sources 1) (next sheet)) (λ refusal unread cause. left_unread refusal unread)
-      (λ octets file. sources_left 1 (next (asks_of octets)) (each (asks_of octets) (record { octets = octets; file = file; sheet_is = refl })))
+      (λ octets file. each_behind device e Left files 1 (next (asks_of octets)) (each (asks_of octets) (record { octets = octets; file = file; sheet_is = refl })))
 
   routed_left : (name : Option (List ℕ)) (next : Option (List ℕ) → CommandPlan Progress ⊥) → ((text : Option (List ℕ)) → HasRouteText files name text → EachEnd Leaves (next text))
       → EachEnd Leaves (routed_plan (Some files) name next)
   routed_left None next each = each None refl
   routed_left (Some name) next each =
       each_read device e Left files ScriptOctets (λ octets. octets) name 0 (λ (text : List ℕ). map_done (with_sources 1) (next (Some text))) (λ refusal unread cause. left_unread refusal unread)
-      (λ octets file. sources_left 1 (next (Some octets)) (each (Some octets) (octets, file, refl)))
+      (λ octets file. each_behind device e Left files 1 (next (Some octets)) (each (Some octets) (octets, file, refl)))
 
   each_left : EachEnd Leaves (load_plan device e.disk (Some files) clock words)
   unfolding load_plan
@@ -427,12 +420,15 @@ module _ {D : Type 0} (device : Device D) (e : Call D) (files : Files) (clock : 
       due (IsRefusedBy device e refusal) (λ cut. inr cut) (λ way at required. unread_files_due device e files clock words way at refusal first required),
       left.quiet refusal first,
     );
+    only_unread = (only_told device e files clock words run).0;
     lacking = λ text sheet named has none. due (IsRefusedBy device e (Missing words.dump)) (λ cut. inr cut)
         (λ way at required. lacking_due device e files clock words way at text sheet named has none required);
     no_archive = λ text sheet refusal named has there is. (
       due (IsRefusedBy device e refusal) (λ cut. inr cut) (λ way at required. absent_due device e files clock words way at text sheet refusal named has there is required),
       quiet_opening refusal is e.report.opened refl,
     );
+    refused = λ before text sheet refusal stands named has there is. due (IsRefusedBy device e refusal) (λ cut. inr cut)
+        (λ way at required. refused_due device e files clock words way at before text sheet refusal stands named has there is required);
     overlong = λ before ready long. due (((e.report.refusal ≡ Some (Limit DumpOctets dump_limit)) × (e.report.link ≡ Some words.link)) ⊎ WasInterrupted device e) (λ cut. inr cut)
         (λ way at required. long_dump_due device e files clock words way at before ready long required);
     complete = λ before moment r packets ready receives. elim (received_due before ready moment r packets [] receives) [
@@ -443,4 +439,5 @@ module _ {D : Type 0} (device : Device D) (e : Call D) (files : Files) (clock : 
       | inl told_of ↦ inl (told_of.1 place kind bad)
       | inr cut ↦ inr cut
     ];
+    only_broken = (only_told device e files clock words run).1;
   }

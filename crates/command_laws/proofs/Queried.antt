@@ -26,6 +26,7 @@ use Rattle.command_laws.specs.NamedFiles.{HasAsksSheet, IsUnreadFor}
 use Rattle.command_laws.specs.Query.{AreAsksAnswered}
 use Rattle.command_laws.proofs.Files.{one_asks_sheet, same_asks}
 use Rattle.command_laws.proofs.Left.{all_opened, all_unopened, not_asked}
+use Rattle.command_laws.proofs.OnlyUnread.{of_one, only_asked}
 use Rattle.command_laws.proofs.OverRows.{asks_over_rows}
 use Rattle.command_laws.proofs.Readings.{IsUnread, each_read, read_due, read_or_not, unread_due}
 use Rattle.command_laws.proofs.Runs.{IsEndOf, all_is_some, by_due, by_job, no_archive_due, no_archive_silent, no_memory, none_is_some, none_or_some, or_disk_failed, or_no_memory, or_unwritten, refused, succeeded}
@@ -207,6 +208,7 @@ module _ {D : Type 0} (device : Device D) (e : Call D) (files : Files) (clock : 
           (λ way required at. unread_due e files way at nothing_done SheetOctets (λ octets. asks_of octets) name 0 (behind_sheet device e files name run.transparent) refusal unread required),
       left.quiet refusal unread,
     );
+    only_unread = λ refusal said reading. of_one files SheetOctets name refusal (only_asked device e files name clock run refusal said reading);
     no_archive = λ sheet refusal has is. (
       by_due device e files clock (Query name) run (IsRefusedBy device e refusal) (λ cut. inr cut)
           (λ way required at. absent_due device e files name run.transparent way at sheet refusal has is required),

@@ -1,5 +1,5 @@
 -- The reading of known files: its ends, and what is due behind it.
-use Rattle.std.proofs.Common.{◌≡◌, ◌⊎◌, inl, inr, ℕ, ◌+◌, ◌<◌, List, [], ◌∷◌, length, Bool, true, false, Option, Some, None, refl, sym, subst, arith}
+use Rattle.std.proofs.Common.{◌≡◌, ◌⊎◌, inl, inr, ℕ, ◌+◌, ◌<◌, List, [], ◌∷◌, ◌++◌, length, Bool, true, false, Option, Some, None, refl, sym, subst, arith}
 use Rattle.std.specs.Prelude.{IsNone, IsSome, IsSomeAnd}
 use Rattle.std.specs.FinMap.{get}
 use Rattle.arch_disk.specs.Disk.{Device}
@@ -12,7 +12,8 @@ use Rattle.mdb_items.specs.declared.sheet.RawMdb.{RawMdb}
 use Rattle.mdb_sheets.specs.Plans.{giving_plan, second_sheet_plan, sheet_plan, sheets_plan, third_sheet_plan}
 use Rattle.mdb_sheets.specs.Sheets.{Fields, sheet_of}
 use Rattle.outer_traits.specs.Outside.{Files}
-use Rattle.command_plans.specs.Plan.{CommandPlan, EachEnd, Requires, Way, and_then, is_interruption, map_done}
+use Rattle.ask_answers.specs.Asks.{with_sources}
+use Rattle.command_plans.specs.Plan.{Choose, CommandPlan, EachEnd, May, Question, Requires, Return, Stop, Way, and_then, is_interruption, map_done}
 use Rattle.command_plans.specs.Inputs.{InputRead, IsInputAs, IsThereAs, OverLimit, WithinLimit, after_look, after_reading, input_plan}
 use Rattle.command_runs.specs.Command.{HasEffects, Progress, nothing_done}
 use Rattle.command_runs.specs.Report.{unopened}
@@ -84,6 +85,16 @@ pub behind_it : (files : Files) (which : Which) (name octets : List ℕ) (later 
 behind_it files which name octets later refusal has (inl unread) = inl (inr (octets, has, unread))
 behind_it files which name octets later refusal has (inr cut) = inr cut
 
+-- one of some files, or of those behind them, wasn't
+first_before : (files : Files) (named later : List (Which × List ℕ)) (refusal : Refusal) → IsFirstUnread files named refusal → IsFirstUnread files (named ++ later) refusal
+first_before files [] later refusal never = absurd never
+first_before files (file ∷ named) later refusal (inl unread) = inl unread
+first_before files (file ∷ named) later refusal (inr (octets, was, unread)) = inr (octets, was, first_before files named later refusal unread)
+
+pub among_all : (files : Files) (named later : List (Which × List ℕ)) (refusal : Refusal) → IsUnreadAmong files named refusal → IsUnreadAmong files (named ++ later) refusal
+among_all files named later refusal (inl unread) = inl (first_before files named later refusal unread)
+among_all files named later refusal (inr cut) = inr cut
+
 -- one that was read isn't one that wasn't
 pub read_or_not : (files : Files) (which : Which) (name octets : List ℕ) (refusal : Refusal) → HasFile files which name octets → IsUnreadFor files which name refusal → ⊥
 read_or_not files which name octets refusal has (inl none) = let never : IsNone (Some octets) = subst IsNone has.there none.0 in cc (never)
@@ -120,6 +131,14 @@ module _ {D : Type 0} (device : Device D) (e : Call D) (L : Type 0) (files : Fil
         ),
       )
       look false none = λ did. unread (Missing name) (record { report = did.report; silent = did.printed; disk = did.disk }) (inl (inl (none, refl)))
+
+  -- of a plan whose sources are counted behind others
+  pub each_behind : {X : Type 0} (n : ℕ) (p : CommandPlan Progress X) → EachEnd Leaves p → EachEnd Leaves (map_done (with_sources n) p)
+  each_behind n (Return x) d = tt
+  each_behind n (Stop s refusal) d = λ did. d (record { report = did.report; printed = did.printed; output = did.output; disk = did.disk })
+  each_behind n (May fault s p) d = (λ did. d.0 (record { report = did.report; printed = did.printed; output = did.output; disk = did.disk }), each_behind n p d.1)
+  each_behind n (Question is next) d = λ a h. each_behind n (next a) (d a h)
+  each_behind n (Choose is next) d = λ a h. each_behind n (next a) (d a h)
 
   -- of the readings of three sheets
   pub each_sheets : (a b c : List ℕ) (sources : ℕ) (next : RawMdb → CommandPlan Progress ⊥) → ((refusal : Refusal) → IsUnread e refusal → IsUnreadAmong files (sheet_files a b c) refusal → L)

@@ -31,7 +31,7 @@ use Rattle.command_runs.specs.ReadOnly.{IsOpenedThen, IsReadAsBefore, IsReadOnly
 use Rattle.command_runs.specs.Report.{read_only, unopened}
 use Rattle.command_runs.proofs.Openings.{plain_stands}
 use Rattle.archive_commands.specs.Recover.{archive_with_fills, late_plan, recover_line, recover_plan, recovering_plan}
-use Rattle.command_laws.specs.Calls.{Call, HasKeptRows, HasSameHistory, HeldArchive, IsRefusedBy, IsRun, IsUnopened, IsUntouched, LeavesSinceOpening, Prints, PrintsSome, Succeeded, WasInterrupted, effects}
+use Rattle.command_laws.specs.Calls.{Call, HasKeptRows, HasSameHistory, HeldArchive, IsRefusedBy, IsRun, IsUnopened, LeavesDisk, LeavesSinceOpening, Prints, PrintsSome, Succeeded, WasInterrupted, effects}
 use Rattle.command_laws.specs.HandedBack.{IsHandedBack, IsUpToDate}
 use Rattle.command_laws.specs.Recover.{IsRecovered}
 use Rattle.command_laws.proofs.Left.{is_unopened, kept_back, none_contained, not_asked, opened_once, read_back, since_opening, sound_moments, untouched}
@@ -66,10 +66,10 @@ record IsLeft {D : Type 0} (device : Device D) (e : Call D) : Type 0 where
   history : e.report.opened ≡ true → HasSameHistory device e (device.reads e.disk')
   filled : Succeeded e → HeldArchive device e (λ before. IsUpToDate device e before before.plain.history × Prints e (recover_line before))
   printed : (before : FilledArchive) → StandsFilled (device.reads e.disk) before → PrintsSome e (recover_line before)
-  moments : IsUntouched device e ⊎ LeavesSinceOpening device e (HasSameHistory device e)
+  moments : LeavesDisk device e ⊎ LeavesSinceOpening device e (HasSameHistory device e)
   since : e.report.opened ≡ true → LeavesSinceOpening device e (HasSameHistory device e)
   in_order : e.report.opened ≡ true → FailedAtMostOnce device e.disk e.disk' → HeldArchive device e (λ before. IsHandedBack device e before before.plain.history)
-  untouched : e.report.opened ≡ false → IsUntouched device e
+  untouched : e.report.opened ≡ false → LeavesDisk device e
   report : IsUnopened e ⊎ HasKeptRows device e
 
 module _ {D : Type 0} (device : Device D) (e : Call D) (known : IsTrue device.is_transparent) where

@@ -27,6 +27,7 @@ use Rattle.command_laws.specs.NamedFiles.{HasFile, IsUnreadFor}
 use Rattle.command_laws.specs.Sql.{AreStatementsAnswered, HasStatements}
 use Rattle.command_laws.proofs.Files.{one_file}
 use Rattle.command_laws.proofs.Left.{all_opened, all_unopened, not_asked}
+use Rattle.command_laws.proofs.OnlyUnread.{of_one, only_stated}
 use Rattle.command_laws.proofs.Readings.{IsUnread, each_read, read_due, read_or_not, unread_due}
 use Rattle.command_laws.proofs.Runs.{IsEndOf, all_is_some, by_due, by_job, no_archive_silent, none_is_some, none_or_some, opening_due, or_disk_failed, or_no_memory, or_unwritten, refused, succeeded}
 
@@ -203,6 +204,7 @@ module _ {D : Type 0} (device : Device D) (e : Call D) (files : Files) (clock : 
           (λ way required at. unread_due e files way at nothing_done ScriptOctets (λ octets. octets) name 0 (archive_text_plan device e.disk) refusal unread required),
       left.quiet refusal unread,
     );
+    only_unread = λ refusal said reading. of_one files ScriptOctets name refusal (only_stated device e files name clock run refusal said reading);
     no_archive = λ text refusal has is. (
       by_due device e files clock (Sql name) run (IsRefusedBy device e refusal) (λ cut. inr cut)
           (λ way required at. absent_due device e files name run.transparent way at text refusal has is required),

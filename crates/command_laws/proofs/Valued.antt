@@ -1,20 +1,19 @@
 -- The ends of the plan of `values`.
-use Rattle.std.proofs.Common.{◌≡◌, ◌⊎◌, ◌∙◌, inl, inr, ℤ, ℕ, ◌-◌, List, [], ◌∷◌, length, Option, Some, None, refl, sym, true, ap, subst}
+use Rattle.std.proofs.Common.{◌≡◌, ◌⊎◌, ◌∙◌, inl, inr, ℤ, ℕ, List, [], ◌∷◌, length, Option, Some, None, refl, sym, true, ap, subst}
 use Rattle.arch_disk.specs.Disk.{Device}
 use Rattle.arch_types.specs.Dump.{IsDump}
 use Rattle.arch_types.proofs.Dumps.{dump_is_one}
 use Rattle.asks.specs.Names.{parameter_number}
 use Rattle.mdb_items.specs.declared.fault.MdbLimit.{MdbLimit}
-use Rattle.mdb_items.specs.declared.fault.MdbLimit.TheVariants as limits
 use Rattle.mdb_items.specs.Database.{Broken, Database, limit_passed}
 use Rattle.mdb_items.specs.declared.sheet.RawMdb.{RawMdb}
 use Rattle.mdb_model.specs.Sheets.{sheets_database, sheets_fault}
 use Rattle.mdb_sheets.specs.Plans.{sheets_plan}
 use Rattle.refusals.specs.declared.refusal.BadKind.{BadKind}
 use Rattle.refusals.specs.declared.refusal.Refusal.{Refusal}
-use Rattle.refusals.specs.declared.refusal.Refusal.TheVariants.{BadPacket, DiskFault, Limit, Missing, OutOfMemory, ReadFault, UnknownParameter, WriteFault}
+use Rattle.refusals.specs.declared.refusal.Refusal.TheVariants.{BadPacket, OutOfMemory, UnknownParameter, WriteFault}
 use Rattle.refusals.specs.declared.refusal.Which.TheVariants.{DumpOctets, SheetOctets}
-use Rattle.retrieval.specs.Parameter.{broken_rule, first_refusal, limit_of_database, parameter_refusal, passed_limit}
+use Rattle.retrieval.specs.Parameter.{broken_rule, first_refusal, parameter_refusal, passed_limit}
 use Rattle.retrieval.specs.ValuesText.{cell_lines, cells_of, values_line, values_text}
 use Rattle.outer_traits.specs.Outside.{Files}
 use Rattle.command_plans.specs.Plan.{CommandPlan, EachEnd, Requires, Way, and_then, is_interruption, map_done}
@@ -22,15 +21,16 @@ use Rattle.command_plans.proofs.Plans.{end_of}
 use Rattle.command_words.specs.Job.{Values, ValuesWords}
 use Rattle.command_runs.specs.declared.report.Report.{Report}
 use Rattle.command_runs.specs.Command.{HasEffects, Progress, nothing_done, printing_then_plan}
-use Rattle.command_runs.specs.DumpRest.{IsBadRest, bad_kind_of, ending_of_rest}
+use Rattle.command_runs.specs.DumpRest.{IsBadRest, ending_of_rest}
 use Rattle.command_runs.specs.Moment.{IsMomentOf}
 use Rattle.command_runs.specs.Report.{unopened}
 use Rattle.dump_commands.specs.Scan.{dump_plan}
 use Rattle.dump_commands.specs.Values.{after_parameter_check, beside_sheets_plan, cells_plan, dump_behind_plan, values_plan, valuing_plan}
 use Rattle.command_laws.specs.Calls.{Call, IsRefusedBy, IsRun, Prints, PrintsSome, Succeeded, WasInterrupted, effects}
-use Rattle.command_laws.specs.NamedFiles.{HasSheets, IsFirstUnread}
-use Rattle.command_laws.specs.Values.{AreCellsPrinted, AreValued, HasParameter, HasValuesFiles, IsReadingRefusal, values_files}
+use Rattle.command_laws.specs.NamedFiles.{HasSheets, IsFirstUnread, IsReadingRefusal}
+use Rattle.command_laws.specs.Values.{AreCellsPrinted, AreValued, HasParameter, HasValuesFiles, values_files}
 use Rattle.command_laws.proofs.Dumps.{bad_due, silent_dump, some_dump, some_moment, text_by, whole_due, whole_dump}
+use Rattle.command_laws.proofs.FileRefusals.{TellsOfFiles, no_ending, no_interruption, no_limit, reading_tells}
 use Rattle.command_laws.proofs.Files.{one_file, one_raw}
 use Rattle.command_laws.proofs.Readings.{IsUnread, IsUnreadAmong, IsUnreadCause, each_read, each_sheets, no_bad_among, read_due, read_or_not, sheet_files, sheets_due, sheets_unread, unread_due}
 use Rattle.command_laws.proofs.Runs.{IsEndOf, by_due, by_job, or_no_memory, refused, same_refusal, told}
@@ -57,37 +57,20 @@ none_refused r refusal none some = let never : ◌≡◌ {A = Option Refusal} No
 
 -- ---- refusals that say that a file wasn't read
 
-no_interruption : (refusal : Refusal) → is_interruption refusal ≡ true → IsReadingRefusal refusal → ⊥
-no_interruption OutOfMemory cut reading = reading
-no_interruption ReadFault cut reading = reading
-no_interruption WriteFault cut reading = reading
-no_interruption DiskFault cut reading = reading
-no_interruption (Missing name) cut reading = cc (cut)
-no_interruption (Limit which number) cut reading = cc (cut)
-no_interruption other cut reading = reading
-
-no_limit : (limit : MdbLimit) (number : ℕ) → IsReadingRefusal (Limit (limit_of_database limit) number) → ⊥
-no_limit limits.Calibrations number reading = reading
-no_limit limits.CalibrationRows number reading = reading
-no_limit limits.Parameters number reading = reading
-no_limit limits.Containers number reading = reading
-no_limit limits.Entries number reading = reading
-
 -- none is that of sheets and a name that were read
-no_refusal : (broken : Option Broken) (passed : Option (MdbLimit × ℕ)) (number : Option ℕ) (refusal : Refusal) → first_refusal broken passed number ≡ Some refusal → IsReadingRefusal refusal → ⊥
-no_refusal (Some broken) passed number refusal is reading = let same : broken_rule broken ≡ refusal = cc (is) in subst IsReadingRefusal (sym same) reading
-no_refusal None (Some passed) number refusal is reading = let same : passed_limit passed ≡ refusal = cc (is) in no_limit passed.0 passed.1 (subst IsReadingRefusal (sym same) reading)
-no_refusal None None None refusal is reading = let same : UnknownParameter ≡ refusal = cc (is) in subst IsReadingRefusal (sym same) reading
-no_refusal None None (Some number) refusal is reading = absurd (cc (is))
+no_refusal : (broken : Option Broken) (passed : Option (MdbLimit × ℕ)) (number : Option ℕ) (refusal : Refusal) → first_refusal broken passed number ≡ Some refusal → TellsOfFiles refusal → ⊥
+no_refusal (Some broken) passed number refusal is tells = let same : broken_rule broken ≡ refusal = cc (is) in subst TellsOfFiles (sym same) tells
+no_refusal None (Some passed) number refusal is tells = let same : passed_limit passed ≡ refusal = cc (is) in no_limit passed.0 passed.1 (subst TellsOfFiles (sym same) tells)
+no_refusal None None None refusal is tells = let same : UnknownParameter ≡ refusal = cc (is) in subst TellsOfFiles (sym same) tells
+no_refusal None None (Some number) refusal is tells = absurd (cc (is))
 
 no_parameter : (raw : RawMdb) (name : List ℕ) (refusal : Refusal) → parameter_refusal raw name ≡ Some refusal → IsReadingRefusal refusal → ⊥
 unfolding parameter_refusal
-no_parameter raw name refusal is reading = no_refusal (sheets_fault raw) (limit_passed (sheets_database raw)) (parameter_number (sheets_database raw) name) refusal is reading
+no_parameter raw name refusal is reading =
+    no_refusal (sheets_fault raw) (limit_passed (sheets_database raw)) (parameter_number (sheets_database raw) name) refusal is (reading_tells refusal reading)
 
-no_ending : (dump rest : List ℕ) (refusal : Refusal) → ending_of_rest dump rest ≡ Some refusal → IsReadingRefusal refusal → ⊥
-no_ending dump [] refusal is reading = cc (is)
-no_ending dump (octet ∷ rest) refusal is reading =
-    let same : BadPacket (length dump - length (octet ∷ rest)) (bad_kind_of octet) ≡ refusal = cc (is) in subst IsReadingRefusal (sym same) reading
+no_cut : (refusal : Refusal) → is_interruption refusal ≡ true → IsReadingRefusal refusal → ⊥
+no_cut refusal cut reading = no_interruption refusal cut (reading_tells refusal reading)
 
 same_number : (o : Option ℕ) (p q : ℕ) → o ≡ Some p → o ≡ Some q → p ≡ q
 same_number o p q is other = let same : ◌≡◌ {A = Option ℕ} (Some p) (Some q) = sym is ∙ other in cc
@@ -110,7 +93,7 @@ module _ {D : Type 0} (device : Device D) (e : Call D) (files : Files) (clock : 
     quiet = λ refused first. unread.silent;
     only_unread = λ told is reading. elim cause [
       | inl first ↦ subst (IsFirstUnread files (values_files words)) (same_refusal e.report.refusal refusal told (refusal_is (Some refusal) unread.report) is) first
-      | inr cut ↦ absurd (no_interruption refusal cut (subst IsReadingRefusal (same_refusal e.report.refusal told refusal is (refusal_is (Some refusal) unread.report)) reading))
+      | inr cut ↦ absurd (no_cut refusal cut (subst IsReadingRefusal (same_refusal e.report.refusal told refusal is (refusal_is (Some refusal) unread.report)) reading))
     ];
     silent = λ raw refused dump has is. unread.silent;
   }
@@ -183,7 +166,7 @@ module _ {D : Type 0} (device : Device D) (e : Call D) (files : Files) (clock : 
       some_left refusal cut report printed = some_dump e lines last refusal cut (refusal_is (Some refusal) report) dump rest (subst (PrintsSome e) (text_is (sheets_database raw) q packets rest moment) printed)
 
       cut_apart : (refusal : Refusal) → is_interruption refusal ≡ true → (told : Refusal) → ◌≡◌ {A = Option Refusal} (Some refusal) (Some told) → IsReadingRefusal told → ⊥
-      cut_apart refusal cut told is reading = let same : refusal ≡ told = cc (is) in no_interruption refusal cut (subst IsReadingRefusal (sym same) reading)
+      cut_apart refusal cut told is reading = let same : refusal ≡ told = cc (is) in no_cut refusal cut (subst IsReadingRefusal (sym same) reading)
 
       cells_left : EachEnd Leaves (cells_plan raw q dump moment (packets, rest))
       cells_left = (

@@ -118,7 +118,7 @@ HasKeptRows device e =
 -- ---- what became of the disk
 
 -- it reads as before, and a crash at any moment of the call leaves what it could have left before
-pub record IsUntouched {D : Type 0} (device : Device D) (e : Call D) : Type 0 where
+pub record LeavesDisk {D : Type 0} (device : Device D) (e : Call D) : Type 0 where
   pub reads : device.reads e.disk' ≡ device.reads e.disk
   pub images : LeavesOnly device e.disk e.disk' (device.images e.disk)
 
@@ -133,6 +133,6 @@ pub record LeavesSinceOpening {D : Type 0} (device : Device D) (e : Call D) (P :
 -- All is left as it was: the disk as it reads, and what it stands for at each moment of the call.
 pub record LeavesAll {D : Type 0} (device : Device D) (e : Call D) : Type 0 where
   pub reads : device.reads e.disk' ≡ device.reads e.disk
-  pub unopened : e.report.opened ≡ false → IsUntouched device e
+  pub unopened : e.report.opened ≡ false → LeavesDisk device e
   pub opened : e.report.opened ≡ true → LeavesSinceOpening device e (IsSameArchive device e)
   pub report : IsUnopened e ⊎ HasKeptRows device e

@@ -1,5 +1,5 @@
 -- The clause of `create`.
-use Rattle.std.specs.Prelude.{◌≡◌, ◌⊎◌, ℕ, ℤ, List, [], ◌∷◌, false, Option, Result, Ok, Err}
+use Rattle.std.specs.Prelude.{◌≡◌, ◌⊎◌, ℕ, ℤ, List, [], ◌∷◌, false, Option, Some, Result, Ok, Err}
 use Rattle.arch_disk.specs.Image.{Image}
 use Rattle.arch_disk.specs.Disk.{Device, LeavesOnly}
 use Rattle.disk_journal.specs.Calls.{BeginsOpen}
@@ -19,8 +19,8 @@ use Rattle.command_runs.specs.Creation.{create_line}
 use Rattle.command_runs.specs.Durable.{FailedAtMostOnce}
 use Rattle.command_runs.specs.Report.{read_only}
 use Rattle.archive_commands.specs.Create.{IsHeadAnswer}
-use Rattle.command_laws.specs.Calls.{Call, IsRefusedBy, IsRun, IsUnopened, IsUntouched, Prints, PrintsSome, Succeeded, WasInterrupted}
-use Rattle.command_laws.specs.NamedFiles.{HasScript, HasSheets, IsFirstUnread, named_file}
+use Rattle.command_laws.specs.Calls.{Call, IsRefusedBy, IsRun, IsUnopened, LeavesDisk, Prints, PrintsSome, Succeeded, WasInterrupted}
+use Rattle.command_laws.specs.NamedFiles.{HasScript, HasSheets, IsFirstUnread, IsReadingRefusal, named_file}
 
 -- the files of a call, in the order in which they are read
 abbrev pub create_files : CreateWords → List (Which × List ℕ)
@@ -57,18 +57,20 @@ IsNoneOrHead files words image =
 -- and the refusal says so. Where every image of the disk handed in stands for nothing, every image of a moment during
 -- the call stands for nothing or for that head. Where none was made, and the disk failed at most once, a crash leaves
 -- none, or what it could have left before. The first of the sheets and the script that isn't there or is too long is
--- refused so, and so is what is wrong in them; those that give a head make its archive where there is none, but for
--- want of memory and calls that fail.
+-- refused so, and no other is; what is wrong in them is told; those that give a head make its archive where there is
+-- none, but for want of memory and calls that fail.
 pub record IsCreated {D : Type 0} (device : Device D) (e : Call D) (files : Files)
     (words : CreateWords) : Type 0 where
   pub made : Succeeded e → (head : Head) × GivesHead files words (Ok head) × IsMadeOf device e head
       × Prints e (create_line head)
   pub printed : (head : Head) → GivesHead files words (Ok head) → PrintsSome e (create_line head)
-  pub kept : BeginsOpen (device.reads e.disk 0) → IsUntouched device e
+  pub kept : BeginsOpen (device.reads e.disk 0) → LeavesDisk device e
   pub exists : (head : Head) → GivesHead files words (Ok head) → BeginsOpen (device.reads e.disk 0)
       → IsRefusedBy device e Exists × Prints e []
   pub unread : (refusal : Refusal) → IsFirstUnread files (create_files words) refusal
       → IsRefusedBy device e refusal × Prints e []
+  pub only_unread : (refusal : Refusal) → e.report.refusal ≡ Some refusal → IsReadingRefusal refusal
+      → IsFirstUnread files (create_files words) refusal
   pub refused : (refusal : Refusal) → GivesHead files words (Err refusal) → IsRefusedBy device e refusal × Prints e []
   pub images : ((image : Image) → device.images e.disk image → HoldsNone (image 0))
       → LeavesOnly device e.disk e.disk' (IsNoneOrHead files words)

@@ -1,5 +1,5 @@
 -- The clause of `load`, of a dump that comes by one link.
-use Rattle.std.specs.Prelude.{◌≡◌, ◌⊎◌, ◌<◌, ◌≤◌, ◌+◌, ◌-◌, ℕ, ℤ, All, Any, IsNone, IsSomeAnd, List, [], ◌++◌, length, true, false, Option, Some, None, Result, Ok, IsSome}
+use Rattle.std.specs.Prelude.{◌≡◌, ◌⊎◌, ◌<◌, ◌≤◌, ◌+◌, ◌-◌, ℕ, ℤ, All, Any, IsNone, IsSomeAnd, List, [], ◌∷◌, ◌++◌, length, true, false, Option, Some, None, Result, Ok, Err, IsSome}
 use Rattle.std.specs.FinMap.{get}
 use mathlib.Core.List.{IsPrefix, Sublist}
 use Rattle.arch_disk.specs.Image.{Image}
@@ -21,7 +21,7 @@ use Rattle.archive_history.specs.declared.row_limit.RowLimit.{RowLimit}
 use Rattle.history_items.specs.declared.items.Item.{Item}
 use Rattle.history_items.specs.Items.{after_rows, items_of, rows_in}
 use Rattle.history_items.specs.Outcomes.{fresh_of}
-use Rattle.archive_store.specs.Entries.{FilledArchive}
+use Rattle.archive_store.specs.Entries.{Archive, FilledArchive}
 use Rattle.archive_store.specs.LateFills.{late_in_archive}
 use Rattle.archive_store.specs.Limits.{limit_of_history}
 use Rattle.archive_store.specs.Stands.{IsSoundImage, StandsFilled, StandsFor}
@@ -36,11 +36,11 @@ use Rattle.command_runs.specs.Extension.{filled_at}
 use Rattle.command_runs.specs.Moment.{IsMomentOf}
 use Rattle.ask_answers.specs.Asks.{archive_asks_refusal, archive_asks_text}
 use Rattle.load_command.specs.LoadLine.{line_of_load}
-use Rattle.load_command.specs.Loading.{IsRouteAnswer}
-use Rattle.command_laws.specs.Answers.{asks_answers}
-use Rattle.command_laws.specs.Calls.{Call, IsNoArchive, IsRefusedBy, IsRun, IsSoundAtFirst, IsUnopened, IsUntouched, LeavesSinceOpening, Prints, PrintsSome, Succeeded, WasInterrupted}
+use Rattle.load_command.specs.Loading.{IsRouteAnswer, link_refusal}
+use Rattle.command_laws.specs.Answers.{asks_answers, sheet_refusal}
+use Rattle.command_laws.specs.Calls.{Call, HeldArchive, IsNoArchive, IsRefusedBy, IsRun, IsSoundAtFirst, IsUnopened, LeavesDisk, LeavesSinceOpening, Prints, PrintsSome, Succeeded, WasInterrupted}
 use Rattle.command_laws.specs.HandedBack.{IsHandedBack, IsUpToDate}
-use Rattle.command_laws.specs.NamedFiles.{HasAsksSheet, HasFile, IsFirstUnread, named_file}
+use Rattle.command_laws.specs.NamedFiles.{HasAsksSheet, HasFile, IsFirstUnread, IsReadingRefusal, named_file}
 use Rattle.command_runs.specs.Report.{loaded}
 
 -- ---- what is read
@@ -71,6 +71,10 @@ pub record IsReceived (files : Files) (moment : ℤ) (words : LoadWords) (before
 -- the files that are read first, in their order: the script of a route, and the sheet of asks, where they are named
 abbrev pub load_files : LoadWords → List (Which × List ℕ)
 load_files words = named_file ScriptOctets words.route ++ named_file SheetOctets words.asks
+
+-- these, and then the dump
+abbrev pub all_load_files : LoadWords → List (Which × List ℕ)
+all_load_files words = load_files words ++ (DumpOctets, words.dump) ∷ []
 
 -- ---- 1. what the history became
 
@@ -196,6 +200,7 @@ pub record IsBroken {D : Type 0} (device : Device D) (e : Call D) (files : Files
   pub after : e.report.after ≡ length reached
   pub grown : IsGrown files moment words before reached
   pub there : All (HasKeyIn reached) (rows_received r packets)
+  pub bad : IsBadRest received.dump rest at kind
   pub refusal : e.report.refusal ≡ Some (BadPacket at kind)
   pub link : e.report.link ≡ Some words.link
 
@@ -271,21 +276,36 @@ pub record IsAsked {D : Type 0} (device : Device D) (e : Call D) (files : Files)
   pub sheet : HasAsks files words.asks (Ok asks)
   pub answerable : archive_asks_refusal before.plain asks ≡ None
 
+-- why a load into an archive is refused before its dump is read: by its link, or else its route, or else its asks
+abbrev pub IsLoadRefusal : Archive → LoadWords → Option (List ℕ) → Result (List Ask) Refusal → Refusal → Type 0
+IsLoadRefusal archive words text sheet refusal =
+    (link_refusal words.link ≡ Some refusal)
+    ⊎ ((link_refusal words.link ≡ None) × (IsRouteAnswer archive text (Err refusal)
+    ⊎ ((route : List RouteStatement) × IsRouteAnswer archive text (Ok route)
+    × (sheet_refusal archive sheet ≡ Some refusal))))
+
 -- Where no archive was opened the disk is as it was, and nothing is printed. A file that isn't there is named, and one
--- that is too long told by its limit, a dump with its link; a disk with no archive or a damaged one is told of. Where
--- none of the words is refused a dump of packets alone has status 0, and one with a rest is told by it, but for want of
--- memory, calls that fail, and limits that the rows or the log pass.
+-- that is too long told by its limit, a dump with its link, and no other is; a disk with no archive or a damaged one is
+-- told of, and then the link, the route or the asks that are refused. Where none of them is a dump of packets alone has
+-- status 0, and one with a rest, and no other, is told by it, but for want of memory, calls that fail, and limits that
+-- the rows or the log pass.
 pub record IsLoadedOrNot {D : Type 0} (device : Device D) (e : Call D) (files : Files) (clock : Option ℤ)
     (words : LoadWords) : Type 0 where
   pub opened : e.report.opened ≡ true → IsLoaded device e files clock words
-  pub unopened : e.report.opened ≡ false → IsUntouched device e × IsUnopened e
+  pub unopened : e.report.opened ≡ false → LeavesDisk device e × IsUnopened e
   pub unread : (refusal : Refusal) → IsFirstUnread files (load_files words) refusal
       → IsRefusedBy device e refusal × Prints e []
+  pub only_unread : (refusal : Refusal) → e.report.refusal ≡ Some refusal → IsReadingRefusal refusal
+      → IsFirstUnread files (all_load_files words) refusal
   pub lacking : (text : Option (List ℕ)) (sheet : Result (List Ask) Refusal) → HasRouteText files words.route text
       → HasAsks files words.asks sheet → IsNone (get files words.dump) → IsRefusedBy device e (Missing words.dump)
   pub no_archive : (text : Option (List ℕ)) (sheet : Result (List Ask) Refusal) (refusal : Refusal)
       → HasRouteText files words.route text → HasAsks files words.asks sheet → IsSome (get files words.dump)
       → IsNoArchive device e refusal → IsRefusedBy device e refusal × Prints e []
+  pub refused : (before : FilledArchive) (text : Option (List ℕ)) (sheet : Result (List Ask) Refusal)
+      → (refusal : Refusal) → StandsFilled (device.reads e.disk) before → HasRouteText files words.route text
+      → HasAsks files words.asks sheet → IsSome (get files words.dump)
+      → IsLoadRefusal before.plain words text sheet refusal → IsRefusedBy device e refusal
   pub overlong : (before : FilledArchive) → IsAsked device e files words before
       → IsSomeAnd (get files words.dump) (λ dump. dump_limit < length dump)
       → ((e.report.refusal ≡ Some (Limit DumpOctets dump_limit)) × (e.report.link ≡ Some words.link))
@@ -297,6 +317,8 @@ pub record IsLoadedOrNot {D : Type 0} (device : Device D) (e : Call D) (files : 
       → (at : ℕ) (kind : BadKind) → IsAsked device e files words before
       → (received : IsReceived files moment words before r packets rest) → IsBadRest received.dump rest at kind
       → IsBroken device e files clock words before at kind ⊎ WasHindered device e files clock words before
+  pub only_broken : (at : ℕ) (kind : BadKind) → e.report.refusal ≡ Some (BadPacket at kind)
+      → HeldArchive device e (λ before. IsBroken device e files clock words before at kind)
 
 -- so it is of each call for this job
 abbrev pub LoadClause : {D : Type 0} → Device D → Type 0

@@ -9,7 +9,7 @@ use Rattle.outer_traits.specs.Outside.{Files}
 use Rattle.refusals.specs.declared.refusal.Refusal.{Refusal}
 use Rattle.refusals.specs.declared.refusal.Refusal.TheVariants.{Limit, Missing}
 use Rattle.refusals.specs.declared.refusal.Which.{Which}
-use Rattle.refusals.specs.declared.refusal.Which.TheVariants.{ScriptOctets, SheetOctets}
+use Rattle.refusals.specs.declared.refusal.Which.TheVariants.{DumpOctets, ScriptOctets, SheetOctets}
 use Rattle.refusals.specs.Limits.{limit_of}
 
 -- a file of this name is there, within its limit, with these octets
@@ -29,6 +29,14 @@ IsFirstUnread files [] refusal = ⊥
 IsFirstUnread files (file ∷ later) refusal =
     IsUnreadFor files file.0 file.1 refusal
     ⊎ ((octets : List ℕ) × HasFile files file.0 file.1 octets × IsFirstUnread files later refusal)
+
+-- a refusal says that a file isn't there, or is longer than it may be
+abbrev pub IsReadingRefusal : Refusal → Type 0
+IsReadingRefusal (Missing name) = Unit {0}
+IsReadingRefusal (Limit SheetOctets number) = Unit {0}
+IsReadingRefusal (Limit ScriptOctets number) = Unit {0}
+IsReadingRefusal (Limit DumpOctets number) = Unit {0}
+IsReadingRefusal other = ⊥
 
 -- the file of a name, where one is named
 abbrev pub named_file : Which → Option (List ℕ) → List (Which × List ℕ)

@@ -11,13 +11,13 @@ use Rattle.command_words.specs.Job.{Query}
 use Rattle.ask_answers.specs.Asks.{archive_asks_refusal, archive_asks_text}
 use Rattle.command_laws.specs.Answers.{asks_answers, sheet_refusal}
 use Rattle.command_laws.specs.Calls.{Call, HeldArchive, IsNoArchive, IsRefusedBy, IsRun, LeavesAll, Prints, PrintsSome, Succeeded, WasInterrupted}
-use Rattle.command_laws.specs.NamedFiles.{HasAsksSheet, IsUnreadFor}
+use Rattle.command_laws.specs.NamedFiles.{HasAsksSheet, IsReadingRefusal, IsUnreadFor}
 
 -- The history and the disk as it reads don't change. At status 0 each ask of the sheet is answered, in their order, by
 -- the fills and the rows of late intervals: over a sound image that is the answer over the whole history. What is
--- printed before a refusal is a prefix of that. A sheet that isn't there or is too long is refused so, then a disk with
--- no archive or a damaged one, and then what is no sheet, or has an ask that is refused; asks of which none is refused
--- are answered, but for want of memory and calls that fail.
+-- printed before a refusal is a prefix of that. A sheet that isn't there or is too long is refused so, and no other is;
+-- then a disk with no archive or a damaged one, and then what is no sheet, or has an ask that is refused; asks of which
+-- none is refused are answered, but for want of memory and calls that fail.
 pub record AreAsksAnswered {D : Type 0} (device : Device D) (e : Call D) (files : Files)
     (name : List ℕ) : Type 0 where
   pub left : LeavesAll device e
@@ -30,6 +30,8 @@ pub record AreAsksAnswered {D : Type 0} (device : Device D) (e : Call D) (files 
       → archive_asks_text filled 1 asks ≡ asks_answers filled.plain.head filled.plain.history 1 asks
   pub unread : (refusal : Refusal) → IsUnreadFor files SheetOctets name refusal
       → IsRefusedBy device e refusal × Prints e []
+  pub only_unread : (refusal : Refusal) → e.report.refusal ≡ Some refusal → IsReadingRefusal refusal
+      → IsUnreadFor files SheetOctets name refusal
   pub no_archive : (sheet : Result (List Ask) Refusal) (refusal : Refusal) → HasAsksSheet files name sheet
       → IsNoArchive device e refusal → IsRefusedBy device e refusal × Prints e []
   pub refused : (filled : FilledArchive) (sheet : Result (List Ask) Refusal) (refusal : Refusal)

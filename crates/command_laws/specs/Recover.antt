@@ -12,7 +12,7 @@ use Rattle.command_words.specs.Job.{Recover}
 use Rattle.archive_commands.specs.Recover.{recover_line}
 use Rattle.command_runs.specs.Durable.{FailedAtMostOnce}
 use Rattle.command_laws.specs.HandedBack.{IsHandedBack, IsUpToDate}
-use Rattle.command_laws.specs.Calls.{Call, HasKeptRows, HasSameHistory, HeldArchive, IsNoArchive, IsRefusedBy, IsRun, IsSoundAtFirst, IsUnopened, IsUntouched, LeavesSinceOpening, Prints, PrintsSome, Succeeded, WasInterrupted}
+use Rattle.command_laws.specs.Calls.{Call, HasKeptRows, HasSameHistory, HeldArchive, IsNoArchive, IsRefusedBy, IsRun, IsSoundAtFirst, IsUnopened, LeavesDisk, LeavesSinceOpening, Prints, PrintsSome, Succeeded, WasInterrupted}
 use Rattle.refusals.specs.declared.refusal.Refusal.{Refusal}
 
 -- It leaves the history: an archive that was opened is handed back with it, whatever came. At status 0 no interval is
@@ -32,7 +32,7 @@ pub record IsRecovered {D : Type 0} (device : Device D) (e : Call D) : Type 0 wh
   pub since : e.report.opened ≡ true → LeavesSinceOpening device e (HasSameHistory device e)
   pub in_order : e.report.opened ≡ true → FailedAtMostOnce device e.disk e.disk'
       → HeldArchive device e (λ before. IsHandedBack device e before before.plain.history)
-  pub untouched : e.report.opened ≡ false → IsUntouched device e
+  pub untouched : e.report.opened ≡ false → LeavesDisk device e
   pub no_archive : (refusal : Refusal) → IsNoArchive device e refusal → IsRefusedBy device e refusal × Prints e []
   pub complete : (before : FilledArchive) (bodies : List (List ℕ)) → StandsFilled (device.reads e.disk) before
       → HasRecords (device.reads e.disk 0) bodies

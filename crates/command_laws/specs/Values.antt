@@ -8,7 +8,7 @@ use Rattle.mdb_items.specs.declared.sheet.RawMdb.{RawMdb}
 use Rattle.mdb_model.specs.Sheets.{sheets_database}
 use Rattle.refusals.specs.declared.refusal.BadKind.{BadKind}
 use Rattle.refusals.specs.declared.refusal.Refusal.{Refusal}
-use Rattle.refusals.specs.declared.refusal.Refusal.TheVariants.{BadPacket, Limit, Missing}
+use Rattle.refusals.specs.declared.refusal.Refusal.TheVariants.{BadPacket}
 use Rattle.refusals.specs.declared.refusal.Which.{Which}
 use Rattle.refusals.specs.declared.refusal.Which.TheVariants.{DumpOctets, SheetOctets}
 use Rattle.retrieval.specs.Parameter.{parameter_refusal}
@@ -20,7 +20,7 @@ use Rattle.command_runs.specs.Moment.{IsMomentOf}
 use Rattle.command_runs.specs.Report.{unopened}
 use Rattle.command_laws.specs.Calls.{Call, IsRefusedBy, IsRun, Prints, Succeeded, WasInterrupted}
 use Rattle.command_laws.specs.Dumps.{IsDumpPrinted}
-use Rattle.command_laws.specs.NamedFiles.{HasFile, HasSheets, IsFirstUnread}
+use Rattle.command_laws.specs.NamedFiles.{HasFile, HasSheets, IsFirstUnread, IsReadingRefusal}
 
 -- what is printed of a dump of these packets and this rest, received at a moment: the lines of the cells of a parameter
 -- in the first packet of each key, in the order of the keys, and the line of how many they are
@@ -34,13 +34,6 @@ abbrev pub values_files : ValuesWords → List (Which × List ℕ)
 values_files words =
     (SheetOctets, words.parameters) ∷ (SheetOctets, words.calibrations) ∷ (SheetOctets, words.containers)
     ∷ (DumpOctets, words.dump) ∷ []
-
--- a refusal says that a file isn't there, or is longer than it may be
-abbrev pub IsReadingRefusal : Refusal → Type 0
-IsReadingRefusal (Missing name) = Unit {0}
-IsReadingRefusal (Limit SheetOctets number) = Unit {0}
-IsReadingRefusal (Limit DumpOctets number) = Unit {0}
-IsReadingRefusal other = ⊥
 
 -- the three sheets and the dump are there, within their limits
 pub record HasValuesFiles (files : Files) (words : ValuesWords) (raw : RawMdb) (dump : List ℕ) : Type 0 where
