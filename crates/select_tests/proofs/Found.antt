@@ -1,6 +1,6 @@
 -- The rows of a partition, found in a history and put in order.
 use Rattle.std.proofs.Common.{◌≡◌, ℕ, ℤ, List, [], ◌∷◌, ◌++◌, take, Bool, true, false, refl, sym, ap, ◌∙◌, subst, arith}
-use Rattle.std.specs.Prelude.{filter, IfSome}
+use Rattle.std.specs.Prelude.{filter, Contains, IfSome}
 use Rattle.std.specs.List.{AllByRecursion, list_any}
 use Rattle.std.specs.List.Sorted.{IsSortedBy, IsPermutation}
 use Rattle.std.proofs.lemmas.Bool.Decides.{nat_tests}
@@ -20,9 +20,10 @@ use Rattle.replay_merge.specs.RowSource.{AreRowSourceHistories, IsKeyedRow, IsRo
 use Rattle.replay_merge.proofs.Sorting.{ascending, same_sorted}
 use Rattle.replay_merge.proofs.Tied.{is_tied, AtMostOne, one_tied, one_after, ordered_one, first_rows}
 use Rattle.replay_merge.proofs.Reading.{all_both}
-use Rattle.replay_merge.proofs.Pieces.{all_first}
+use Rattle.replay_merge.proofs.Giving.{partition_given}
+use Rattle.replay_merge.proofs.Pieces.{all_among, all_first}
 use Rattle.replay_merge.proofs.Sources.{strictly}
-use Rattle.select_tests.specs.MemSource.{is_in_table_and_partition, known_rows, rows_at_fronts}
+use Rattle.select_tests.specs.MemSource.{is_in_table_and_partition, rows_at_fronts}
 use Rattle.text_forms.specs.ClockTime.{IsClockTime, is_clock_time}
 use Rattle.std.proofs.lemmas.Int.{ints}
 
@@ -73,6 +74,10 @@ module _ (table : ℕ) (partition : Partition) (rows found sorted : List Row) (h
     rising = strictly sorted (ascending rows_rank sorted in_order) (λ z. subst AtMostOne (sym (stable z)) (one z));
   }
 
+-- the rows of a partition of the first rows of some are of these
+pub are_its : (table : ℕ) (partition : Partition) (front : ℕ) (rows : List Row) → AllByRecursion (Contains rows) (rows_of_partition table partition (take front rows))
+are_its table partition front rows = partition_given (Contains rows) table partition (take front rows) (all_first (Contains rows) front rows (all_among rows))
+
 -- ---- a row more
 
 pub added : (rows : List Row) (row : Row) → IsRowSourceHistory rows → IsKeyedRow row → list_any (is_duplicate_of row) rows ≡ false → IsRowSourceHistory (rows ++ row ∷ [])
@@ -84,7 +89,7 @@ added rows row history keyed none = record {
 pub first_known : (n : ℕ) (rows : List Row) → IsRowSourceHistory rows → IsRowSourceHistory (take n rows)
 first_known n rows history = record { once = first_rows n rows history.once; each = all_first IsKeyedRow n rows history.each }
 
-pub known_sound : (is_known : Bool) (rows : List Row) → IsRowSourceHistory rows → IfSome (rows_at_fronts (known_rows is_known rows)) AreRowSourceHistories
+pub known_sound : (is_known : Bool) (rows : List Row) → IsRowSourceHistory rows → IfSome (rows_at_fronts is_known rows) AreRowSourceHistories
 known_sound true rows history = λ front. first_known front rows history
 known_sound false rows history = tt
 

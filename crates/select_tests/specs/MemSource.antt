@@ -1,24 +1,25 @@
 -- A source in memory.
-use Rattle.std.specs.Prelude.{List, take, Option, Some, None, Bool, true, false, ◌&&◌, ℕ}
+use Rattle.std.specs.Prelude.{List, take, Contains, Option, Some, None, Bool, true, false, ◌&&◌, ℕ}
 use Rattle.arch_types.specs.declared.row.Row.{Row}
 use Rattle.arch_types.specs.History.{is_in_table}
 use Rattle.partitions.specs.declared.partition.Partition.{Partition}
 use Rattle.partitions.specs.Rows.{is_of_partition}
 use Rattle.replay_merge.specs.RowSource.{RowSourceState}
 
--- the rows, where they are known
-abbrev pub known_rows : Bool → List Row → Option (List Row)
-known_rows true rows = Some rows
-known_rows false rows = None
+-- what contracts see of a source: its rows, whether it tells them, and how often it has failed
+pub record MemSourceView : Type 0 where
+  pub rows : List Row
+  pub is_known : Bool
+  pub faults : ℕ
 
--- of known rows those below each front
-abbrev pub rows_at_fronts : Option (List Row) → Option (ℕ → List Row)
-rows_at_fronts None = None
-rows_at_fronts (Some rows) = Some (λ front. take front rows)
+-- the rows below each front, where they are told
+abbrev pub rows_at_fronts : Bool → List Row → Option (ℕ → List Row)
+rows_at_fronts true rows = Some (λ front. take front rows)
+rows_at_fronts false rows = None
 
--- what a source with such rows, and so many faults, tells
-abbrev pub source_state : (Option (List Row) × ℕ) → RowSourceState
-source_state s = record { history = rows_at_fronts s.0; faults = s.1 }
+-- it gives its own rows alone, also where it tells none
+abbrev pub mem_source_state : MemSourceView → RowSourceState
+mem_source_state s = record { history = rows_at_fronts s.is_known s.rows; may_give = Contains s.rows; faults = s.faults }
 
 -- whether a row is of a table and a partition
 abbrev pub is_in_table_and_partition : ℕ → Partition → Row → Bool

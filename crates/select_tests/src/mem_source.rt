@@ -7,7 +7,7 @@ ghost use Rattle.arch_types.specs.Packet.{IsPacket};
 ghost use Rattle.arch_types.specs.History.{is_duplicate_of};
 ghost use Rattle.replay_merge.specs.RowSource.{AreRowSourceHistories, IsKeyedRow, IsRowSourceHistory, AreRowsOf, IsRowFault, UsedRowSource, rows_of_partition};
 ghost use Rattle.text_forms.specs.ClockTime.{is_clock_time};
-ghost use Rattle.select_tests.specs.MemSource.{is_in_table_and_partition, known_rows, source_state};
+ghost use Rattle.select_tests.specs.MemSource.{is_in_table_and_partition, mem_source_state};
 
 use arch_types::octets::Octets;
 use arch_types::row::{Row, Rows};
@@ -32,14 +32,12 @@ pub(crate) struct MemSource {
 }
 
 impl Model for MemSource {
-    ghost use Rattle.std.specs.Prelude.{List, Option, ℕ};
-    ghost use Rattle.arch_types.specs.declared.row.Row.{Row};
     ghost use Rattle.replay_merge.specs.RowSource.{IsRowSourceHistory};
-    ghost use Rattle.select_tests.specs.MemSource.{known_rows};
+    ghost use Rattle.select_tests.specs.MemSource.{MemSourceView};
 
-    ghost Value = { Option (List Row) × ℕ };
+    ghost Value = { MemSourceView };
 
-    ghost view = { λ s. (known_rows s.is_known s.history.items, s.faults) };
+    ghost view = { λ s. record { rows = s.history.items; is_known = s.is_known; faults = s.faults } };
 
     ghost invariant = { λ s. IsRowSourceHistory s.history.items };
 }
@@ -47,7 +45,7 @@ impl Model for MemSource {
 impl MemSource {
     /// No row.
     pub(crate) fn new(alloc: Global, is_known: bool) -> Self
-        ensures { result ≡ (known_rows is_known [], 0) }
+        ensures { result ≡ record { rows = []; is_known = is_known; faults = 0 } }
     {
         MemSource {
             history: Vec::new(alloc),
@@ -92,9 +90,9 @@ impl MemSource {
     /// Refuses the call that is to fail.
     #[tactic(auto, using(crate::proofs::Found::known_sound))]
     fn fail_in_turn(&mut self) -> Result<(), RowFault>
-        ensures history { IfSome (source_state self.old).history AreRowSourceHistories }
-        ensures refused { IfErr result (IsRowFault (source_state self.old) (source_state self.new)) }
-        ensures source { UsedRowSource (source_state self.old) (source_state self.new) }
+        ensures history { IfSome (mem_source_state self.old).history AreRowSourceHistories }
+        ensures refused { IfErr result (IsRowFault (mem_source_state self.old) (mem_source_state self.new)) }
+        ensures source { UsedRowSource (mem_source_state self.old) (mem_source_state self.new) }
     {
         match self.calls {
             Some(0) => {
@@ -115,9 +113,9 @@ impl MemSource {
 }
 
 impl RowSource for MemSource {
-    ghost use Rattle.select_tests.specs.MemSource.{source_state};
+    ghost use Rattle.select_tests.specs.MemSource.{mem_source_state};
 
-    ghost state = { λ s. source_state s };
+    ghost state = { λ s. mem_source_state s };
 
     fn rows(
         &mut self,
