@@ -1,0 +1,130 @@
+//! Jobs that are made, run beside each other, and joined.
+
+ghost use Rattle.std.specs.Prelude.{◌≡◌, ◌≤◌, ◌+◌, ◌^◌, ◌++◌, [], length, map, vec_len, vec_capacity, IfOk, IfErr};
+ghost use Rattle.std.specs.List.{AllByRecursion};
+ghost use Rattle.turn_cell.specs.Pass.{IsFree};
+ghost use Rattle.turn_passes.specs.Passes.{AreSplitOff};
+ghost use Rattle.live_session.specs.Jobs.{IsFit, IsNumbered, MayDo, given};
+ghost use Rattle.live_session.specs.Session.{HaveRun};
+
+use crate::job::{SessionJob, SessionJobDone};
+use crate::order::{JobEnd, Order, Setting};
+use arch_disk::Disk;
+use jobs::run_all;
+use live_archive::{Live, LivePass};
+use outer_traits::gate::Gate;
+use outer_traits::source::Source;
+use std::alloc::Global;
+use std::sync::Wait;
+use std::thread::Threads;
+use turn_passes::join_all;
+
+/// Runs jobs by these orders over a live archive, beside each other, with passes that are split off one and joined to
+/// it at their ends. Where there's no memory for them the orders are given back, and no job was run.
+pub(crate) fn run_jobs<
+    'a,
+    D: Disk + Send,
+    S: Source + Send + Drop,
+    G: Gate + Sync,
+    R: Threads + Wait + Sync,
+>(
+    rt: &R,
+    alloc: Global,
+    live: &'a Live<D>,
+    pass: &mut LivePass<D>,
+    setting: &'a Setting<'a, G>,
+    orders: Vec<Order<S>>,
+) -> Result<Vec<JobEnd<S>>, Vec<Order<S>>>
+    requires free { IsFree live.now.cell pass.old }
+    requires share { 2 ^ vec_len orders ≤ pass.old.share }
+    requires seen { pass.old.history.seen ≡ live.now.cell.first.store.history }
+    requires fit { IsFit live.now.cell.first.store (given setting.now.head.now setting.now.graph.now
+        setting.now.moment setting.now.asks.now) }
+    requires numbered { AllByRecursion IsNumbered orders.items }
+    ensures free { IsFree live.now.cell pass.new }
+    ensures ran { IfOk result (λ ends. HaveRun D.device S.state live.now.cell.first.store (given setting.now.head.now
+        setting.now.graph.now setting.now.moment setting.now.asks.now) pass.old pass.new orders.items ends.items) }
+    ensures back { IfErr result (λ back. (back.items ≡ orders.items) × (pass.new ≡ pass.old)) }
+{
+    let count = orders.len();
+    let Ok(mut jobs) = Vec::with_capacity(alloc, count) else {
+        return Err(orders);
+    };
+    let Ok(done) = Vec::with_capacity(alloc, count) else {
+        return Err(orders);
+    };
+    let Ok(mut passes) = Vec::with_capacity(alloc, count) else {
+        return Err(orders);
+    };
+    let Ok(mut ends) = Vec::with_capacity(alloc, count) else {
+        return Err(orders);
+    };
+    make_jobs(alloc, live, pass, setting, orders, &mut jobs);
+    let done = run_all(rt, jobs, done);
+    take_apart(done, &mut passes, &mut ends);
+    join_all(&live.cell, pass, passes);
+    Ok(ends)
+}
+
+/// Makes the jobs, each with a pass that is split off. There's room for them, and the share lasts.
+fn make_jobs<'a, D: Disk, S: Drop, G>(
+    alloc: Global,
+    live: &'a Live<D>,
+    pass: &mut LivePass<D>,
+    setting: &'a Setting<'a, G>,
+    orders: Vec<Order<S>>,
+    jobs: &mut Vec<SessionJob<'a, Live<D>, LivePass<D>, S, G>>,
+)
+    requires free { IsFree live.now.cell pass.old }
+    requires none { jobs.old.items ≡ [] }
+    requires room { vec_len jobs.old + vec_len orders ≤ vec_capacity jobs.old }
+    requires share { 2 ^ vec_len orders ≤ pass.old.share }
+    requires seen { pass.old.history.seen ≡ live.now.cell.first.store.history }
+    requires fit { IsFit live.now.cell.first.store (given setting.now.head.now setting.now.graph.now
+        setting.now.moment setting.now.asks.now) }
+    requires numbered { AllByRecursion IsNumbered orders.items }
+    ensures free { IsFree live.now.cell pass.new }
+
+    // They are by the orders, in this setting, and may be run.
+    ensures orders { map (λ job. job.order) jobs.new.items ≡ orders.items }
+    ensures here { AllByRecursion (λ job. (job.live.now.cell ≡ live.now.cell)
+        × (given job.setting.now.head.now job.setting.now.graph.now job.setting.now.moment job.setting.now.asks.now
+        ≡ given setting.now.head.now setting.now.graph.now setting.now.moment setting.now.asks.now)) jobs.new.items }
+    ensures may { AllByRecursion (λ job. IsFree job.live.now.cell job.pass × MayDo job.live.now.cell.first.store
+        (given job.setting.now.head.now job.setting.now.graph.now job.setting.now.moment job.setting.now.asks.now)
+        job.pass job.order) jobs.new.items }
+    ensures split { AreSplitOff pass.old pass.new [] (map (λ job. job.pass) jobs.new.items) (length jobs.new.items) }
+    ensures room { (vec_len jobs.new ≡ vec_len orders) × (vec_capacity jobs.new ≡ vec_capacity jobs.old) }
+{
+    let mut number: u32 = 0;
+    for order in orders {
+        number = number.saturating_add(1);
+        let own = live.split(pass);
+        jobs.push_reserved(SessionJob {
+            alloc,
+            live,
+            pass: own,
+            setting,
+            order,
+            number,
+        });
+    }
+}
+
+/// The passes and the ends of jobs that have ended, in their order. There's room for them.
+fn take_apart<P: Drop, S: Drop>(
+    done: Vec<SessionJobDone<P, S>>,
+    passes: &mut Vec<P>,
+    ends: &mut Vec<JobEnd<S>>,
+)
+    requires room { (vec_len passes.old + vec_len done ≤ vec_capacity passes.old)
+        × (vec_len ends.old + vec_len done ≤ vec_capacity ends.old) }
+    ensures passes { passes.new.items ≡ passes.old.items ++ map (λ one. one.pass) done.items }
+    ensures ends { ends.new.items ≡ ends.old.items ++ map (λ one. one.end) done.items }
+{
+    for one in done {
+        let SessionJobDone { pass, end } = one;
+        passes.push_reserved(pass);
+        ends.push_reserved(end);
+    }
+}

@@ -1,0 +1,96 @@
+//! A session over a store.
+
+ghost use Rattle.std.specs.Prelude.{◌≡◌, ◌≤◌, ◌^◌, vec_len, IfOk, IfErr};
+ghost use Rattle.std.specs.List.{AllByRecursion};
+ghost use Rattle.turn_cell.specs.Lists.{first_seen};
+ghost use Rattle.turn_cell.specs.Pass.{IsFree};
+ghost use Rattle.live_session.specs.Jobs.{IsFit, IsNumbered, given};
+ghost use Rattle.live_session.specs.Session.{IsSessionOver, NothingCame};
+
+use crate::order::{JobEnd, Order, Setting};
+use crate::running::run_jobs;
+use arch_disk::Disk;
+use archive_store::Store;
+use live_archive::{Live, LiveOver, LivePass};
+use outer_traits::gate::Gate;
+use outer_traits::source::Source;
+use std::alloc::Global;
+use std::sync::Wait;
+use std::thread::Threads;
+
+/// What a session leaves: the store, and what came of each job.
+pub struct SessionEnd<D: Disk, S> {
+    pub store: Store<D>,
+    pub ends: Vec<JobEnd<S>>,
+}
+
+/// A session for whose jobs there was no memory, with all that it was given.
+pub struct NotBegun<D: Disk, S> {
+    pub store: Store<D>,
+    pub orders: Vec<Order<S>>,
+}
+
+/// Runs jobs by these orders over a store, beside each other, each on a thread of its own where one can be made, and
+/// gives the store back once all have ended. Their results come back in the orders' order. A write that failed stays
+/// pending.
+pub fn run_session<
+    D: Disk + Send,
+    S: Source + Send + Drop,
+    G: Gate + Sync,
+    R: Threads + Wait + Sync,
+>(
+    rt: &R,
+    alloc: Global,
+    store: Store<D>,
+    setting: &Setting<'_, G>,
+    orders: Vec<Order<S>>,
+) -> Result<SessionEnd<D, S>, NotBegun<D, S>>
+    requires few { vec_len orders ≤ 63 }
+    requires fit { IsFit store (given setting.now.head.now setting.now.graph.now setting.now.moment
+        setting.now.asks.now) }
+    requires numbered { AllByRecursion IsNumbered orders.items }
+
+    // What came of each job, and of the archive.
+    ensures over { IfOk result (λ end. IsSessionOver D.device S.state store end.store (given setting.now.head.now
+        setting.now.graph.now setting.now.moment setting.now.asks.now) orders.items end.ends.items) }
+
+    // No memory for the jobs: none was run, nothing came to the archive, and all is given back.
+    ensures not_begun { IfErr result (λ back. (back.orders.items ≡ orders.items)
+        × NothingCame D.device store back.store) }
+{
+    match LiveOver::new(alloc, store) {
+        Ok((live, pass)) => run_over(rt, alloc, live, pass, setting, orders),
+        Err((store, _)) => Err(NotBegun { store, orders }),
+    }
+}
+
+/// Runs the jobs over a live archive by the pass that has the whole share, and closes it.
+fn run_over<D: Disk + Send, S: Source + Send + Drop, G: Gate + Sync, R: Threads + Wait + Sync>(
+    rt: &R,
+    alloc: Global,
+    live: Live<D>,
+    mut pass: LivePass<D>,
+    setting: &Setting<'_, G>,
+    orders: Vec<Order<S>>,
+) -> Result<SessionEnd<D, S>, NotBegun<D, S>>
+    requires free { IsFree live.cell pass }
+    requires whole { pass.share ≡ 2 ^ 63 }
+    requires lists { (pass.history ≡ first_seen live.cell.first.store.history)
+        × (pass.fills ≡ first_seen live.cell.first.store.fills) }
+    requires few { vec_len orders ≤ 63 }
+    requires fit { IsFit live.cell.first.store (given setting.now.head.now setting.now.graph.now setting.now.moment
+        setting.now.asks.now) }
+    requires numbered { AllByRecursion IsNumbered orders.items }
+    ensures over { IfOk result (λ end. IsSessionOver D.device S.state live.cell.first.store end.store
+        (given setting.now.head.now setting.now.graph.now setting.now.moment setting.now.asks.now) orders.items
+        end.ends.items) }
+    ensures not_begun { IfErr result (λ back. (back.orders.items ≡ orders.items)
+        × NothingCame D.device live.cell.first.store back.store) }
+{
+    let result = run_jobs(rt, alloc, &live, &mut pass, setting, orders);
+    let store = live.close(pass);
+    match result {
+        Ok(ends) => Ok(SessionEnd { store, ends }),
+        Err(orders) => Err(NotBegun { store, orders }),
+    }
+}
