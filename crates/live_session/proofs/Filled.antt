@@ -1,5 +1,5 @@
 -- The fills that came in a session.
-use Rattle.std.proofs.Common.{◌≡◌, ◌⊎◌, inl, inr, ℕ, zero, suc, ◌<◌, ◌≤◌, List, [], ◌∷◌, ◌++◌, length, take, true, Contains, Option, Some, None, refl, sym, ap, ◌∙◌, subst, arith}
+use Rattle.std.proofs.Common.{◌≡◌, ◌⊎◌, inl, inr, ℕ, zero, suc, ◌<◌, List, [], ◌∷◌, ◌++◌, length, take, true, Contains, Option, Some, None, sym, ap, ◌∙◌, subst, arith}
 use Rattle.std.specs.Prelude.{slice_get}
 use Rattle.std.specs.List.{AllByRecursion}
 use mathlib.Core.List.{IsPrefix}
@@ -19,7 +19,6 @@ use Rattle.archive_store.specs.StoreView.{StoreView}
 use Rattle.live_archive.specs.declared.held.HeldStore.{HeldStore}
 use Rattle.live_archive.proofs.Going.{goes_settled, prefix_trans}
 use Rattle.live_fills.specs.Filler.{IsFillNote}
-use Rattle.live_fills.specs.Laws.{WereLate}
 use Rattle.live_fills.specs.LiveTarget.{WasLate}
 use Rattle.live_fills.proofs.Late.{settling_adds_none}
 use Rattle.live_fills.proofs.Notes.{note_stays}
@@ -34,7 +33,7 @@ use Rattle.live_session.specs.declared.order.Order.{Order}
 use Rattle.live_session.specs.declared.order.Order.TheVariants as Ordered
 use Rattle.live_session.specs.Jobs.{CameOf, EachCame, Given, JobPass, received_by}
 use Rattle.live_session.specs.Laws.{FillsWereLate, IsBatchFault, RowsNotedAreOfBatches}
-use Rattle.live_session.specs.Session.{BeganWith, EndedWithin, IsSessionOver}
+use Rattle.live_session.specs.Session.{BeganWith, EndedWithin}
 use Rattle.live_session.proofs.Works.{none_there}
 
 -- an item that stands in a list stands in each that goes on from it

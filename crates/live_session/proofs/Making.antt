@@ -1,11 +1,11 @@
 -- A job more that is made.
-use Rattle.std.proofs.Common.{◌≡◌, ℕ, zero, suc, ◌+◌, ◌-◌, ◌≤◌, ◌^◌, List, [], ◌∷◌, ◌++◌, length, map, refl, sym, ap, ◌∙◌, subst, arith, le_refl, pow-suc}
+use Rattle.std.proofs.Common.{◌≡◌, ℕ, zero, suc, ◌+◌, ◌-◌, ◌≤◌, ◌^◌, List, [], ◌∷◌, ◌++◌, length, map, sym, ap, ◌∙◌, subst, arith, le_refl, pow-suc}
 use Rattle.turn_cell.specs.declared.view.SeenList.{SeenList}
 use Rattle.history_items.specs.declared.fills.Fill.{Fill}
 use Rattle.history_items.specs.declared.items.Item.{Item}
 use Rattle.turn_cell.specs.Pass.{PassView, given_half, kept_half}
 use Rattle.turn_passes.specs.Passes.{AreSplitOff}
-use Rattle.turn_passes.proofs.Joining.{halved, split_more, split_none}
+use Rattle.turn_passes.proofs.Joining.{split_more, split_none}
 use Rattle.live_session.proofs.Lists.{pushed_length, pushed_map}
 
 module _ {T J : Type 0} (pass_of : J → PassView Item Fill T) where

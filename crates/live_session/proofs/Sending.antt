@@ -28,7 +28,7 @@ pub answer_send : IsSend AskAnswer.the_row
 answer_send = search (crosses, sendable) depth 60 fits 10000
 
 pub head_sync : IsSync Head.the_row
-head_sync = search (crosses, mdb_send, mdb_sync, sendable) depth 60
+head_sync = search (crosses, mdb_sync, sendable) depth 60
 
 pub graph_sync : IsSync Graph.the_row
 graph_sync = search (crosses, sendable) depth 60 fits 10000

@@ -1,7 +1,6 @@
 -- What the links of a session put.
-use Rattle.std.proofs.Common.{◌≡◌, ℕ, zero, suc, ◌<◌, ◌≤◌, List, [], ◌∷◌, length, Contains, refl, sym, ap, ◌∙◌, subst, arith}
+use Rattle.std.proofs.Common.{◌≡◌, ℕ, zero, suc, List, [], ◌∷◌, length, Contains, refl, sym, ap, ◌∙◌, subst, arith}
 use Rattle.std.specs.List.{AllByRecursion}
-use mathlib.Core.List.{IsPrefix}
 use Rattle.arch_disk.specs.Disk.{Device}
 use Rattle.outer_traits.specs.States.{SourceState}
 use Rattle.history_items.specs.declared.fills.Fill.{Fill}

@@ -35,6 +35,7 @@ pub record Given : Type 0 where
   pub moment : ℤ
   pub asks : List FoundAsk
 
+-- a session is given this head, this route, this moment and these asks
 abbrev pub given : Head → List RouteStatement → ℤ → List FoundAsk → Given
 given head route moment asks = record { head = head; route = route; moment = moment; asks = asks }
 

@@ -1,5 +1,5 @@
 -- What a session comes to, said of the whole history.
-use Rattle.std.specs.Prelude.{◌≡◌, ◌≢◌, ◌⊎◌, ◌==◌, ℕ, ◌≤◌, List, [], ◌∷◌, length, take, drop, filter, slice_get, Option, Some, IfSome, Contains, true}
+use Rattle.std.specs.Prelude.{◌≡◌, ◌⊎◌, ◌==◌, ℕ, ◌≤◌, List, [], ◌∷◌, length, take, drop, filter, slice_get, Option, Some, IfSome, Contains, true}
 use Rattle.std.specs.List.{AllByRecursion}
 use mathlib.Core.List.{IsPrefix}
 use Rattle.arch_disk.specs.Disk.{Device}

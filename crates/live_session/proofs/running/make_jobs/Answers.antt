@@ -1,7 +1,6 @@
-use Rattle.std.proofs.Common.{◌≡◌, ◌∙◌, ◌+◌, ◌-◌, ◌/◌, ◌≤◌, ◌^◌, ℕ, suc, List, [], ◌∷◌, length, vec_len, vec_capacity, refl, sym, ap, subst, arith}
+use Rattle.std.proofs.Common.{◌≡◌, ◌∙◌, ◌≤◌, ◌^◌, ℕ, ◌∷◌, length, vec_len, refl, sym, ap, subst, arith}
 use Rattle.std.specs.List.{AllByRecursion}
 use Rattle.turn_passes.proofs.Joining.{all_push, halved}
-use Rattle.live_session.specs.declared.order.Order.{Order}
 use Rattle.live_session.specs.Jobs.{IsNumbered, given}
 use Rattle.live_session.proofs.Coming.{may_do}
 use Rattle.live_session.proofs.Lists.{all_made, all_none, left_more, no_items, none_left}

@@ -1,13 +1,7 @@
-use Rattle.std.proofs.Common.{◌≡◌, ◌∙◌, List, [], ◌++◌, map, sym, ap, subst}
+use Rattle.std.proofs.Common.{◌≡◌, ◌∙◌, [], ◌++◌, map, sym, ap, subst}
 use Rattle.std.specs.List.{AllByRecursion}
-use denote.Param.Send.{sendable}
-use Rattle.std.proofs.Crossing.{crosses}
-use Rattle.turn_cell.proofs.cell.Pass.TheSendSync as pass
 use Rattle.turn_cell.specs.Pass.{IsFree}
 use Rattle.turn_passes.specs.Passes.{Joins}
-use Rattle.archive_store.proofs.Sending.{mdb_send, mdb_sync}
-use Rattle.live_archive.proofs.live.LiveOver.TheSendSync as live
-use Rattle.live_archive.proofs.Sending.{held_send}
 use Rattle.live_session.specs.Jobs.{CameOf, given}
 use Rattle.live_session.specs.Session.{HaveRun}
 use Rattle.live_session.proofs.Coming.{all_ends, each_of_ends, have_run}

@@ -1,4 +1,4 @@
-use Rattle.std.proofs.Common.{◌≡◌, ◌∙◌, ◌+◌, ◌≤◌, List, [], ◌∷◌, length, vec_len, vec_capacity, refl, sym, ap, arith}
+use Rattle.std.proofs.Common.{◌≡◌, ◌∷◌, length, refl, ap, arith}
 use Rattle.live_session.proofs.Lists.{no_items, taken_all, taken_more, taken_none}
 use Rattle.live_session.proofs.running.take_apart.Goals as goal
 
