@@ -36,7 +36,7 @@ pub fn first_packet(octets: &[u8]) -> Result<usize, Why>
 }
 
 /// What octets are, where they begin with no packet.
-fn why_none(octets: &[u8]) -> Why
+pub(crate) fn why_none(octets: &[u8]) -> Why
     ensures { result ≡ why_of octets.now }
 {
     if octets.is_empty() {
