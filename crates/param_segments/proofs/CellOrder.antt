@@ -87,14 +87,21 @@ own_key q t c e = at (raw_among q t.values) e
     at None h = absurd cc
     at (Some v) h = let same : raw_cell t.key v ≡ c = cc in ap (λ (x : RawCell). x.key) (sym same)
 
--- the cells of a parameter, group by group, put in the order of their keys are its cells in the rows
-pub cells_in_order : (ts : List SetRow) (q : ℕ) → AreSetRows ts → order_by is_cell_earlier (flat_map (λ g. filter_map (raw_cell_of q) (filter (is_of_group g) ts)) (groups_of ts)) ≡ filter_map (raw_cell_of q) ts
-cells_in_order ts q are =
+-- cells that rows have at their own keys, group by group, put in the order of these are those of all rows
+pub cells_in_order_by : (f : SetRow → Option RawCell) (ts : List SetRow) → Keeps f → AreSetRows ts → order_by is_cell_earlier (flat_map (λ g. filter_map f (filter (is_of_group g) ts)) (groups_of ts)) ≡ filter_map f ts
+cells_in_order_by f ts keeps are =
     let gs = groups_of ts in
-    ap (λ (acc : List RawCell). fold (place_by is_cell_earlier) acc (flat_map (λ g. filter_map (raw_cell_of q) (filter (is_of_group g) ts)) gs)) (ap (filter_map (raw_cell_of q)) (sym (filter_none rows_rank (λ t. false) ts (λ t. refl))))
-    ∙ picked_in_order (raw_cell_of q) (λ t. false) ts gs (own_key q) (rising_rows ts are.rising) (groups_distinct ts) (none_apart gs)
-    ∙ ap (filter_map (raw_cell_of q)) (filter_all rows_rank (λ t. false || of_any gs t) ts (has_group [] ts))
+    ap (λ (acc : List RawCell). fold (place_by is_cell_earlier) acc (flat_map (λ g. filter_map f (filter (is_of_group g) ts)) gs)) (ap (filter_map f) (sym (filter_none rows_rank (λ t. false) ts (λ t. refl))))
+    ∙ picked_in_order f (λ t. false) ts gs keeps (rising_rows ts are.rising) (groups_distinct ts) (none_apart gs)
+    ∙ ap (filter_map f) (filter_all rows_rank (λ t. false || of_any gs t) ts (has_group [] ts))
 
 -- so they are the same cells
+pub cells_same_by : (f : SetRow → Option RawCell) (ts : List SetRow) → Keeps f → AreSetRows ts → IsPermutation (flat_map (λ g. filter_map f (filter (is_of_group g) ts)) (groups_of ts)) (filter_map f ts)
+cells_same_by f ts keeps are = let all = flat_map (λ g. filter_map f (filter (is_of_group g) ts)) (groups_of ts) in subst (IsPermutation all) (cells_in_order_by f ts keeps are) (order_same is_cell_earlier all)
+
+-- those of a parameter
+pub cells_in_order : (ts : List SetRow) (q : ℕ) → AreSetRows ts → order_by is_cell_earlier (flat_map (λ g. filter_map (raw_cell_of q) (filter (is_of_group g) ts)) (groups_of ts)) ≡ filter_map (raw_cell_of q) ts
+cells_in_order ts q are = cells_in_order_by (raw_cell_of q) ts (own_key q) are
+
 pub cells_same : (ts : List SetRow) (q : ℕ) → AreSetRows ts → IsPermutation (flat_map (λ g. filter_map (raw_cell_of q) (filter (is_of_group g) ts)) (groups_of ts)) (filter_map (raw_cell_of q) ts)
-cells_same ts q are = let all = flat_map (λ g. filter_map (raw_cell_of q) (filter (is_of_group g) ts)) (groups_of ts) in subst (IsPermutation all) (cells_in_order ts q are) (order_same is_cell_earlier all)
+cells_same ts q are = cells_same_by (raw_cell_of q) ts (own_key q) are

@@ -26,3 +26,5 @@ pub mod SegmentValues
 pub mod ListSteps
 pub mod SetAgain
 pub mod RunSteps
+pub mod RangeCells
+pub mod AskedCells

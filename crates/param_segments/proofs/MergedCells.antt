@@ -15,7 +15,7 @@ use Rattle.param_segments.specs.declared.raw_cell.RawCell.{RawCell}
 use Rattle.param_segments.specs.Cells.{AreValuesOf, is_cell_before, is_cell_earlier, raw_cell_of, set_cells, with_eng}
 use Rattle.param_segments.specs.Groups.{segment_of, set_of}
 use Rattle.param_segments.specs.Laws.{RawCellsMakeTheCells, SegmentCellsRise, SegmentsMakeTheCells, SegmentsMakeTheRawCells}
-use Rattle.param_segments.specs.Rows.{AreSetRows, SetRow}
+use Rattle.param_segments.specs.Rows.{SetRow}
 use Rattle.param_segments.specs.Segments.{column_tail, rows_from, rows_of_segment}
 use Rattle.param_segments.proofs.CellOrder.{own_key}
 use Rattle.param_segments.proofs.Calibrated.{calibrated_are}

@@ -140,15 +140,16 @@ flat_cells : {X : Type 0} (f : SetRow → Option RawCell) (h : X → List SetRow
 flat_cells f h [] = refl
 flat_cells f h (x ∷ xs) = ap (λ (ys : List RawCell). filter_map f (h x) ++ ys) (flat_cells f h xs) ∙ sym (join_cells f (h x) (flat_map h xs))
 
-by_groups : (q : ℕ) (ts : List SetRow) → flat_map (λ s. filter_map (raw_cell_of q) (rows_of_segment s)) (set_of ts) ≡ flat_map (λ g. filter_map (raw_cell_of q) (filter (is_of_group g) ts)) (groups_of ts)
-by_groups q ts = flat_cells (raw_cell_of q) rows_of_segment (set_of ts) ∙ ap (filter_map (raw_cell_of q)) (rows_of_groups ts (groups_of ts)) ∙ sym (flat_cells (raw_cell_of q) (λ g. filter (is_of_group g) ts) (groups_of ts))
+-- cells of rows, segment by segment, are those group by group
+pub cells_of_groups : (f : SetRow → Option RawCell) (ts : List SetRow) → flat_map (λ s. filter_map f (rows_of_segment s)) (set_of ts) ≡ flat_map (λ g. filter_map f (filter (is_of_group g) ts)) (groups_of ts)
+cells_of_groups f ts = flat_cells f rows_of_segment (set_of ts) ∙ ap (filter_map f) (rows_of_groups ts (groups_of ts)) ∙ sym (flat_cells f (λ g. filter (is_of_group g) ts) (groups_of ts))
 
 pub gathered_are : (q : ℕ) (ts : List SetRow) → AreSetRows ts → flat_map (segment_cells q) (set_of ts) ≡ flat_map (λ g. filter_map (raw_cell_of q) (filter (is_of_group g) ts)) (groups_of ts)
-gathered_are q ts are = each_is_cells q (set_of ts) (set_is_segments ts are) ∙ by_groups q ts
+gathered_are q ts are = each_is_cells q (set_of ts) (set_is_segments ts are) ∙ cells_of_groups (raw_cell_of q) ts
 
 -- the cells of the rows of each segment, put in the order of their keys, are those of the rows
 pub segments_make_cells : (q : ℕ) (ts : List SetRow) → AreSetRows ts → order_by is_cell_earlier (flat_map (λ s. filter_map (raw_cell_of q) (rows_of_segment s)) (set_of ts)) ≡ filter_map (raw_cell_of q) ts
-segments_make_cells q ts are = ap (order_by is_cell_earlier) (by_groups q ts) ∙ cells_in_order ts q are
+segments_make_cells q ts are = ap (order_by is_cell_earlier) (cells_of_groups (raw_cell_of q) ts) ∙ cells_in_order ts q are
 
 -- ---- sorted
 
@@ -182,7 +183,7 @@ then_false Less p e = e
 then_false Equal p e = refl
 then_false Greater p e = refl
 
-no_cell : RawCell
+pub no_cell : RawCell
 no_cell = record { key = record { time = pos 0; seq = 0 }; raw = pos 0 }
 
 -- what is gathered, sorted by key, are the cells of the rows

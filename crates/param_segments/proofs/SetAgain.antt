@@ -22,7 +22,7 @@ use Rattle.octet_fields.specs.Spelling.{counted}
 use Rattle.segment_codec.specs.Segment.{IsSegment, most_rows, segment_octets}
 use Rattle.segment_codec.specs.declared.segment.Segment.{Segment}
 use Rattle.param_segments.specs.declared.row_place.RowPlace.{RowPlace}
-use Rattle.param_segments.specs.Groups.{Pieces, cut_rows, group_segments, groups_of, is_of_group, raw_columns, row_pieces, segment_of, set_of, with_group, with_next_row, with_raws}
+use Rattle.param_segments.specs.Groups.{Pieces, group_segments, groups_of, is_of_group, raw_columns, row_pieces, segment_of, set_of, with_group, with_next_row, with_raws}
 use Rattle.param_segments.specs.Octets.{IsSpelledSet, rows_in_octets, set_octets, starts_from}
 use Rattle.param_segments.specs.RowPlaces.{IsRowPlace, numbered_segment, placed_row, places_from, raw_in_row}
 use Rattle.param_segments.specs.Rows.{AreSetRows, IsSetRow, SetRow, is_earlier, row_parameters}

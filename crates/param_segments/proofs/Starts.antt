@@ -10,7 +10,6 @@ use Rattle.octet_fields.specs.Spelling.{counted, number}
 use Rattle.segment_codec.specs.Segment.{HasSegmentAt, IsSegment, segment_octets}
 use Rattle.segment_codec.specs.declared.segment.Segment.{Segment}
 use Rattle.param_segments.specs.declared.raw_cell.RawCell.{RawCell}
-use Rattle.param_segments.specs.Cells.{segment_cells}
 use Rattle.param_segments.specs.Groups.{set_of}
 use Rattle.param_segments.specs.Octets.{IsSpelledSet, rows_in_octets, set_octets, starts_from}
 use Rattle.param_segments.specs.Rows.{SetRow}
@@ -52,21 +51,21 @@ at_start octets starts i is lt =
     (subst (λ (ns : List ℕ). HasSegmentAt (number w32 (length ss) ++ flat_map segment_octets ss) (get_or ns i 0) (get_or ss i no_segment)) (sym is.places)
     (has_at (number w32 (length ss)) 4 ss i no_segment (number_length (length ss)) (set_is_segments rows is.rows) inside))
 
--- the cells of one segment more
-pub cells_more : (octets starts : List ℕ) (q i : ℕ) (old new : List RawCell) → IsSpelledSet octets starts → i < length starts → new ≡ old ++ segment_cells q (segment_number octets i) → old ≡ flat_map (segment_cells q) (take i (set_of (rows_in_octets octets))) →
-    new ≡ flat_map (segment_cells q) (take (i + 1) (set_of (rows_in_octets octets)))
-cells_more octets starts q i old new is lt more so_far =
+-- what is gathered of one segment more
+pub cells_more : (f : Segment → List RawCell) (octets starts : List ℕ) (i : ℕ) (old new : List RawCell) → IsSpelledSet octets starts → i < length starts → new ≡ old ++ f (segment_number octets i) → old ≡ flat_map f (take i (set_of (rows_in_octets octets))) →
+    new ≡ flat_map f (take (i + 1) (set_of (rows_in_octets octets)))
+cells_more f octets starts i old new is lt more so_far =
     let ss = set_of (rows_in_octets octets) in
     let inside : i < length ss = subst (λ (n : ℕ). i < n) (length-of_starts octets starts is) lt in
-    more ∙ ap (λ (cs : List RawCell). cs ++ segment_cells q (segment_number octets i)) so_far
-    ∙ sym (ap (flat_map (segment_cells q)) (ap (λ (k : ℕ). take k ss) (add-one i) ∙ take-suc ss i no_segment inside)
-    ∙ flat_map-append (segment_cells q) (take i ss) (segment_number octets i ∷ [])
-    ∙ ap (λ (cs : List RawCell). flat_map (segment_cells q) (take i ss) ++ cs) (append-nil (segment_cells q (segment_number octets i))))
+    more ∙ ap (λ (cs : List RawCell). cs ++ f (segment_number octets i)) so_far
+    ∙ sym (ap (flat_map f) (ap (λ (k : ℕ). take k ss) (add-one i) ∙ take-suc ss i no_segment inside)
+    ∙ flat_map-append f (take i ss) (segment_number octets i ∷ [])
+    ∙ ap (λ (cs : List RawCell). flat_map f (take i ss) ++ cs) (append-nil (f (segment_number octets i))))
 
-pub cells_done : (octets starts : List ℕ) (q i : ℕ) (cells : List RawCell) → IsSpelledSet octets starts → length starts ≤ i → cells ≡ flat_map (segment_cells q) (take i (set_of (rows_in_octets octets))) → cells ≡ flat_map (segment_cells q) (set_of (rows_in_octets octets))
-cells_done octets starts q i cells is le so_far =
+pub cells_done : (f : Segment → List RawCell) (octets starts : List ℕ) (i : ℕ) (cells : List RawCell) → IsSpelledSet octets starts → length starts ≤ i → cells ≡ flat_map f (take i (set_of (rows_in_octets octets))) → cells ≡ flat_map f (set_of (rows_in_octets octets))
+cells_done f octets starts i cells is le so_far =
     let ss = set_of (rows_in_octets octets) in
-    so_far ∙ ap (flat_map (segment_cells q)) (take_all i ss (subst (λ (n : ℕ). n ≤ i) (length-of_starts octets starts is) le))
+    so_far ∙ ap (flat_map f) (take_all i ss (subst (λ (n : ℕ). n ≤ i) (length-of_starts octets starts is) le))
 
 pub spelled_by : (octets o starts s : List ℕ) → octets ≡ o → starts ≡ s → IsSpelledSet o s → IsSpelledSet octets starts
 spelled_by octets o starts s e f is = subst (λ (ns : List ℕ). IsSpelledSet octets ns) (sym f) (subst (λ (xs : List ℕ). IsSpelledSet xs s) (sym e) is)

@@ -4,6 +4,7 @@ pub mod Groups
 pub mod Segments
 pub mod Octets
 pub mod Cells
+pub mod CellRange
 pub mod Extracted
 pub mod GroupContents
 pub mod RowPlaces

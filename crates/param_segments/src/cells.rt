@@ -20,7 +20,11 @@ use segment_codec::read_column;
 use std::alloc::{AllocError, Global};
 
 /// Adds the raw cells of a column.
-fn put_column(cells: &mut Vec<RawCell>, keys: &[Key], raws: &[i128]) -> Result<(), AllocError>
+pub(crate) fn put_column(
+    cells: &mut Vec<RawCell>,
+    keys: &[Key],
+    raws: &[i128],
+) -> Result<(), AllocError>
     requires { length raws.now ≡ length keys.now }
     ensures { OnOk result (cells.new.items ≡ cells.old.items ++ cells_from keys.now raws.now) }
 {
@@ -95,7 +99,7 @@ pub(crate) fn raw_cells_in_segment(
 }
 
 /// No key is below the one before it.
-fn are_sorted(cells: &[RawCell]) -> bool
+pub(crate) fn are_sorted(cells: &[RawCell]) -> bool
     ensures { result ≡ true → IsSortedBy is_cell_earlier cells.now }
 {
     for i in 1..cells.len() {

@@ -6,8 +6,8 @@
 //! their set whenever it's asked; `SegSet::build` extracts the rows of an interval and builds over them; `from_bytes`
 //! reads the rows that octets hold, and accepts the octets that their set spells: where the segments stand as those of a
 //! set they are these (`runs`, proofs/SetAgain.antt), else the set is built again and compared; `cells` is what an
-//! extraction of these rows would give of a parameter, read from the columns. Called by whoever fills an interval, and
-//! by retrievals, whose `Plan` and its parts stand here.
+//! extraction of these rows would give of a parameter, read from the columns, and `cells_in_range` what a range asks of
+//! them. Called by whoever fills an interval, and by retrievals, whose `Plan` and its parts stand here.
 //!
 //! The one idea of the proof: the rows of the segments of rows are these rows (`laws::set_has_its_rows`). So what a
 //! parameter's columns give, group by group, are its cells in some order, and by their keys in the one order
@@ -36,6 +36,7 @@
 mod asking;
 mod build;
 mod builder;
+mod cell_range;
 mod cells;
 mod decoding;
 mod group;
@@ -43,6 +44,7 @@ mod group_guesses;
 mod group_numbers;
 pub mod laws;
 mod plan;
+mod range_cells;
 mod raw_cell;
 mod reading;
 mod row_place;
@@ -50,6 +52,7 @@ mod runs;
 mod set;
 
 pub use builder::SetBuilder;
+pub use cell_range::CellRange;
 pub use plan::{Part, Parts, Plan};
 pub use raw_cell::{RawCell, RawCells};
 pub use segment_codec::NotASegment;

@@ -1,11 +1,14 @@
 //! A segment set.
 
 ghost use Rattle.std.specs.Prelude.{◌≡◌, ◌+◌, ◌<◌, ◌↔◌, length, IfOk, IsTrue};
+ghost use Rattle.param_segments.specs.CellRange.{cells_in_range};
 ghost use Rattle.param_segments.specs.Cells.{AreValuesOf, set_cells, set_raw_cells};
 ghost use Rattle.param_segments.specs.Groups.{set_of};
 ghost use Rattle.param_segments.specs.Octets.{IsSpelledSet, rows_of_numbered_segment, rows_in_octets, set_octets};
 
+use crate::cell_range::CellRange;
 use crate::cells::{calibrated_cells, raw_cells, raw_cells_in_segment};
+use crate::range_cells::range_cells;
 use crate::raw_cell::RawCells;
 use arch_types::cell::Cells;
 use arch_types::octets::Octets;
@@ -61,6 +64,28 @@ impl SegSet {
         ensures { IfOk result (λ cells. cells ≡ set_cells mdb.now parameter self.now) }
     {
         let raw = raw_cells(alloc, self.octets.as_slice(), &self.starts, parameter)?;
+        calibrated_cells(alloc, mdb, parameter, &raw)
+    }
+
+    /// The cells of a parameter that a range asks: those with `from <= time < to`, the last first where it's descending,
+    /// up to its limit. No value outside the range is unpacked, and none behind the limit is calibrated.
+    pub fn cells_in_range(
+        &self,
+        alloc: Global,
+        mdb: &Mdb,
+        parameter: u16,
+        range: CellRange,
+    ) -> Result<Cells, AllocError>
+        requires { AreValuesOf mdb.now self.now }
+        ensures { IfOk result (λ cells. cells ≡ cells_in_range mdb.now parameter range self.now) }
+    {
+        let raw = range_cells(
+            alloc,
+            self.octets.as_slice(),
+            &self.starts,
+            parameter,
+            range,
+        )?;
         calibrated_cells(alloc, mdb, parameter, &raw)
     }
 

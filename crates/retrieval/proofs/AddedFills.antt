@@ -19,6 +19,7 @@ use Rattle.history_items.proofs.Late.{last_is_greatest}
 use Rattle.interval_fills.specs.Intervals.{NoneSince, rows_of_interval}
 use Rattle.interval_fills.proofs.Intervals.{database_below, rows_below}
 use Rattle.late_marks.specs.Mark.{is_late_by}
+use Rattle.param_segments.specs.CellRange.{is_cell_in_range}
 use Rattle.param_segments.specs.Rows.{SetRow}
 use Rattle.store_fills.specs.Filled.{HoldsRows}
 use Rattle.store_fills.specs.LastFills.{fill_over}
@@ -31,7 +32,7 @@ use Rattle.retrieval.specs.AnswerText.{answer_lines}
 use Rattle.retrieval.specs.AskText.{ask_text, asks_text}
 use Rattle.retrieval.specs.FilledAnswer.{cells_of_fill, cells_of_interval, filled_answer, intervals_of_range}
 use Rattle.retrieval.specs.Laws.{AddedFillsAnswerAlike}
-use Rattle.retrieval.specs.PartCells.{cells_of_rows, is_cell_in_range}
+use Rattle.retrieval.specs.PartCells.{cells_of_rows}
 use Rattle.retrieval.proofs.OneList.{asked_have}
 use Rattle.retrieval.proofs.OverRows.{timely_cells}
 use Rattle.archive_store.specs.LateFills.{is_late_by_fill}

@@ -21,6 +21,7 @@ use Rattle.interval_walks.specs.Turns.{rows_in_turn}
 use Rattle.interval_walks.proofs.Turns.{ranges}
 use Rattle.late_marks.specs.Mark.{is_late_by}
 use Rattle.mdb_items.specs.Database.{Database}
+use Rattle.param_segments.specs.CellRange.{is_cell_in_range}
 use Rattle.param_segments.specs.declared.plan.Part.{Part}
 use Rattle.param_segments.specs.declared.plan.Part.TheVariants.{Rows, Set}
 use Rattle.param_segments.specs.declared.plan.Plan.{Plan}
@@ -34,7 +35,7 @@ use Rattle.archive_store.specs.StoreView.{StoreView}
 use Rattle.archive_store.proofs.Planning.{none_in_range}
 use Rattle.retrieval.specs.FilledAnswer.{cells_of_fill, cells_of_interval, filled_answer, intervals_of_range}
 use Rattle.retrieval.specs.Laws.{FilledIsAnswered}
-use Rattle.retrieval.specs.PartCells.{answer_over_parts, cells_of_part, cells_of_rows, is_cell_in_range}
+use Rattle.retrieval.specs.PartCells.{answer_over_parts, cells_of_part, cells_of_rows}
 use Rattle.retrieval.proofs.OneList.{asked_covers, asked_have, asked_rises, range_one}
 use Rattle.retrieval.proofs.OverRows.{joined, timely_cells}
 use Rattle.archive_store.specs.LateFills.{is_late_by_fill}

@@ -13,3 +13,4 @@ pub mod OneList
 pub mod FilledAnswers
 pub mod LateRows
 pub mod AddedFills
+pub mod PrintFaults

@@ -1,5 +1,5 @@
 -- Cells up to a limit.
-use Rattle.std.proofs.Common.{◌≡◌, ◌∙◌, ◌<◌, ◌≤◌, ◌+◌, ℕ, suc, zero, List, [], ◌∷◌, ◌++◌, length, get_or, drop, reverse, take, true, false, Option, Some, None, ap, sym, refl, arith, append-nil, append_assoc, length-append}
+use Rattle.std.proofs.Common.{◌≡◌, ◌∙◌, ◌<◌, ◌≤◌, ◌+◌, ◌-◌, ℕ, suc, zero, List, [], ◌∷◌, ◌++◌, length, get_or, drop, reverse, take, true, false, Option, Some, None, ap, sym, refl, arith, append-nil, append_assoc, length-append}
 use Rattle.std.specs.Prelude.{flat_map}
 use Rattle.std.specs.List.{cons_option, filter_map}
 use Rattle.std.proofs.lemmas.Bool.Decides.{nat_tests}
@@ -9,6 +9,7 @@ use Rattle.std.proofs.lemmas.List.Elements.{filter_map-append}
 use Rattle.arch_types.specs.declared.cell.Cell.{Cell}
 use Rattle.arch_types.specs.Directions.{truncated}
 use Rattle.retrieval.specs.AnswerText.{cell_list, is_full}
+use Rattle.retrieval.specs.PartCells.{limit_left}
 
 take_front : (n : ℕ) (xs ys : List Cell) → take n (take n xs ++ ys) ≡ take n (xs ++ ys)
 take_front zero xs ys = refl
@@ -45,6 +46,17 @@ room_is n xs h = grind (arith, nat_tests)
 pub full : (limit : Option ℕ) (xs ys : List Cell) → is_full limit xs ≡ true → truncated limit xs ≡ xs → truncated limit (xs ++ ys) ≡ xs
 full None xs ys h within = absurd (cc (h))
 full (Some n) xs ys h within = let few = full_is n xs h in take-append-le n xs ys few ∙ within
+
+take_both : (n : ℕ) (xs ys : List Cell) → take n (xs ++ ys) ≡ take n xs ++ take (n - length xs) ys
+take_both zero [] ys = refl
+take_both (suc n) [] ys = ap (λ (k : ℕ). take k ys) (let same : suc n ≡ suc n - length {A = Cell} [] = omega arith in same)
+take_both zero (x ∷ xs) ys = ap (λ (k : ℕ). take k ys) (let none : 0 ≡ 0 - length (x ∷ xs) = omega arith in none)
+take_both (suc n) (x ∷ xs) ys = ap (λ (l : List Cell). x ∷ l) (take_both n xs ys ∙ ap (λ (k : ℕ). take n xs ++ take k ys) (let same : n - length xs ≡ suc n - length (x ∷ xs) = omega arith in same))
+
+-- as many more as there's room for
+pub within_room : (limit : Option ℕ) (xs ys : List Cell) → truncated limit xs ≡ xs → xs ++ truncated (limit_left limit xs) ys ≡ truncated limit (xs ++ ys)
+within_room None xs ys within = refl
+within_room (Some n) xs ys within = sym (take_both n xs ys ∙ ap (λ (l : List Cell). l ++ take (n - length xs) ys) within)
 
 length_list : (o : Option Cell) → length (cell_list o) ≤ 1
 length_list None = omega arith

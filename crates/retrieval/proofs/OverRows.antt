@@ -1,16 +1,12 @@
 -- The answer over parts is that over the rows that they are over.
-use Rattle.std.proofs.Common.{◌≡◌, ◌∙◌, ℕ, ℤ, List, [], ◌∷◌, ◌++◌, length, Bool, true, false, cond, Option, Some, None, ap, sym, refl}
-use Rattle.std.specs.Prelude.{Result, Ok, Err, IfOk, filter, flat_map, option_map}
+use Rattle.std.proofs.Common.{◌≡◌, ◌∙◌, ℕ, ℤ, List, [], ◌∷◌, ◌++◌, Bool, true, false, cond, Option, Some, None, ap, sym, refl}
+use Rattle.std.specs.Prelude.{filter, flat_map, option_map}
 use Rattle.std.specs.List.{cons_option, filter_map}
 use Rattle.std.proofs.lemmas.List.Elements.{filter-append, filter_map-append}
-use Rattle.std.specs.declared.alloc.AllocError.{AllocError}
-use Rattle.asks.specs.declared.ask.Answer.{Answer}
 use Rattle.asks.specs.declared.ask.Request.{Request}
-use Rattle.asks.specs.Names.{parameter_number}
 use Rattle.arch_types.specs.declared.cell.Cell.{Cell}
 use Rattle.arch_types.specs.declared.row.Row.{Row}
 use Rattle.arch_types.specs.Table.{is_in_time_range, range_of}
-use Rattle.history_items.specs.declared.items.Item.{Item}
 use Rattle.history_items.specs.Databases.{database_in}
 use Rattle.history_items.specs.Items.{rows_in}
 use Rattle.mdb_items.specs.Database.{Database}
@@ -18,14 +14,12 @@ use Rattle.container_extract.specs.declared.values.ParameterValue.{ParameterValu
 use Rattle.container_extract.specs.Extraction.{cell_at, cell_of, extraction}
 use Rattle.container_extract.specs.Values.{value_among}
 use Rattle.container_extract.specs.Answer.{answer_of, as_asked}
+use Rattle.param_segments.specs.CellRange.{is_cell_in_range}
 use Rattle.param_segments.specs.declared.plan.Part.{Part}
 use Rattle.param_segments.specs.declared.plan.Part.TheVariants.{Rows, Set}
 use Rattle.param_segments.specs.Plans.{ArePartsOver, IsPartOver}
-use Rattle.param_segments.specs.Rows.{SetRow}
-use Rattle.store_fills.specs.Sound.{Fillings}
-use Rattle.retrieval.specs.FilledAnswer.{IsFilledAnswer, filled_answer}
 use Rattle.retrieval.specs.Laws.{PlannedIsAnswered}
-use Rattle.retrieval.specs.PartCells.{answer_over_parts, answer_over_rows, cells_of_part, cells_of_rows, is_cell_in_range}
+use Rattle.retrieval.specs.PartCells.{answer_over_parts, answer_over_rows, cells_of_part, cells_of_rows}
 
 same_both : (b : Bool) (cells : List Cell) → cells ≡ cond b cells cells
 same_both true cells = refl
@@ -84,22 +78,3 @@ pub planned : PlannedIsAnswered
 planned head history request number plan is =
     let db = database_in head.mdb history in
     answer_over db number request plan.parts is.rows is.over ∙ answer_of_history db number request is.rows (rows_in history) is.in_range
-
--- the cells of an answer by one name of them or another
-pub same_cells : (r : Result Answer AllocError) (these those : List Cell) → these ≡ those → IfOk r (λ answer. answer.cells ≡ these) → IfOk r (λ answer. answer.cells ≡ those)
-same_cells (Ok answer) these those same is = is ∙ same
-same_cells (Err error) these those same is = tt
-
--- an answer of this front and these cells is that over a history with its fills
-pub filled_is : (db : Database) (exponent : ℕ) (history : List Item) (fillings : Fillings (List SetRow)) (request : Request) (number : ℕ) (r : Result Answer AllocError) (front : ℕ) (cells : List Cell) →
-    parameter_number db request.parameter ≡ Some number → front ≡ length history →
-    cells ≡ filled_answer db number request exponent history fillings → IfOk r (λ answer. answer.front ≡ front) → IfOk r (λ answer. answer.cells ≡ cells) →
-    IfOk r (IsFilledAnswer db exponent history fillings request)
-filled_is db exponent history fillings request number (Ok answer) front cells named at gives front_is cells_are =
-    record { front = front_is ∙ at; number = number; named = named; cells = cells_are ∙ gives }
-filled_is db exponent history fillings request number (Err error) front cells named at gives front_is cells_are = tt
-
--- the cells of an answer, where two facts are known
-pub where_known : (r : Result Answer AllocError) (P Q : Type 0) (cells : List Cell) → (P → Q → IfOk r (λ answer. answer.cells ≡ cells)) → IfOk r (λ answer. P → Q → answer.cells ≡ cells)
-where_known (Ok answer) P Q cells is = is
-where_known (Err error) P Q cells is = tt

@@ -1,16 +1,20 @@
--- Cells and rows whose time lies in a range.
-use Rattle.std.proofs.Common.{◌≡◌, ◌∙◌, ℕ, ℤ, List, [], ◌∷◌, reverse, Bool, true, false, cond, Some, None, ap, refl}
+-- The cells of rows and of sets whose time lies in a range.
+use Rattle.std.proofs.Common.{◌≡◌, ◌∙◌, ℕ, ℤ, List, [], ◌∷◌, reverse, Bool, true, false, cond, Option, None, ap, refl}
 use Rattle.std.specs.Prelude.{filter, if◌then◌else◌}
 use Rattle.std.specs.List.{cons_option, filter_map}
+use Rattle.arch_types.specs.Directions.{in_direction, truncated}
 use Rattle.arch_types.specs.declared.cell.Cell.{Cell}
+use Rattle.arch_types.specs.declared.direction.Direction.{Direction}
 use Rattle.arch_types.specs.declared.row.Row.{Row}
 use Rattle.arch_types.specs.Table.{is_in_time_range}
 use Rattle.mdb_items.specs.Database.{Database}
 use Rattle.container_extract.specs.Extraction.{cell_of}
-use Rattle.retrieval.specs.PartCells.{cell_in_range, cells_of_rows, is_cell_in_range, timely_cell}
+use Rattle.param_segments.specs.CellRange.{cells_in_range, is_cell_in_range}
+use Rattle.param_segments.specs.Cells.{set_cells}
+use Rattle.param_segments.specs.Rows.{SetRow}
+use Rattle.param_segments.specs.declared.cell_range.CellRange.{CellRange}
+use Rattle.retrieval.specs.PartCells.{cell_in_range, cells_of_rows}
 use Rattle.retrieval.proofs.Limited.{reversed_cells}
-
--- ---- rows
 
 one_row : (db : Database) (q : ℕ) (row : Row) (rows : List Row) (b : Bool) → cons_option (if b then cell_of db q row else None) (filter_map (cell_of db q) rows) ≡ filter_map (cell_of db q) (cond b (row ∷ rows) rows)
 one_row db q row rows true = refl
@@ -26,18 +30,10 @@ rows_in_range db q low high (row ∷ rows) =
 pub rows_in_range_back : (db : Database) (q : ℕ) (low high : ℤ) (rows : List Row) → filter_map (cell_in_range db q low high) (reverse rows) ≡ reverse (cells_of_rows db q low high rows)
 rows_in_range_back db q low high rows = reversed_cells (cell_in_range db q low high) rows ∙ ap reverse (rows_in_range db q low high rows)
 
--- ---- cells
-
-one_cell : (cell : Cell) (cells : List Cell) (b : Bool) → cons_option (if b then Some cell else None) cells ≡ cond b (cell ∷ cells) cells
-one_cell cell cells true = refl
-one_cell cell cells false = refl
-
--- the cells in a range of cells
-pub cells_in_range : (low high : ℤ) (cells : List Cell) → filter_map (timely_cell low high) cells ≡ filter (is_cell_in_range low high) cells
-cells_in_range low high [] = refl
-cells_in_range low high (cell ∷ cells) =
-    ap (cons_option (timely_cell low high cell)) (cells_in_range low high cells) ∙ one_cell cell (filter (is_cell_in_range low high) cells) (is_cell_in_range low high cell)
-
--- the same, the last first
-pub cells_in_range_back : (low high : ℤ) (cells : List Cell) → filter_map (timely_cell low high) (reverse cells) ≡ reverse (filter (is_cell_in_range low high) cells)
-cells_in_range_back low high cells = reversed_cells (timely_cell low high) cells ∙ ap reverse (cells_in_range low high cells)
+-- what a range asks of a set, by its parts
+pub range_asks : (db : Database) (q : ℕ) (range : CellRange) (low high : ℤ) (direction : Direction) (limit : Option ℕ) (rows : List SetRow) → range.from ≡ low → range.to ≡ high → range.direction ≡ direction → range.limit ≡ limit →
+    cells_in_range db q range rows ≡ truncated limit (in_direction direction (filter (is_cell_in_range low high) (set_cells db q rows)))
+range_asks db q range low high direction limit rows from to turned most =
+    let asked : ℤ → ℤ → Direction → Option ℕ → List Cell = λ a b d l. truncated l (in_direction d (filter (is_cell_in_range a b) (set_cells db q rows))) in
+    ap (λ (a : ℤ). asked a range.to range.direction range.limit) from ∙ ap (λ (b : ℤ). asked low b range.direction range.limit) to ∙ ap (λ (d : Direction). asked low high d range.limit) turned
+    ∙ ap (λ (l : Option ℕ). asked low high direction l) most

@@ -13,12 +13,13 @@ use Rattle.interval_fills.specs.Intervals.{rows_of_interval}
 use Rattle.interval_walks.specs.Counts.{with_interval}
 use Rattle.interval_walks.specs.Turns.{meets_range}
 use Rattle.mdb_items.specs.Database.{Database}
+use Rattle.param_segments.specs.CellRange.{is_cell_in_range}
 use Rattle.param_segments.specs.Cells.{set_cells}
 use Rattle.param_segments.specs.Rows.{SetRow}
 use Rattle.store_fills.specs.Sound.{Filling, Fillings}
 use Rattle.container_extract.specs.Answer.{as_asked}
 use Rattle.retrieval.specs.AnswerText.{answer_lines}
-use Rattle.retrieval.specs.PartCells.{cells_of_rows, is_cell_in_range}
+use Rattle.retrieval.specs.PartCells.{cells_of_rows}
 use Rattle.archive_store.specs.LateFills.{is_late_by_fill}
 
 -- the intervals of rows, each once, in the order of their first rows

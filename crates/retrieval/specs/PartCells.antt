@@ -1,5 +1,5 @@
 -- The cells that the parts of a plan have of a parameter, and the answer over them.
-use Rattle.std.specs.Prelude.{ℕ, ℤ, Bool, not, ◌&&◌, List, filter, flat_map, int_lt, Option, Some, None, if◌then◌else◌}
+use Rattle.std.specs.Prelude.{ℕ, ℤ, ◌-◌, List, filter, flat_map, length, Option, Some, None, if◌then◌else◌}
 use Rattle.std.specs.List.{filter_map}
 use Rattle.std.specs.Arc.{arc_value}
 use Rattle.asks.specs.declared.ask.Request.{Request}
@@ -11,15 +11,13 @@ use Rattle.container_extract.specs.Extraction.{cell_of}
 use Rattle.container_extract.specs.Answer.{as_asked}
 use Rattle.param_segments.specs.declared.plan.Part.{Part}
 use Rattle.param_segments.specs.declared.plan.Part.TheVariants.{Set, Rows}
+use Rattle.param_segments.specs.CellRange.{is_cell_in_range}
 use Rattle.param_segments.specs.Cells.{set_cells}
 
--- whether a cell's time lies in a half-open range
-abbrev pub is_cell_in_range : ℤ → ℤ → Cell → Bool
-is_cell_in_range low high cell = not (int_lt cell.key.time low) && int_lt cell.key.time high
-
--- a cell, where its time lies in a range
-abbrev pub timely_cell : ℤ → ℤ → Cell → Option Cell
-timely_cell low high cell = if is_cell_in_range low high cell then Some cell else None
+-- how many cells a limit has room for beside some
+abbrev pub limit_left : Option ℕ → List Cell → Option ℕ
+limit_left None cells = None
+limit_left (Some limit) cells = Some (limit - length cells)
 
 -- the cell of a parameter in a row, where the row has one and its time lies in a range
 abbrev pub cell_in_range : Database → ℕ → ℤ → ℤ → Row → Option Cell

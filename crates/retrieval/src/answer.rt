@@ -1,6 +1,6 @@
 //! The answer to a request, over the parts of a plan, and over a store.
 
-ghost use Rattle.std.specs.Prelude.{◌≡◌, ◌+◌, ◌≤◌, IfOk, IsTrue, List, filter, length};
+ghost use Rattle.std.specs.Prelude.{◌≡◌, ◌+◌, ◌≤◌, IfOk, IfErr, IsTrue, List, filter, length};
 ghost use Rattle.std.specs.Arc.{arc_value};
 ghost use Rattle.std.specs.List.{AllByRecursion};
 ghost use Rattle.arch_types.specs.declared.row.Row.{Row};
@@ -11,6 +11,7 @@ ghost use Rattle.param_segments.specs.Plans.{ArePartsOver, HasValuesOf, rows_of_
 ghost use Rattle.store_fills.specs.LastFills.{fillings_in};
 ghost use Rattle.archive_store.specs.Finding.{IsRequestFound};
 ghost use Rattle.archive_store.specs.Plans.{late_rows_of_range};
+ghost use Rattle.archive_store.specs.UnreadRows.{IsReadFault};
 ghost use Rattle.archive_store.specs.Stands.{IsSoundImage};
 ghost use Rattle.container_extract.specs.Answer.{answer_of};
 ghost use Rattle.retrieval.specs.FilledAnswer.{IsFilledAnswer};
@@ -19,6 +20,7 @@ ghost use Rattle.retrieval.specs.PartCells.{answer_over_parts, answer_over_rows}
 use crate::part_cells::cells_over_parts;
 use arch_disk::Disk;
 use arch_types::cell::Cells;
+use arch_types::row_fault::RowFault;
 use arch_types::steps::Steps;
 use archive_store::{FoundRequest, Store};
 use asks::Answer;
@@ -67,7 +69,7 @@ pub fn answer_request<D: Disk, L: Ledger>(
     store: &mut Store<D>,
     found: &FoundRequest,
     steps: &mut Steps<L>,
-) -> Result<Answer, AllocError>
+) -> Result<Answer, RowFault>
     requires found { IsRequestFound (database_in store.old.head.mdb store.old.history) found.now }
     ensures filled { IfOk result (IsFilledAnswer (database_in store.old.head.mdb store.old.history)
         store.old.exponent store.old.history (fillings_in store.old.filled) found.now.request) }
@@ -77,6 +79,7 @@ pub fn answer_request<D: Disk, L: Ledger>(
         IsTrue D.device.is_transparent → IsSoundImage (D.device.reads store.old.opened) → answer.cells ≡
         answer_of (database_in store.old.head.mdb store.old.history) found.now.number found.now.request
         (rows_in store.old.history)) }
+    ensures refused { IfErr result (IsReadFault D.device store.old store.new) }
     ensures same { store.new ≡ store.old }
 
     // No row of a filled interval takes one.
@@ -86,5 +89,5 @@ pub fn answer_request<D: Disk, L: Ledger>(
 {
     store.is_kept();
     let plan = store.plan(alloc, found)?;
-    answer(alloc, plan, found, steps)
+    Ok(answer(alloc, plan, found, steps)?)
 }

@@ -35,4 +35,5 @@ pub mod laws;
 mod packet_text;
 pub mod parameter;
 mod part_cells;
+pub mod print_faults;
 pub mod replay;

@@ -3,11 +3,13 @@
 ghost use Rattle.std.specs.Prelude.{◌≡◌, ◌+◌, ◌≤◌, ◌++◌, ◌∷◌, [], OnOk, IfOk, filter, flat_map, length, reverse};
 ghost use Rattle.std.specs.List.{AllByRecursion, filter_map};
 ghost use Rattle.arch_types.specs.Table.{is_in_time_range};
-ghost use Rattle.arch_types.specs.Directions.{truncated};
+ghost use Rattle.arch_types.specs.Directions.{in_direction, truncated};
+ghost use Rattle.param_segments.specs.CellRange.{is_cell_in_range};
+ghost use Rattle.param_segments.specs.Cells.{AreValuesOf, set_cells};
 ghost use Rattle.param_segments.specs.Plans.{HasValuesOf, rows_of_part, rows_of_parts};
 ghost use Rattle.container_extract.specs.Answer.{as_asked};
 ghost use Rattle.retrieval.specs.AnswerText.{cell_list};
-ghost use Rattle.retrieval.specs.PartCells.{cell_in_range, cells_of_part, timely_cell};
+ghost use Rattle.retrieval.specs.PartCells.{cell_in_range, cells_of_part, limit_left};
 
 use crate::cells::{add_cell, is_full};
 use arch_types::cell::Cell;
@@ -17,7 +19,7 @@ use arch_types::steps::Steps;
 use asks::Request;
 use container_extract::Extractor;
 use mdb_model::Mdb;
-use param_segments::Part;
+use param_segments::{CellRange, Part, SegSet};
 use std::alloc::{AllocError, Global};
 use std::sync::ledger::Ledger;
 
@@ -92,8 +94,49 @@ fn last_part_cells<L: Ledger>(
     Ok(cells)
 }
 
+/// The range of a request in a direction, up to so many cells as its limit has room for beside some.
+fn range_left(request: &Request, direction: Direction, cells: &[Cell]) -> CellRange
+    ensures from { result.from ≡ request.now.from }
+    ensures to { result.to ≡ request.now.to }
+    ensures direction { result.direction ≡ direction }
+    ensures limit { result.limit ≡ limit_left request.now.limit cells.now }
+{
+    let limit = match request.limit {
+        None => None,
+        Some(limit) => Some(limit.saturating_sub(cells.len() as u64)),
+    };
+    CellRange {
+        from: request.from,
+        to: request.to,
+        direction,
+        limit,
+    }
+}
+
+/// Adds the cells of a set in a direction, up to a limit of all. The set reads none outside the range or behind the limit.
+fn add_set_cells(
+    alloc: Global,
+    mdb: &Mdb,
+    number: u16,
+    request: &Request,
+    direction: Direction,
+    set: &SegSet,
+    cells: &mut Vec<Cell>,
+) -> Result<(), AllocError>
+    requires values { AreValuesOf mdb.now set.now }
+    requires within { truncated request.now.limit cells.old.items ≡ cells.old.items }
+    ensures { OnOk result (cells.new.items ≡ truncated request.now.limit (cells.old.items ++
+        in_direction direction (filter (is_cell_in_range request.now.from request.now.to)
+        (set_cells mdb.now number set.now)))) }
+{
+    let range = range_left(request, direction, cells.as_slice());
+    let found = set.cells_in_range(alloc, mdb, number, range)?;
+    cells.extend_from_slice(found.as_slice())?;
+    Ok(())
+}
+
 /// Adds the cells of a part, up to a limit of all.
-#[tactic(auto, using(crate::proofs::Timely::cells_in_range, crate::proofs::Timely::rows_in_range))]
+#[tactic(auto, using(crate::proofs::Timely::rows_in_range))]
 fn add_part_cells<L: Ledger>(
     alloc: Global,
     mdb: &Mdb,
@@ -112,8 +155,8 @@ fn add_part_cells<L: Ledger>(
 {
     match part {
         Part::Set { set, .. } => {
-            let found = set.cells(alloc, mdb, number)?;
-            add_cells(request, found.as_slice(), cells)
+            let order = Direction::Ascending;
+            add_set_cells(alloc, mdb, number, request, order, set, cells)
         }
         Part::Rows { rows, .. } => {
             add_row_cells(alloc, mdb, number, request, rows.as_slice(), cells, steps)
@@ -122,7 +165,7 @@ fn add_part_cells<L: Ledger>(
 }
 
 /// Adds the cells of a part, the last first, up to a limit of all.
-#[tactic(auto, using(crate::proofs::Timely::cells_in_range_back, crate::proofs::Timely::rows_in_range_back))]
+#[tactic(auto, using(crate::proofs::Timely::rows_in_range_back))]
 fn add_last_part_cells<L: Ledger>(
     alloc: Global,
     mdb: &Mdb,
@@ -141,40 +184,13 @@ fn add_last_part_cells<L: Ledger>(
 {
     match part {
         Part::Set { set, .. } => {
-            let mut found = set.cells(alloc, mdb, number)?.into_vec();
-            found.reverse();
-            add_cells(request, found.as_slice(), cells)
+            let order = Direction::Descending;
+            add_set_cells(alloc, mdb, number, request, order, set, cells)
         }
         Part::Rows { rows, .. } => {
             add_last_row_cells(alloc, mdb, number, request, rows.as_slice(), cells, steps)
         }
     }
-}
-
-/// Adds the cells whose time lies in the range of a request, up to its limit.
-fn add_cells(request: &Request, found: &[Cell], cells: &mut Vec<Cell>) -> Result<(), AllocError>
-    requires { truncated request.now.limit cells.old.items ≡ cells.old.items }
-    ensures { OnOk result (cells.new.items ≡ truncated request.now.limit (cells.old.items ++
-        filter_map (timely_cell request.now.from request.now.to) found.now)) }
-{
-    for cell in found {
-        if is_full(cells.as_slice(), request.limit) {
-            return Ok(());
-        }
-        add_timely_cell(request, *cell, cells)?;
-    }
-    Ok(())
-}
-
-/// Adds a cell whose time lies in the range of a request.
-fn add_timely_cell(request: &Request, cell: Cell, cells: &mut Vec<Cell>) -> Result<(), AllocError>
-    ensures { OnOk result (cells.new.items ≡ cells.old.items ++
-        cell_list (timely_cell request.now.from request.now.to cell)) }
-{
-    if cell.key.time >= request.from && cell.key.time < request.to {
-        cells.push(cell)?;
-    }
-    Ok(())
 }
 
 /// Adds the cells of the rows whose time lies in the range of a request, up to its limit. No row behind that is

@@ -1,16 +1,18 @@
 //! The lines of a replay.
 
-ghost use Rattle.std.specs.Prelude.{◌≡◌, ◌<◌, ◌^◌, ◌++◌, [], IfOk, length};
+ghost use Rattle.std.specs.Prelude.{◌≡◌, ◌<◌, ◌^◌, ◌++◌, [], IfErr, IfOk, length};
 ghost use Rattle.history_items.specs.Databases.{names_in};
 ghost use Rattle.archive_store.specs.Finding.{IsReplayFound};
 ghost use Rattle.archive_store.specs.Replays.{rows_below};
 ghost use Rattle.line_buffer.specs.Printed.{BuffersText, PrintsText};
+ghost use Rattle.outer_traits.specs.declared.print_fault.PrintFault.TheVariants.{OutOfMemory};
 ghost use Rattle.replay_merge.specs.Cursor.{steps_at_most, rest_of};
-ghost use Rattle.retrieval.specs.ReplayText.{packet_lines, replay_text};
+ghost use Rattle.retrieval.specs.ReplayText.{packet_lines, replay_lines, replay_text};
 ghost use Rattle.line_buffer.specs.LineRoom.{HasLineRoom};
 
 use crate::answer_text::{put_end, put_front};
 use crate::packet_text::put_packet;
+use crate::print_faults::print_fault_of;
 use arch_disk::Disk;
 use arch_types::name::{Name, Names};
 use arch_types::row::{Row, Rows};
@@ -19,7 +21,6 @@ use line_buffer::LineBuffer;
 use outer_traits::fault::Failed;
 use outer_traits::print_fault::PrintFault;
 use outer_traits::sink::Sink;
-use refusals::Refusal;
 use replay_merge::cursor::Cursor;
 use replay_merge::laws::end_has_no_rest;
 use std::alloc::{AllocError, Global};
@@ -103,18 +104,18 @@ fn next_rows<D: Disk>(
     alloc: Global,
     cursor: &mut Cursor,
     store: &mut Store<D>,
-) -> Result<Rows, AllocError>
+) -> Result<Rows, PrintFault>
     ensures rows { IfOk result (λ rows.
         rows ++ rest_of cursor.new (rows_below store.old.history) ≡ rest_of cursor.old (rows_below store.old.history)) }
     ensures end { IfOk result (λ rows. rows ≡ [] → rest_of cursor.new (rows_below store.old.history) ≡ []) }
     ensures nearer { IfOk result (λ rows. (rows ≡ [] → ⊥) → steps_at_most cursor.new < steps_at_most cursor.old) }
+    ensures refused { IfErr result (λ fault. fault ≡ OutOfMemory) }
     ensures same { store.new ≡ store.old }
 {
     end_has_no_rest();
     match store.replay_step(alloc, cursor, u64::MAX) {
         Ok(rows) => Ok(rows),
-        Err(Refusal::OutOfMemory) => Err(AllocError),
-        Err(_) => unreachable!(),
+        Err(fault) => Err(print_fault_of(fault)),
     }
 }
 
@@ -135,4 +136,25 @@ fn print_rows<K: Sink>(
         line_buffer.flush_if_full(sink)?;
     }
     Ok(())
+}
+
+/// Prints the rows that a replay of the first `front` items of a history gave, the ask with number `k`. The end may still be buffered.
+pub fn print_replayed<K: Sink>(
+    k: u64,
+    front: u64,
+    names: &Names,
+    table: &Name,
+    rows: &[Row],
+    line_buffer: &mut LineBuffer,
+    sink: &mut K,
+) -> Result<(), Failed>
+    requires { HasLineRoom line_buffer.old }
+    ensures { BuffersText result (K.state sink.old) (K.state sink.new)
+        (line_buffer.old ++ replay_lines k front names.now table.now rows.now) line_buffer.new }
+{
+    put_front(line_buffer, k, front);
+    line_buffer.flush_if_full(sink)?;
+    print_rows(names, table, rows, line_buffer, sink)?;
+    put_end(line_buffer, rows.len());
+    line_buffer.flush_if_full(sink)
 }

@@ -146,7 +146,7 @@ pub below_greatest : (n : ℕ) (ds : List ℕ) → AllByRecursion (λ d. d ≤ n
 below_greatest n [] all k lt = tt
 below_greatest n (d ∷ ds) all k lt = ((let h = all.0 in omega arith), below_greatest n ds all.1 k lt)
 
-and_true : (a b : Bool) → (a && b) ≡ true → (a ≡ true) × (b ≡ true)
+pub and_true : (a b : Bool) → (a && b) ≡ true → (a ≡ true) × (b ≡ true)
 and_true true b e = (refl, e)
 and_true false b e = absurd cc
 
@@ -215,7 +215,7 @@ parts_exact : (n : ℕ) → IsExact (PartsFit n) parts (column_parts_at n)
 unfolding column_parts_at
 parts_exact n = IsExact-tested (IsExact-both wide_exact (λ _ _. IsExact-both (IsExact-tested exact8 is_width) (λ w _. packed_exact w n))) is_tight
 
-int_lt_true : (a b : ℤ) → int_lt a b ≡ true → a <ℤ b
+pub int_lt_true : (a b : ℤ) → int_lt a b ≡ true → a <ℤ b
 int_lt_true a b e = grind (arith, ints)
 
 true_int_lt : (a b : ℤ) → a <ℤ b → int_lt a b ≡ true
@@ -452,7 +452,7 @@ value_fits (negsuc a) d h k =
           ap (cast_signed w128) whole ∙ to_z-neg w128 (a - d) below ∙ sym sum
     ]
 
-values_same : (low : ℤ) (top : ℕ) (ds : List ℕ) → FitsSigned w128 low → (low +ℤ pos top) <ℤ pos (2 ^ 127) → AllByRecursion (λ d. d ≤ top) ds → map (value_above low) ds ≡ map (λ d. low +ℤ pos d) ds
+pub values_same : (low : ℤ) (top : ℕ) (ds : List ℕ) → FitsSigned w128 low → (low +ℤ pos top) <ℤ pos (2 ^ 127) → AllByRecursion (λ d. d ≤ top) ds → map (value_above low) ds ≡ map (λ d. low +ℤ pos d) ds
 values_same low top [] h lt all = refl
 values_same low top (d ∷ ds) h lt all =
     let e = value_fits low d h (fits_between low top d h lt all.0) in

@@ -1,8 +1,8 @@
 -- What octet_fields gives, in the forms that this crate has use for.
-use Rattle.std.proofs.Common.{◌≡◌, ℕ, ◌^◌, ◌<◌, List, [], ◌∷◌, ◌++◌, take, Some, refl, sym, ap, subst, ◌∙◌, arith, inl, inr}
+use Rattle.std.proofs.Common.{◌≡◌, ℕ, ◌+◌, ◌^◌, ◌<◌, List, [], ◌∷◌, ◌++◌, take, drop, Some, refl, sym, ap, subst, ◌∙◌, arith, inl, inr}
 use Rattle.std.specs.Int.{w8}
 use Rattle.std.proofs.lemmas.Bool.{cases_lt}
-use Rattle.std.proofs.lemmas.List.{length-take, get_or-take, get_or_past}
+use Rattle.std.proofs.lemmas.List.{length-take, get_or-drop, get_or-take, get_or_past}
 use Rattle.octet_fields.specs.Exact.{IsOctets, IsExact}
 use Rattle.octet_fields.specs.Reading.{Reader, number_at, mapped_at}
 use Rattle.octet_fields.specs.Spelling.{number}
@@ -15,6 +15,9 @@ IsOctets-take n octets are i =
       | inl lt ↦ rw (get_or-take n octets i 0 lt) (are i)
       | inr le ↦ rw (get_or_past (take n octets) i 0 (omega (arith, length-take n octets))) (omega arith)
     ]
+
+pub IsOctets-drop : (n : ℕ) (octets : List ℕ) → IsOctets octets → IsOctets (drop n octets)
+IsOctets-drop n octets are i = rw (get_or-drop n octets i 0) (are (n + i))
 
 spelled8 : (n : ℕ) → n < 2 ^ 8 → number w8 n ≡ n ∷ []
 unfolding number

@@ -2,12 +2,16 @@ pub mod Leaves
 pub mod Varints
 pub mod Numbers
 pub mod Packing
+pub mod PackedRows
 pub mod Keys
 pub mod Columns
+pub mod ColumnRows
 pub mod Distinct
 pub mod Segments
 pub mod Looping
+pub mod RangeSteps
 pub mod Written
 pub mod Ranges
 pub mod Skipped
+pub mod RangeColumns
 pub mod Places

@@ -1,5 +1,6 @@
 -- A varint is read exactly.
-use Rattle.std.proofs.Common.{◌≡◌, ℕ, zero, suc, ◌+◌, ◌-◌, ◌*◌, ◌/◌, ◌%◌, ◌^◌, ◌<◌, ◌≤◌, Bool, true, false, cond, ltb, List, [], ◌∷◌, ◌++◌, Option, Some, None, refl, sym, ap, subst, ◌∙◌, arith, lit≤, inl, inr}
+use Rattle.std.proofs.Common.{◌≡◌, ℕ, zero, suc, ◌+◌, ◌-◌, ◌*◌, ◌/◌, ◌%◌, ◌^◌, ◌<◌, ◌≤◌, Bool, true, false, cond, ltb, List, [], ◌∷◌, ◌++◌, length, drop, add-one, Option, Some, None, refl, sym, ap, subst, ◌∙◌, arith, lit≤, inl, inr}
+use Rattle.std.specs.List.{position, position_or_len}
 use Rattle.std.proofs.lemmas.Bool.{cases_lt, lt-ltb, le-ltb, ltb-true}
 use Rattle.std.proofs.Math.Nat.{mul-le-mul_left, pow-le-pow_right}
 use Rattle.std.proofs.lemmas.Nat.{mul-le, pow-add, mul-add-lt}
@@ -154,3 +155,39 @@ short_below octets n rest e =
     let same : p.0.0 ≡ n = ap (λ (x : ℕ × List ℕ). x.0) t.1 in
     let lt = ltb-true _ _ t.0 in
     omega arith
+
+-- ---- where a varint ends
+
+-- it ends with its first octet below 128
+ends_at : (octets : List ℕ) (n : ℕ) (after : List ℕ) → varint_at octets ≡ Some (n, after) →
+    (position_or_len (λ octet. ltb octet 128) octets < length octets) × (drop (position_or_len (λ octet. ltb octet 128) octets + 1) octets ≡ after)
+ends_at [] n after e = absurd cc
+ends_at (octet ∷ rest) n after e = elim (cases_lt octet 128) [
+  | inl lt ↦
+      let test = lt-ltb octet 128 lt in
+      let made : ℕ × List ℕ = (octet, rest) in
+      let found : ◌≡◌ {A = Option (ℕ × List ℕ)} (Some (octet, rest)) (Some (n, after)) = rw test at e in
+      let first : position_or_len (λ octet. ltb octet 128) (octet ∷ rest) ≡ 0 = rw test refl in
+      (omega (arith, first), ap (λ (k : ℕ). drop (k + 1) (octet ∷ rest)) first ∙ ap (λ (y : ℕ × List ℕ). y.1) (some_is made (n, after) found))
+  | inr le ↦
+      let test = le-ltb octet 128 le in
+      let found : (varint_at rest >>= λ high. cond (ltb 0 high.0) (Some (octet - 128 + 128 * high.0, high.1)) None) ≡ Some (n, after) = rw test at e in
+      let p = bind_some (varint_at rest) (λ high. cond (ltb 0 high.0) (Some (octet - 128 + 128 * high.0, high.1)) None) (n, after) found in
+      let g = if_some (ltb 0 p.0.0) (octet - 128 + 128 * p.0.0, p.0.1) (n, after) p.2 in
+      let more = ends_at rest p.0.0 p.0.1 p.1 in
+      let first : position_or_len (λ octet. ltb octet 128) (octet ∷ rest) ≡ suc (position_or_len (λ octet. ltb octet 128) rest) = rw test (omega arith) in (
+        omega (arith, more.0, first),
+        ap (λ (k : ℕ). drop (k + 1) (octet ∷ rest)) first ∙ ap (λ (k : ℕ). drop k (octet ∷ rest)) (add-one (suc (position_or_len (λ octet. ltb octet 128) rest)))
+            ∙ ap (λ (k : ℕ). drop k rest) (sym (add-one (position_or_len (λ octet. ltb octet 128) rest))) ∙ more.1 ∙ ap (λ (y : ℕ × List ℕ). y.1) g.1,
+      )
+]
+
+pub varint_ends : (octets : List ℕ) (n : ℕ) (after : List ℕ) → short_varint_at octets ≡ Some (n, after) →
+    (last : ℕ) × (last < length octets) × (position (λ octet. ltb octet 128) octets ≡ Some last) × (drop (last + 1) octets ≡ after)
+unfolding short_varint_at
+varint_ends octets n after e =
+    let p = bind_some (varint_at octets) (λ a. cond (is_short a.0) (Some a) None) (n, after) e in
+    let g = test_some (is_short p.0.0) p.0 (n, after) p.2 in
+    let more = ends_at octets p.0.0 p.0.1 p.1 in
+    let last = position_or_len (λ octet. ltb octet 128) octets in
+    (last, more.0, rw (lt-ltb last (length octets) more.0) refl, more.1 ∙ ap (λ (y : ℕ × List ℕ). y.1) g.1)

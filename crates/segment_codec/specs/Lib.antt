@@ -5,4 +5,5 @@ pub mod KeyColumn
 pub mod RawColumn
 pub mod Segment
 pub mod OneColumn
+pub mod RangeColumn
 pub mod Laws

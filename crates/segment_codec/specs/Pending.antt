@@ -39,3 +39,7 @@ unread_number pending octets = pending.bits * 2 ^ (8 * length octets) + number_f
 -- a number was read from their front
 abbrev pub HasUnpacked : ℕ → Pending → List ℕ → Pending → List ℕ → Type 0
 HasUnpacked number pending octets next rest = number * 2 ^ unread_bits next rest + unread_number next rest ≡ unread_number pending octets
+
+-- octets end with the bits that are next, and octets behind them
+abbrev pub IsBehind : List ℕ → Pending → List ℕ → Type 0
+IsBehind octets next rest = (high : ℕ) × (high * 2 ^ unread_bits next rest + unread_number next rest ≡ number_from_digits 8 octets)

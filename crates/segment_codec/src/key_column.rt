@@ -13,7 +13,7 @@ use std::alloc::{AllocError, Global};
 
 /// The first key, and the octets after it.
 #[tactic(auto, unfolding(crate::specs::KeyColumn::first_key_at))]
-fn first_key_at(octets: &[u8]) -> Result<(Key, &[u8]), Short>
+pub(crate) fn first_key_at(octets: &[u8]) -> Result<(Key, &[u8]), Short>
     ensures { Answers (λ x. (x.0, x.1.now)) result (first_key_at octets.now) }
 {
     let (time, rest) = i64_at(octets)?;
@@ -23,7 +23,7 @@ fn first_key_at(octets: &[u8]) -> Result<(Key, &[u8]), Short>
 
 /// The key behind another, and the octets after its gap.
 #[tactic(auto, unfolding(crate::specs::KeyColumn::key_after_at, crate::specs::KeyColumn::is_gap))]
-fn key_after_at(last: Key, octets: &[u8]) -> Result<(Key, &[u8]), Short>
+pub(crate) fn key_after_at(last: Key, octets: &[u8]) -> Result<(Key, &[u8]), Short>
     ensures { Answers (λ x. (x.0, x.1.now)) result (key_after_at last octets.now) }
 {
     let (gap, rest) = varint_at(octets)?;

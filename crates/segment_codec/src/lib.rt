@@ -4,8 +4,9 @@
 //! for each parameter. `IsSegment` of specs/Segment.antt says which segments the format admits by itself, and
 //! `segment_octets` what each is spelled as: `write_segment` gives just that, `read_segment` accepts these spellings
 //! and nothing else, from any octets and any place in them, and no spelling begins another (`laws`). `read_column`
-//! decodes the keys and one column alone, `read_parameters` the parameters alone. That times lie in an interval, and
-//! values in the width of a database's parameters, isn't asked here: a set of segments asks it.
+//! decodes the keys and one column alone, `read_column_in_range` of these the rows of a range of times, and
+//! `read_parameters` the parameters alone. That times lie in an interval, and values in the width of a database's
+//! parameters, isn't asked here: a set of segments asks it.
 //!
 //! The one idea of the proof: what is read is a composition of exact readers (octet_fields); the code mirrors it. By
 //! hand are the leaves of this crate: the varint (proofs/Varints.antt), numbers of a width without gaps (Numbers and
@@ -15,7 +16,7 @@
 //!
 //! A raw column has one spelling because its least value, its width and its last bits are asked again when it's read.
 //! A new form of column wants, together, its line in `raw_column`, its reader in `raw_column_at`, an arm each of
-//! `raw_column_at` and `put_raw_column`, and its length in `column_end`.
+//! `raw_column_at`, `values_in_rows` and `put_raw_column`, and its length in `column_end`.
 #![tactic(auto)]
 
 mod bits;
@@ -24,6 +25,7 @@ mod key_column;
 pub mod laws;
 mod one_column;
 mod parameters;
+mod range_column;
 mod raw_column;
 mod reading;
 mod segment;
@@ -34,6 +36,7 @@ mod writing;
 pub use fault::NotASegment;
 pub use one_column::{ParameterColumn, read_column};
 pub use parameters::read_parameters;
+pub use range_column::read_column_in_range;
 pub use reading::read_segment;
 pub use segment::{ColumnList, KeyList, MOST_ROWS, ParameterList, RawColumn, Segment};
 pub use writing::{put_segment, write_segment};

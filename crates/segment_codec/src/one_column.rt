@@ -40,7 +40,7 @@ fn column_end(rows: u16, octets: &[u8]) -> Result<&[u8], Short>
 }
 
 /// The octets after so many raw columns.
-fn columns_end(columns: usize, rows: u16, octets: &[u8]) -> Result<&[u8], Short>
+pub(crate) fn columns_end(columns: usize, rows: u16, octets: &[u8]) -> Result<&[u8], Short>
     ensures { Answers (λ x. x.now) result (columns_end columns rows octets.now) }
 {
     let mut rest = octets;
@@ -51,7 +51,7 @@ fn columns_end(columns: usize, rows: u16, octets: &[u8]) -> Result<&[u8], Short>
 }
 
 /// The place of a parameter.
-fn place_of(parameters: &[u16], parameter: u16) -> Option<usize>
+pub(crate) fn place_of(parameters: &[u16], parameter: u16) -> Option<usize>
     ensures { result ≡ position (λ p. p == parameter) parameters.now }
 {
     parameters.iter().position(|p| *p == parameter)

@@ -1,6 +1,6 @@
 //! Raw columns, both ways.
 
-ghost use Rattle.std.specs.Prelude.{◌≡◌, ◌≤◌, ◌++◌, ◌∷◌, length, pos, IfSome, OnOk, fold};
+ghost use Rattle.std.specs.Prelude.{◌≡◌, ◌+◌, ◌≤◌, ◌++◌, ◌∷◌, ℕ, ℤ, List, length, take, drop, pos, Some, IfOk, IfSome, OnOk, fold};
 ghost use Rattle.std.specs.Int.{w128, int_max, int_min};
 ghost use Rattle.octet_fields.specs.Answers.{Gives};
 ghost use Rattle.octet_fields.specs.Reading.{mapped_at};
@@ -10,7 +10,7 @@ ghost use Rattle.segment_codec.specs.Segment.{most_rows};
 
 use crate::bits::pack;
 use crate::segment::RawColumn;
-use crate::unpack::unpacked_at;
+use crate::unpack::{unpacked_at, unpacked_rows};
 use octet_fields::{DecodeError, i128_at, put_i128, u8_at};
 use std::alloc::{AllocError, Global};
 
@@ -62,6 +62,34 @@ pub(crate) fn raw_column_at(
         1 => varied_at(alloc, rows, rest),
         _ => Err(DecodeError::Malformed),
     }
+}
+
+/// The values of so many rows from a row on, where a raw column of so many rows stands at the front. No other is unpacked.
+pub(crate) fn values_in_rows(
+    alloc: Global,
+    rows: u16,
+    first: usize,
+    count: usize,
+    octets: &[u8],
+) -> Result<RawColumn, DecodeError>
+    requires some { 1 ≤ count }
+    requires within { first + count ≤ rows }
+    requires few { rows ≤ most_rows }
+    ensures { (values : List ℤ) (after : List ℕ) → raw_column_at rows octets.now ≡ Some (values, after) →
+        IfOk result (λ found. found ≡ take count (drop first values)) }
+{
+    let (form, rest) = u8_at(octets)?;
+    let (low, rest) = i128_at(rest)?;
+    if form == 0 {
+        let values = Vec::from_elem(alloc, low, count)?;
+        return Ok(RawColumn::from_vec(values));
+    }
+    let (width, rest) = u8_at(rest)?;
+    if width < 1 || width > 128 {
+        return Err(DecodeError::Malformed);
+    }
+    let rows = usize::from(rows);
+    unpacked_rows(alloc, rest, low, u32::from(width), rows, first, count)
 }
 
 /// A value as a number of 64 bits, where it's one.

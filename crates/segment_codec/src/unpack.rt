@@ -1,11 +1,12 @@
 //! Reads numbers of one width, one after the other, without gaps, as values above a least one. 64 bits come in at once.
 
-ghost use Rattle.std.specs.Prelude.{◌≡◌, ◌+◌, ◌*◌, ◌/◌, ◌%◌, ◌^◌, ◌<◌, ◌≤◌, length};
+ghost use Rattle.std.specs.Prelude.{◌≡◌, ◌+◌, ◌*◌, ◌/◌, ◌%◌, ◌^◌, ◌<◌, ◌≤◌, ℕ, List, length, map, take, drop, Some, IfOk};
 ghost use Rattle.octet_fields.specs.Answers.{Gives};
+ghost use Rattle.octet_fields.specs.Exact.{IsOctets};
 ghost use Rattle.octet_fields.specs.Reading.{mapped_at};
 ghost use Rattle.segment_codec.specs.Bits.{number_from_digits, packed_at};
-ghost use Rattle.segment_codec.specs.Pending.{HasUnpacked, IsPending, unread_bits, unread_number};
-ghost use Rattle.segment_codec.specs.RawColumn.{unpacked};
+ghost use Rattle.segment_codec.specs.Pending.{HasUnpacked, IsPending, IsBehind, unread_bits, unread_number};
+ghost use Rattle.segment_codec.specs.RawColumn.{unpacked, value_above};
 ghost use Rattle.segment_codec.specs.Segment.{most_rows};
 
 use crate::bits::Pending;
@@ -36,6 +37,7 @@ fn refill(rest: &[u8], pending: Pending, width: u32) -> (Pending, &[u8])
     ensures bits { result.0.bits < 2 ^ result.0.count }
     ensures len { unread_bits result.0 result.1.now ≡ unread_bits pending rest.now }
     ensures same { unread_number result.0 result.1.now ≡ unread_number pending rest.now }
+    ensures octets { IsOctets result.1.now }
 {
     if width <= pending.count {
         return (pending, rest);
@@ -80,6 +82,7 @@ fn take(rest: &[u8], pending: Pending, width: u32) -> (u64, Pending, &[u8])
     ensures number { result.0 < 2 ^ width }
     ensures len { unread_bits result.1 result.2.now + width ≡ unread_bits pending rest.now }
     ensures same { HasUnpacked result.0 pending rest.now result.1 result.2.now }
+    ensures octets { IsOctets result.2.now }
 {
     if width <= pending.count {
         let (number, behind) = take_at_hand(pending, width);
@@ -102,6 +105,7 @@ fn take_wide(rest: &[u8], pending: Pending, width: u32) -> (u128, Pending, &[u8]
     ensures number { result.0 < 2 ^ width }
     ensures len { unread_bits result.1 result.2.now + width ≡ unread_bits pending rest.now }
     ensures same { HasUnpacked result.0 pending rest.now result.1 result.2.now }
+    ensures octets { IsOctets result.2.now }
 {
     if width <= 64 {
         let (number, after, behind) = take(rest, pending, width);
@@ -164,4 +168,56 @@ pub(crate) fn unpacked_at(
         has_zero,
     };
     Ok((kept, after))
+}
+
+/// What of octets stands behind so many bits.
+fn behind_bits(octets: &[u8], bits: usize) -> (Pending, &[u8])
+    requires { bits < 8 * length octets.now }
+    ensures pending { IsPending result.0 }
+    ensures len { unread_bits result.0 result.1.now + bits ≡ 8 * length octets.now }
+    ensures same { IsBehind octets.now result.0 result.1.now }
+    ensures octets { IsOctets result.1.now }
+{
+    let (_, rest) = octets.split_at(bits / 8);
+    let count = 8 - (bits % 8) as u32;
+    let bits = u128::from(rest[0]) & ((1u128 << count) - 1);
+    let (_, after) = rest.split_at(1);
+    (Pending { bits, count }, after)
+}
+
+/// The values of so many rows from a row on, where the numbers of so many rows stand at the front, of a width each. No other
+/// number is unpacked.
+pub(crate) fn unpacked_rows(
+    alloc: Global,
+    octets: &[u8],
+    low: i128,
+    width: u32,
+    rows: usize,
+    first: usize,
+    count: usize,
+) -> Result<RawColumn, DecodeError>
+    requires thin { width ≤ 128 }
+    requires wide { 1 ≤ width }
+    requires some { 1 ≤ count }
+    requires within { first + count ≤ rows }
+    requires few { rows ≤ most_rows }
+    ensures { (numbers : List ℕ) (after : List ℕ) → packed_at width rows octets.now ≡ Some (numbers, after) →
+        IfOk result (λ values. values ≡ map (value_above low) (take count (drop first numbers))) }
+{
+    let octet_len = (width as usize * rows + 7) / 8;
+    if octets.len() < octet_len {
+        return Err(DecodeError::Malformed);
+    }
+    let (front, _) = octets.split_at(octet_len);
+    let (start, behind_start) = behind_bits(front, width as usize * first);
+    let mut values = Vec::with_capacity(alloc, count)?;
+    let mut pending = start;
+    let mut rest = behind_start;
+    for _ in 0..count {
+        let (number, next, behind) = take_wide(rest, pending, width);
+        values.push(low.wrapping_add_unsigned(number))?;
+        pending = next;
+        rest = behind;
+    }
+    Ok(RawColumn::from_vec(values))
 }

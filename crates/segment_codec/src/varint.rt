@@ -1,6 +1,7 @@
 //! Unsigned varints. They're written from 64 bits and read in 64 bits: the gap of two keys within weeks has no more.
 
-ghost use Rattle.std.specs.Prelude.{◌≡◌, ◌++◌, ◌∷◌, [], Some, IfOk, OnOk, MatchResult};
+ghost use Rattle.std.specs.Prelude.{◌≡◌, ◌++◌, ◌∷◌, [], ℕ, List, Some, IfOk, OnOk, MatchResult, nat_lt};
+ghost use Rattle.std.specs.List.{position};
 ghost use Rattle.octet_fields.specs.Answers.{Answers};
 ghost use Rattle.segment_codec.specs.Varint.{varint, short_varint_at};
 
@@ -105,4 +106,23 @@ pub(crate) fn varint_at(octets: &[u8]) -> Result<(u128, &[u8]), Short>
         Ok((word, rest)) => Ok((u128::from(word), rest)),
         Err(_) => wide_varint_at(octets),
     }
+}
+
+/// The place of the last octet of the varint at the front.
+fn last_octet(octets: &[u8]) -> Option<usize>
+    ensures { result ≡ position (λ octet. nat_lt octet 128) octets.now }
+{
+    octets.iter().position(|octet| *octet < 128)
+}
+
+/// The octets after the varint at the front, whose number isn't asked for.
+pub(crate) fn varint_end(octets: &[u8]) -> Result<&[u8], Short>
+    ensures { (n : ℕ) (after : List ℕ) → short_varint_at octets.now ≡ Some (n, after) →
+        IfOk result (λ rest. rest.now ≡ after) }
+{
+    let Some(last) = last_octet(octets) else {
+        return Err(Short);
+    };
+    let (_, rest) = octets.split_at(last + 1);
+    Ok(rest)
 }

@@ -1,3 +1,4 @@
+use Rattle.param_segments.specs.Cells.{segment_cells}
 use Rattle.param_segments.proofs.Starts.{at_start, cells_done, cells_more, segment_number}
 use Rattle.param_segments.proofs.cells.gathered_cells.Goals as goal
 
@@ -9,8 +10,8 @@ loop-start-preserved c =
     let octets = c.args.octets.now in
     let starts = c.args.starts.now in
     let i = c.loop-start.start-index in
-    cells_more octets starts c.args.parameter i c.loop-start.cells.items c.put_segment_cells.new.cells.items c.requires c.loop-start-test.true
+    cells_more (segment_cells c.args.parameter) octets starts i c.loop-start.cells.items c.put_segment_cells.new.cells.items c.requires c.loop-start-test.true
     (c.in_ok-put_segment_cells.ensures (segment_number octets i) (at_start octets starts i c.requires c.loop-start-test.true)) c.loop-start.invariant
 
 pub returns : goal.returns
-returns c = cells_done c.args.octets.now c.args.starts.now c.args.parameter c.loop-start.start-index c.loop-start.cells.items c.requires c.loop-start-test.false c.loop-start.invariant
+returns c = cells_done (segment_cells c.args.parameter) c.args.octets.now c.args.starts.now c.loop-start.start-index c.loop-start.cells.items c.requires c.loop-start-test.false c.loop-start.invariant

@@ -1,9 +1,6 @@
 use Rattle.std.proofs.Common.{◌≡◌, ◌∙◌, List, ap, map, subst, sym}
 use Rattle.std.specs.List.{AllByRecursion}
-use Rattle.std.proofs.lemmas.Result.{err_from_is_err_and}
-use Rattle.intervals.specs.Interval.{interval_of}
 use Rattle.segment_codec.specs.declared.segment.Segment.{Segment}
-use Rattle.param_segments.specs.declared.row_place.RowPlace.{RowPlace}
 use Rattle.param_segments.specs.Cells.{AreValuesOf}
 use Rattle.param_segments.specs.RowPlaces.{IsRowPlace, IsSegmentOf, placed_row}
 use Rattle.param_segments.specs.Rows.{AreSetRows}

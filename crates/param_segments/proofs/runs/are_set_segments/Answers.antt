@@ -1,7 +1,5 @@
-use Rattle.std.proofs.Common.{◌≡◌, ◌∙◌, ◌<◌, List, ℕ, Option, Some, ap, length, map, subst, sym}
+use Rattle.std.proofs.Common.{◌≡◌, ◌∙◌, List, ℕ, Option, Some, ap, length, map, subst, sym}
 use Rattle.std.specs.Prelude.{IfSome}
-use Rattle.std.specs.List.{AllByRecursion}
-use Rattle.param_segments.specs.declared.row_place.RowPlace.{RowPlace}
 use Rattle.param_segments.specs.declared.runs.Runs.{Runs}
 use Rattle.param_segments.specs.Runs.{AreRunsSoFar, count_in_order, place_group}
 use Rattle.param_segments.proofs.RunSteps.{numbers_len, places_numbered, runs_are}

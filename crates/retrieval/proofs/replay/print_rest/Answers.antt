@@ -19,7 +19,7 @@ returns-in_err-rows-clause-printed g c =
     let now = (g.K.Sink.state c.steps.sink).written in
     let all = c.args.line_buffer.now ++ lines (rest_of c.args.cursor history) in
     let p = err_from_is_err_and c.from_residual.result c.from_residual.ensures.1 in
-    rw (p.1, p.2) (record {
+    rw (p.1, p.2 ∙ c.in_err-rows.ensures.refused) (record {
       some = buffered_front first now all (c.steps.line_buffer ++ lines (rest_of c.steps.cursor history)) c.steps.invariant.buffered;
       no_fault = c.steps.invariant.no_fault;
     })

@@ -34,3 +34,6 @@ pub returns-then-width-pending-clause-same : goal.returns-then-width-pending-cla
 returns-then-width-pending-clause-same c =
     rw (c.take_at_hand-number.ensures.high, c.take_at_hand-number.ensures.low)
     (cut_same c.args.pending.bits c.take_at_hand-number.result.1.count (length c.args.rest.now) (number_from_digits 8 c.args.rest.now))
+
+pub returns-then-width-pending-clause-octets : goal.returns-then-width-pending-clause-octets
+returns-then-width-pending-clause-octets c = λ i. omega (arith, c.type_inv.rest i)

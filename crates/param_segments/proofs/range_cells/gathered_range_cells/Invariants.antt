@@ -1,0 +1,9 @@
+use Rattle.std.proofs.Common.{◌≡◌, take}
+use Rattle.std.specs.Prelude.{flat_map}
+use Rattle.param_segments.specs.CellRange.{segment_cells_in_range}
+use Rattle.param_segments.specs.Groups.{set_of}
+use Rattle.param_segments.specs.Octets.{rows_in_octets}
+use Rattle.param_segments.proofs.range_cells.gathered_range_cells.Given as goal
+
+abbrev pub invariant-loop-start : goal.invariant-loop-start
+invariant-loop-start l = l.cells.items ≡ flat_map (segment_cells_in_range l.parameter l.range.from l.range.to) (take l.start-index (set_of (rows_in_octets l.octets)))

@@ -1,0 +1,168 @@
+//! Reads what a segment has of a parameter in a range of times. Its keys are walked to the range's end, those behind it are
+//! passed over, and no value of a row outside is unpacked.
+
+ghost use Rattle.std.specs.Prelude.{◌≡◌, ◌+◌, ◌<◌, ◌≤◌, ◌++◌, ◌∷◌, [], List, ℕ, length, option_map, Option, Some, IfOk, OnOk};
+ghost use Rattle.arch_types.specs.declared.key.Key.{Key as AKey};
+ghost use Rattle.segment_codec.specs.KeyColumn.{keys_at};
+ghost use Rattle.segment_codec.specs.OneColumn.{column_at_place, column_of};
+ghost use Rattle.segment_codec.specs.RangeColumn.{AreKeysUpTo, IsSpanOf, column_in_range, rows_in_range};
+ghost use Rattle.segment_codec.specs.Segment.{HasSegmentAt, most_rows};
+ghost use Rattle.segment_codec.specs.declared.one_column.ParameterColumn.{ParameterColumn as AColumn};
+ghost use Rattle.segment_codec.specs.declared.segment.Segment.{Segment};
+
+use crate::key_column::{first_key_at, key_after_at};
+use crate::one_column::{ParameterColumn, columns_end, place_of};
+use crate::parameters::counted_parameters_at;
+use crate::raw_column::values_in_rows;
+use crate::reading::row_count_at;
+use crate::segment::{KeyList, RawColumn};
+use crate::varint::varint_end;
+use arch_types::key::Key;
+use octet_fields::{DecodeError, Short};
+use std::alloc::{AllocError, Global};
+
+/// The keys of a segment in a range of times.
+#[derive(Drop)]
+pub(crate) struct KeySpan {
+    /// How many keys of the segment are before the range.
+    pub(crate) before: u16,
+    /// Those in it.
+    pub(crate) keys: KeyList,
+}
+
+impl KeySpan {
+    /// Takes the next key of the segment.
+    fn take(&mut self, from: i64, to: i64, key: Key) -> Result<(), AllocError>
+        requires { self.old.before < 65535 }
+        ensures { OnOk result ((keys : List AKey) → IsSpanOf from to keys self.old →
+            IsSpanOf from to (keys ++ key ∷ []) self.new) }
+    {
+        if key.time < from {
+            self.before += 1;
+            return Ok(());
+        }
+        if key.time >= to {
+            return Ok(());
+        }
+        self.keys.push(key)
+    }
+}
+
+/// The keys of a range among so many that stand at the front; how many behind its end were not read; and the octets where
+/// these stand.
+fn walked_keys(
+    alloc: Global,
+    count: u16,
+    from: i64,
+    to: i64,
+    octets: &[u8],
+) -> Result<(KeySpan, u16, &[u8]), DecodeError>
+    requires { 1 ≤ count }
+    ensures within { IfOk result (λ x. x.0.before + length x.0.keys ≤ count) }
+    ensures span { (keys : List AKey) (after : List ℕ) → keys_at count octets.now ≡ Some (keys, after) →
+        IfOk result (λ x. IsSpanOf from to keys x.0) }
+    ensures unread { (keys : List AKey) (after : List ℕ) → keys_at count octets.now ≡ Some (keys, after) →
+        IfOk result (λ x. AreKeysUpTo x.1 x.2.now after) }
+{
+    let (first, after_first) = first_key_at(octets)?;
+    let mut span = KeySpan {
+        before: 0,
+        keys: KeyList::new(alloc),
+    };
+    span.take(from, to, first)?;
+    let mut last = first;
+    let mut rest = after_first;
+    for read in 1..count {
+        // keys rise, so none behind is in the range, and none is before it
+        if last.time >= from && last.time >= to {
+            return Ok((span, count - read, rest));
+        }
+        let (key, after) = key_after_at(last, rest)?;
+        span.take(from, to, key)?;
+        last = key;
+        rest = after;
+    }
+    Ok((span, 0, rest))
+}
+
+/// The octets behind so many keys, each behind the one before. None is decoded.
+fn gaps_end(count: u16, octets: &[u8]) -> Result<&[u8], Short>
+    ensures { (after : List ℕ) → AreKeysUpTo count octets.now after → IfOk result (λ rest. rest.now ≡ after) }
+{
+    let mut rest = octets;
+    for _ in 0..count {
+        rest = varint_end(rest)?;
+    }
+    Ok(rest)
+}
+
+/// The rows of a range of times of the column at a place, where so many keys stand at the front, and the columns behind.
+fn column_rows(
+    alloc: Global,
+    rows: u16,
+    place: usize,
+    from: i64,
+    to: i64,
+    octets: &[u8],
+) -> Result<ParameterColumn, DecodeError>
+    requires some { 1 ≤ rows }
+    requires few { rows ≤ most_rows }
+    ensures { (column : AColumn) → column_at_place rows (Some place) octets.now ≡ Some (Some column) →
+        IfOk result (λ found. found ≡ rows_in_range from to column) }
+{
+    let (span, unread, rest) = walked_keys(alloc, rows, from, to, octets)?;
+    let KeySpan { before, keys } = span;
+    let count = keys.len();
+    if count == 0 {
+        let values = RawColumn::new(alloc);
+        return Ok(ParameterColumn { keys, values });
+    }
+    let rest = gaps_end(unread, rest)?;
+    let rest = columns_end(place, rows, rest)?;
+    let values = values_in_rows(alloc, rows, usize::from(before), count, rest)?;
+    Ok(ParameterColumn { keys, values })
+}
+
+/// The rows of a range of times of the column of a parameter in the segment that stands at the front.
+fn range_column(
+    alloc: Global,
+    octets: &[u8],
+    parameter: u16,
+    from: i64,
+    to: i64,
+) -> Result<Option<ParameterColumn>, DecodeError>
+    ensures { (column : Option AColumn) → column_of parameter octets.now ≡ Some column →
+        IfOk result (λ found. found ≡ option_map (rows_in_range from to) column) }
+{
+    let (parameters, rest) = counted_parameters_at(alloc, octets)?;
+    let (rows, rest) = row_count_at(rest)?;
+    match place_of(parameters.as_slice(), parameter) {
+        None => Ok(None),
+        Some(place) => {
+            let column = column_rows(alloc, rows, place, from, to, rest)?;
+            Ok(Some(column))
+        }
+    }
+}
+
+/// The keys and the raw values of a parameter with `from <= time < to`, in milliseconds, in the segment whose spelling
+/// stands in octets from a place on, or nothing where the segment hasn't the parameter. No other value is unpacked.
+pub fn read_column_in_range(
+    alloc: Global,
+    octets: &[u8],
+    at: usize,
+    parameter: u16,
+    from: i64,
+    to: i64,
+) -> Result<Option<ParameterColumn>, AllocError>
+    requires { (s : Segment) × HasSegmentAt octets.now at s }
+    ensures { (s : Segment) → HasSegmentAt octets.now at s →
+        IfOk result (λ c. c ≡ column_in_range parameter from to s) }
+{
+    let (_, front) = octets.split_at(at);
+    match range_column(alloc, front, parameter, from, to) {
+        Ok(column) => Ok(column),
+        // a segment stands there, so nothing but memory can have been wanting
+        Err(_) => Err(AllocError),
+    }
+}
