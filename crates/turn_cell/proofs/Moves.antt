@@ -14,7 +14,7 @@ use Rattle.turn_cell.specs.declared.view.View.{View}
 use Rattle.turn_cell.specs.declared.view.Stage.{Stage}
 use Rattle.turn_cell.specs.declared.view.Stage.TheVariants.{Idle, Waits, Turn}
 use Rattle.turn_cell.specs.Lists.{first_list, ListKept}
-use Rattle.turn_cell.specs.Turn.{HasTicket, StageFits, tickets_at, HasNoTurn, history_of, fills_of, share_of, tickets_of, Unused, Fits, first_view, spent_view, Settled, both_views, kept_view, given_view, Home, Away, Slot, Kept, Served, Looked, found_view, left_view, seen_more, Wrote, Drawn, Passed, FrontRead}
+use Rattle.turn_cell.specs.Turn.{HasTicket, StageFits, tickets_at, HasNoTurn, history_of, fills_of, share_of, tickets_of, Unused, Fits, first_view, spent_view, Settled, both_views, kept_view, given_view, Home, Away, Slot, Kept, Served, Looked, found_view, left_view, seen_more, HasGrown, Told, FrontFound, Wrote, Drawn, Passed, FrontRead}
 use Rattle.turn_cell.proofs.Fronts.{prefix_self, prefix_shorter}
 use Rattle.turn_cell.proofs.Lists.{total-append, total_alone, sum_set, at_here, at_only, each_set, each_more, list_opens, list_sees, list_same, list_grows, list_more, list_joins, list_closes, both_begin}
 
@@ -252,6 +252,41 @@ module _ {T I F : Type 0} (history_in : T → List I) (fills_in : T → List F) 
         (λ z e. let same : y ≡ z = ap (hand_of y) (sym hand ∙ e) in ap (λ (z : T). (left_view v (history_in z) (fills_in z), c)) same),
       )
 
+  pub finds : (slots id t : ℕ) (v : View I F T) (y : T) (c : List (ℕ × Option T)) → v.stage ≡ Turn t → c ≡ (0, Some y) ∷ [] → IsPrefix v.history.list.seen (history_in y) → IsPrefix v.fills.list.seen (fills_in y) → 0 < v.share
+      → Allows Rule slots id (v, c) 2 (λ n. n) (λ n m'. FrontFound history_in fills_in (step slots 2 0 0 maybe.none) (v, c) n m')
+  finds slots id t v y c turn hand grows fills_grow live s r len at fits =
+      let a = in_turn s r id t v at turn in
+      let f = r.each id v at in
+      let n : ℕ = get_or s.words 2 0 in
+      let here : n ≡ length r.history = ap (λ (ws : List ℕ). get_or ws 2 0) r.words_are in
+      let w : View I F T = left_view v (history_in y) (fills_in y) in
+      let m : Me (Option T) (View I F T) = (v, c) in
+      let Found : Bool → T → Me (Option T) (View I F T) → Type 0 = λ b z m'. MatchBool b (m' ≡ (left_view v (history_in z) (fills_in z), c)) (m' ≡ m) in
+      let mine : (z : T) → c ≡ (0, Some z) ∷ [] → y ≡ z = λ z e. ap (hand_of y) (sym hand ∙ e) in
+      dite (ℕ_discrete n (length (history_in y)))
+      (λ (hit : n ≡ length (history_in y)). (
+        w,
+        keeps,
+        tt,
+        moves s r id v w _ s.homes r.ticket r.serving (history_in y) (fills_in y) at (ap (λ (ws : List ℕ). set ws 2 (get_or ws 2 0)) r.words_are ∙ ap (λ (k : ℕ). r.ticket ∷ r.serving ∷ k ∷ []) (sym here ∙ hit))
+            (inr (a.0, (id, w, at_here s.views id v w at, turn ∙ ap Turn a.3, refl, refl)))
+            (list_grows history_of s.views id v w r.history (history_in y) r.history_kept at a.1 grows refl)
+            (list_grows fills_of s.views id v w r.fills (fills_in y) r.fills_kept at a.2 fills_grow refl)
+            (f.0, (λ z. absurd (omega (arith, z, live))), f.2)
+            (λ j u ne e g. g)
+            (λ j k u ne e ha hb. ne (sym (r.apart id j k v u at e ha hb)))
+            refl
+            refl,
+        (λ z e. subst (λ (z : T). Found (eqb n (length (history_in z))) z (w, c)) (mine z e) (subst (λ (b : Bool). Found b y (w, c)) (sym (eq-eqb n (length (history_in y)) hit)) refl)),
+      ))
+      (λ (miss : n ≢ length (history_in y)). (
+        v,
+        keeps,
+        tt,
+        stays s r 2 id v at,
+        (λ z e. subst (λ (z : T). Found (eqb n (length (history_in z))) z m) (mine z e) (subst (λ (b : Bool). Found b y m) (sym (ne_eqb n (length (history_in y)) miss)) refl)),
+      ))
+
   pub passes : (slots id t : ℕ) (v : View I F T) (y : T) (c : List (ℕ × Option T)) → v.stage ≡ Turn t → c ≡ (0, Some y) ∷ [] → history_in y ≡ v.history.list.seen → fills_in y ≡ v.fills.list.seen → goes_on x y → 0 < v.share
       → Allows Rule slots id (v, c) 1 (λ _. t + 1) (λ _ m'. Passed (step slots 1 (t + 1) 0 maybe.none) (v, c) (t + 1) m')
   passes slots id t v y c turn hand is fills_are on live = subst (λ (c : List (ℕ × Option T)). Allows Rule slots id (v, c) 1 (λ _. t + 1) (λ _ m'. Passed (step slots 1 (t + 1) 0 maybe.none) (v, c) (t + 1) m')) (sym hand) (λ s r len at fits.
@@ -402,6 +437,19 @@ module _ {T I F : Type 0} (history_in : T → List I) (fills_in : T → List F) 
   pub closed_as : (x : T) (id : ℕ) (v : View I F T) (words : List ℕ) (slots : List (Option T)) (o : Option T) (y : T) → Final (Seen (Kept history_in fills_in goes_on x) id v) words slots → v.share ≡ 2 ^ 63 → v.stage ≡ Idle → get_elem? slots 0 ≡ some o → o ≡ Some y
       → Whole history_in fills_in goes_on x v y
   closed_as x id v words slots o y final all idle e is = let k = closed_with x id v words slots o final all idle e in subst (Whole history_in fills_in goes_on x v) (some_is o k.0 y k.1 is) k.2
+
+module _ {T I F : Type 0} (history_in : T → List I) (fills_in : T → List F) where
+  pub front_hit : (slots n k : ℕ) (m m' : Me (Option T) (View I F T)) → FrontFound history_in fills_in (step slots 2 0 0 maybe.none) m n m' → HasGrown history_in fills_in m k → n ≡ k → Told history_in fills_in m m'
+  front_hit slots n k m m' found grown hit z e =
+      let same : grown.1 ≡ z = ap (hand_of grown.1) (sym grown.3 ∙ e) in
+      let is : n ≡ length (history_in z) = hit ∙ (grown.6 ∙ ap (λ (z : T). length (history_in z)) same) in
+      subst (λ (b : Bool). MatchBool b (m' ≡ (left_view m.0 (history_in z) (fills_in z), m.1)) (m' ≡ m)) (eq-eqb n (length (history_in z)) is) (found z e)
+
+  pub front_miss : (slots n k : ℕ) (m m' : Me (Option T) (View I F T)) → FrontFound history_in fills_in (step slots 2 0 0 maybe.none) m n m' → HasGrown history_in fills_in m k → n ≢ k → m' ≡ m
+  front_miss slots n k m m' found grown miss =
+      let y : T = grown.1 in
+      let other : n ≢ length (history_in y) = λ e. miss (e ∙ sym grown.6) in
+      subst (λ (b : Bool). MatchBool b (m' ≡ (left_view m.0 (history_in y) (fills_in y), m.1)) (m' ≡ m)) (ne_eqb n (length (history_in y)) other) (found y grown.3)
 
 -- what a look after a join tells
 pub united : {T I F : Type 0} (slots n : ℕ) (v w : View I F T) (c : List (ℕ × Option T)) (m m' : Me (Option T) (View I F T)) → m ≡ (both_views v w, c) → Settled (step slots 0 0 0 maybe.none) m n m'

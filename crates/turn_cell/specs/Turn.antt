@@ -140,9 +140,23 @@ module _ {T I F : Type 0} (history_in : T → List I) (fills_in : T → List F) 
   abbrev pub first_view : T → View I F T
   first_view x = record { history = first_list (history_in x); fills = first_list (fills_in x); share = 2 ^ 63; turns = 0; stage = Idle; first = Some x }
 
+  -- the slot that is out has a value whose lists begin with those seen, and whose history has this length
+  abbrev pub HasGrown : Me (Option T) (View I F T) → ℕ → Type 0
+  HasGrown m n =
+      (t : ℕ) × (y : T) × (m.0.stage ≡ Turn t) × (m.1 ≡ (0, Some y) ∷ [])
+      × IsPrefix m.0.history.list.seen (history_in y) × IsPrefix m.0.fills.list.seen (fills_in y) × (n ≡ length (history_in y))
+
   -- the lists of the value in hand are those seen from now on
+  abbrev pub Told : Me (Option T) (View I F T) → Me (Option T) (View I F T) → Type 0
+  Told m m' = (y : T) → m.1 ≡ (0, Some y) ∷ [] → m' ≡ (left_view m.0 (history_in y) (fills_in y), m.1)
+
   abbrev pub Wrote : Step (Option T) → Me (Option T) (View I F T) → ℕ → Me (Option T) (View I F T) → Type 0
-  Wrote st m n m' = (y : T) → m.1 ≡ (0, Some y) ∷ [] → m' ≡ (left_view m.0 (history_in y) (fills_in y), m.1)
+  Wrote st m n m' = Told m m'
+
+  -- a history as long as the front read needs no telling, and of a longer one nothing was told
+  abbrev pub FrontFound : Step (Option T) → Me (Option T) (View I F T) → ℕ → Me (Option T) (View I F T) → Type 0
+  FrontFound st m n m' = (y : T) → m.1 ≡ (0, Some y) ∷ [] →
+      MatchBool (eqb n (length (history_in y))) (m' ≡ (left_view m.0 (history_in y) (fills_in y), m.1)) (m' ≡ m)
 
 module _ {T I F : Type 0} where
   -- the ticket was drawn, or was no longer the next one

@@ -6,8 +6,8 @@ ghost use Rattle.turn_cell.specs.Lists.{first_seen};
 ghost use Rattle.turn_cell.specs.Pass.{IsFree, HasTurn, Found, Left, SameButFront, kept_half, given_half, both_passes};
 
 use crate::growing::Growing;
-use crate::seats::{draw, read_front, unite, wait};
-use crate::steps::{Halve, PassOn, Turns, WriteFront};
+use crate::seats::{draw, read_front, tell_front, unite, wait};
+use crate::steps::{Halve, PassOn, Turns};
 use crate::view::View;
 use atomic_table::{Refused, Seat, Table};
 use std::alloc::{AllocError, Global};
@@ -126,7 +126,7 @@ impl<T: Growing> TurnCell<T> {
         let shared = &self.table.shared;
         let old = pass.seat.slot_mut(shared, 0).replace(value);
         let None = old else { unreachable!() };
-        shared.store::<WriteFront>(&mut pass.seat, 2, front);
+        tell_front(shared, &mut pass.seat, front);
         shared.store::<PassOn>(&mut pass.seat, 1, pass.ticket + 1);
     }
 

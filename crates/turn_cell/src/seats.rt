@@ -3,10 +3,10 @@
 ghost use Rattle.std.specs.Prelude.{◌≡◌, ◌<◌, ◌^◌, ◌+◌, [], length};
 ghost use mathlib.Core.List.{IsPrefix};
 ghost use Rattle.turn_cell.specs.declared.view.Stage.TheVariants.{Idle, Waits};
-ghost use Rattle.turn_cell.specs.Turn.{IsCell, IsSeatOf, IsAtRest, Served, both_views, seen_more};
+ghost use Rattle.turn_cell.specs.Turn.{IsCell, IsSeatOf, IsAtRest, Served, HasGrown, Told, both_views, seen_more};
 
 use crate::growing::Growing;
-use crate::steps::{Draw, Look, ReadFront, Settle, Turns, Unite};
+use crate::steps::{Draw, FindFront, Look, ReadFront, Settle, Turns, Unite, WriteFront};
 use crate::view::View;
 use atomic_table::{Seat, Shared};
 use crossbeam_utils::Backoff;
@@ -18,6 +18,9 @@ use std::sync::Wait;
 const LOOKS: u32 = 256;
 
 /// Draws a ticket, once the turn is free or was looked for often enough. After the last ticket it goes on for ever.
+/// It isn't inlined, nor is `wait`: beside their atomic steps the compiler would keep the zeros that it writes to a place
+/// before a value is moved there.
+#[inline(never)]
 pub(crate) fn draw<T: Growing, R: Wait>(
     rt: &R,
     shared: &Shared<Option<T>, View<T::Item, T::Fill, T>, Snapshot<T>, Turns>,
@@ -50,6 +53,7 @@ pub(crate) fn draw<T: Growing, R: Wait>(
 }
 
 /// Waits until the ticket is served.
+#[inline(never)]
 pub(crate) fn wait<T: Growing, R: Wait>(
     rt: &R,
     shared: &Shared<Option<T>, View<T::Item, T::Fill, T>, Snapshot<T>, Turns>,
@@ -70,6 +74,25 @@ pub(crate) fn wait<T: Growing, R: Wait>(
         backoff.snooze();
     }
     unreachable!()
+}
+
+/// Tells all how long the history of the value in the slot is. Who adds nothing writes nothing: the word stays where
+/// those who read it have it.
+pub(crate) fn tell_front<T: Growing>(
+    shared: &Shared<Option<T>, View<T::Item, T::Fill, T>, Snapshot<T>, Turns>,
+    seat: &mut Seat<Option<T>, View<T::Item, T::Fill, T>>,
+    front: u64,
+)
+    requires sized { IsCell shared.now.table_id }
+    requires own { IsSeatOf shared.now.table_id shared.now.key.value seat.old.table_id seat.old.me }
+    requires grown { HasGrown T.history T.fills seat.old.me front }
+    ensures same { (seat.new.table_id ≡ seat.old.table_id) × (seat.new.id ≡ seat.old.id) }
+    ensures told { Told T.history T.fills seat.old.me seat.new.me }
+{
+    if shared.load::<FindFront>(seat, 2) == front {
+        return;
+    }
+    shared.store::<WriteFront>(seat, 2, front);
 }
 
 /// Reads how long the history is. The seat has then seen as much of it.

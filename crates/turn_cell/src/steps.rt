@@ -1,6 +1,6 @@
 //! The rule of the cell, and its kinds of step, each with what it tells whoever takes it.
 
-ghost use Rattle.turn_cell.specs.Turn.{Kept, first_view, kept_view, given_view, both_views, spent_view, Drawn, Looked, Wrote, Passed, Settled, FrontRead};
+ghost use Rattle.turn_cell.specs.Turn.{Kept, first_view, kept_view, given_view, both_views, spent_view, Drawn, Looked, FrontFound, Wrote, Passed, Settled, FrontRead};
 
 use crate::growing::Growing;
 use crate::view::View;
@@ -28,6 +28,13 @@ pub struct Look;
 
 impl<T: Growing> Play<Option<T>, View<T::Item, T::Fill, T>> for Look {
     ghost then = { Looked T.history T.fills T.goes_on };
+}
+
+/// Finds how long all know the history to be. Where it is as long, nothing has to be told.
+pub struct FindFront;
+
+impl<T: Growing> Play<Option<T>, View<T::Item, T::Fill, T>> for FindFront {
+    ghost then = { FrontFound T.history T.fills };
 }
 
 /// Tells all how long the history is.
