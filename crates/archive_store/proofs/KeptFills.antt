@@ -1,5 +1,5 @@
 -- What a store keeps over an install.
-use Rattle.std.proofs.Common.{◌≡◌, ◌⊎◌, inl, ℕ, ◌≤◌, ◌^◌, true, List, [], ◌∷◌, ◌++◌, map, Option, Some, None, refl, sym, ◌∙◌, ap, subst, arith, append-nil}
+use Rattle.std.proofs.Common.{◌≡◌, ◌⊎◌, inl, ℕ, ◌≤◌, ◌^◌, true, List, [], ◌∷◌, ◌++◌, length, map, Option, Some, None, refl, sym, ◌∙◌, ap, subst, arith, append-nil}
 use Rattle.std.specs.Prelude.{IsTrue, min, ◌-◌}
 use Rattle.arch_disk.specs.Image.{Image}
 use Rattle.arch_disk.specs.Disk.{Device, LeavesOnly, raised}
@@ -15,10 +15,11 @@ use Rattle.history_items.specs.Databases.{database_in}
 use Rattle.history_items.specs.Fills.{rows_of_faults, pending_fault_of, unacknowledged_in, above}
 use Rattle.history_items.proofs.FillLists.{rows_of_faults-append, pending_fault_of-append, Rising-later, Rising-append}
 use Rattle.std.specs.Option.{option_or}
-use Rattle.disk_journal.specs.Format.{IsBeforeOrAfter}
+use Rattle.disk_journal.specs.Format.{HasRecords, IsBeforeOrAfter}
 use Rattle.disk_journal.specs.State.{HasOnDisk as JournalHasOnDisk}
-use Rattle.disk_journal.specs.State.{unhealed_fault, file_of, IsSame, IsOldBut}
+use Rattle.disk_journal.specs.State.{unhealed_fault, count_of, file_of, IsSame, IsOldBut}
 use Rattle.disk_journal.specs.declared.journal.Journal.{Journal}
+use Rattle.disk_journal.proofs.Bodies.{length-extents}
 use Rattle.field_codec.specs.declared.entry.Entry.TheVariants as entries
 use Rattle.field_codec.specs.Entries.{IsArchiveEntry}
 use Rattle.field_codec.specs.Spelling.{entry_octets}
@@ -36,7 +37,7 @@ use Rattle.archive_store.specs.Images.{ArchiveInvariant, IsPlainLog}
 use Rattle.archive_store.specs.Inside.{StoreInvariant, view_of}
 use Rattle.archive_store.specs.PlainLog.{IsSinceArchive}
 use Rattle.archive_store.specs.Unacknowledged.{IsFilledOnce, IsUnacknowledged}
-use Rattle.archive_store.specs.Stands.{StandsFilled}
+use Rattle.archive_store.specs.Stands.{HasRecordCount, StandsFilled}
 use Rattle.archive_store.specs.StoreView.{StoreView, filled_of}
 use Rattle.archive_store.proofs.Kept.{hand-append, healthy}
 use Rattle.archive_store.proofs.OneJournal as one
@@ -203,6 +204,19 @@ module _ {D : Type 0} (device : Device D) (disk opened : D) (journal : Journal) 
         has = keeps_without_fault device journal (e.beginning ++ map entry_octets e.entries) e.pending disk none e.keeps c left;
         replays = e.replays;
       })
+
+  -- and the journal's file has as many records as are counted
+  pub records_now : HasRecordCount (device.reads disk) (count_of journal)
+  records_now =
+      let e = k.archives.log transparent in
+      let bodies : List (List ℕ) = e.beginning ++ map entry_octets e.entries in
+      let none : unhealed_fault journal ≡ None = healthy (unhealed_fault journal) (pending_fault_of fills) k.journal_fault healed in
+      let image = device.reads_as_image disk transparent in
+      let has : HasRecords (device.reads disk (file_of journal)) bodies = keeps_without_fault device journal bodies e.pending disk none e.keeps (device.reads disk) image in (
+        bodies,
+        subst (λ (file : ℕ). HasRecords (device.reads disk file) bodies) (e.has_base (device.reads disk) image).0 has,
+        ap length e.keeps.extents ∙ length-extents 0 bodies,
+      )
 
 -- a call that doesn't ask the disk leaves the archive as it was
 module _ {D : Type 0} (device : Device D) (disk opened : D) (journal : Journal) (head : Head) (exponent : ℕ) (history : List Item) (fills : List Fill) (filled : PlacedFills) (pending_fault : Option ℕ)

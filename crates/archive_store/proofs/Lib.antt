@@ -23,6 +23,7 @@ pub mod Outcomes
 pub mod PendingFaults
 pub mod PlainLog
 pub mod Planning
+pub mod UnreadRows
 pub mod Refusals
 pub mod ReplayedRows
 pub mod RowsAlone

@@ -24,7 +24,7 @@ use Rattle.store_fills.specs.LastFills.{fillings_in}
 use Rattle.store_fills.specs.Sound.{no_fillings}
 use Rattle.archive_store.specs.declared.head.Head.{Head}
 use Rattle.archive_store.specs.Entries.{Archive, FilledArchive, archive, dones_of, filled_archive}
-use Rattle.archive_store.specs.Stands.{IsSoundImage, StandsFilled, StandsFor, IsArchiveDamagedAt}
+use Rattle.archive_store.specs.Stands.{HasRecordCount, IsSoundImage, StandsFilled, StandsFor, IsArchiveDamagedAt}
 use Rattle.archive_store.specs.StoreView.{StoreView, AddsFault, IsKeptWithFills, IsNow, archive_of, filled_of}
 
 -- ---- crashes
@@ -153,8 +153,7 @@ opened_disk_of (Err refused) = refused.0
 -- on leaves that, with its fills.
 pub record IsStoreOpened {D : Type 0} (device : Device D) (disk : D) (store : StoreView D) : Type 0 where
   pub stands : IsTrue device.is_transparent → StandsFor (device.reads disk) (archive_of store)
-  pub records : IsTrue device.is_transparent →
-      (bodies : List (List ℕ)) × HasRecords (device.reads disk 0) bodies × (store.records ≡ length bodies)
+  pub records : IsTrue device.is_transparent → HasRecordCount (device.reads disk) store.records
   pub exponent : store.exponent ≡ format_1_exponent
   pub fills : AllByRecursion IsDone store.fills
   pub dones : IsTrue device.is_transparent →

@@ -13,7 +13,7 @@ use Rattle.archive_history.specs.Limits.{IsWithin}
 use Rattle.store_fills.specs.LastFills.{fillings_in}
 use Rattle.store_fills.specs.Sound.{base_of_filling}
 use Rattle.archive_store.specs.Entries.{IsArchivedRow, IsSoundArchive}
-use Rattle.archive_store.specs.Stands.{IsSoundImage}
+use Rattle.archive_store.specs.Stands.{HasRecordCount, IsSoundImage}
 use Rattle.archive_store.specs.StoreView.{CrashInvariant, FaultInvariant, IsKeptWithFills, StoreView, filled_of}
 
 -- what a store keeps of its head, its history, its fills and its disk, whatever was done with it
@@ -33,3 +33,6 @@ pub record IsKept {D : Type 0} (device : Device D) (store : StoreView D) : Type 
   pub images : IsTrue device.is_transparent → CrashInvariant device store
   -- while no failed write is pending, each image of now stands for the history with its fills, and nothing more
   pub kept : IsTrue device.is_transparent → pending_fault_of store.fills ≡ None → IsKeptWithFills device store
+  -- and the journal's file has as many records as are counted
+  pub records : IsTrue device.is_transparent → pending_fault_of store.fills ≡ None →
+      HasRecordCount (device.reads store.disk) store.records

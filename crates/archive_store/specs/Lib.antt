@@ -10,6 +10,7 @@ pub mod Limits
 pub mod PartialArchive
 pub mod PlainLog
 pub mod Plans
+pub mod UnreadRows
 pub mod Replays
 pub mod StoreView
 pub mod Classifying

@@ -19,6 +19,10 @@ pub record StandsFor (image : Image) (archive : Archive) : Type 0 where
   pub plain_is : filled.plain ≡ archive
   pub stands : StandsFilled image filled
 
+-- how many records the journal has
+abbrev pub HasRecordCount : Image → ℕ → Type 0
+HasRecordCount image number = (bodies : List (List ℕ)) × HasRecords (image 0) bodies × (number ≡ length bodies)
+
 -- the fills of the archive that an image stands for are sound
 abbrev pub IsSoundImage : Image → Type 0
 IsSoundImage image = (filled : FilledArchive) → StandsFilled image filled → IsSoundArchive filled

@@ -1,8 +1,7 @@
 //! Late intervals and their fills.
 
-ghost use Rattle.std.specs.Prelude.{◌≡◌, ◌↔◌, ◌<◌, ◌≤◌, length, IfOk, IfErr, IfSome, OnOk, IsTrue};
+ghost use Rattle.std.specs.Prelude.{◌≡◌, ◌↔◌, ◌<◌, ◌≤◌, length, IfOk, IfErr, IfSome, OnOk, OnErr, IsTrue};
 ghost use Rattle.std.specs.Arc.{arc_value};
-ghost use Rattle.refusals.specs.declared.refusal.Refusal.TheVariants.{OutOfMemory};
 ghost use Rattle.history_items.specs.Late.{IsLate};
 ghost use Rattle.interval_fills.specs.Intervals.{rows_of_interval};
 ghost use Rattle.intervals.specs.Interval.{interval_end, interval_start, HasClockTime};
@@ -79,6 +78,7 @@ fn prepare_task(
 }
 
 impl<D: Disk> Store<D> {
+    ghost use Rattle.archive_store.specs.UnreadRows.{IsReadRefusal};
     ghost use Rattle.archive_store.specs.StoreView.{OnlyAppends};
     ghost use Rattle.archive_store.specs.Tasks.{IsFillBegun};
 
@@ -98,8 +98,9 @@ impl<D: Disk> Store<D> {
         ensures in_order { IfOk result (λ begun. IfSome begun (λ task.
             IsTaskRows task.exponent task.interval task.rows)) }
 
-        // Refused, for want of memory alone, all is as it was.
-        ensures refused { IfErr result (λ e. (e ≡ OutOfMemory) × (self.new ≡ self.old)) }
+        // Refused, where its rows aren't read, all is as it was.
+        ensures refused { IfErr result (IsReadRefusal D.device self.old self.new) }
+        ensures same { OnErr result (self.new ≡ self.old) }
         ensures grows { OnlyAppends self.old self.new }
     {
         let Some(interval) = self.tracker.next() else {

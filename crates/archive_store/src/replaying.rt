@@ -1,6 +1,6 @@
 //! Replays, and the partitions and times of packet names.
 
-ghost use Rattle.std.specs.Prelude.{◌≡◌, ◌<◌, ◌≤◌, ◌++◌, List, [], length, IfOk, IfErr};
+ghost use Rattle.std.specs.Prelude.{◌≡◌, ◌<◌, ◌≤◌, ◌++◌, List, [], length, IfOk, IfErr, OnErr};
 ghost use Rattle.std.specs.List.{AllByRecursion, filter_map};
 ghost use mathlib.Core.List.{IsPrefix};
 ghost use Rattle.refusals.specs.declared.refusal.Refusal.TheVariants.{OutOfMemory};
@@ -22,6 +22,7 @@ use crate::store::Store;
 use arch_disk::Disk;
 use arch_types::name::Names;
 use arch_types::row::Rows;
+use arch_types::row_fault::RowFault;
 use arch_types::spans::Spans;
 use archive_history::history::History;
 use asks::ReplayRequest;
@@ -93,6 +94,7 @@ fn cursor_at_front(
 }
 
 impl<D: Disk> Store<D> {
+    ghost use Rattle.archive_store.specs.UnreadRows.{IsReadFault};
     ghost use Rattle.archive_store.specs.Replays.{ArePartitions, IsNamedPartition, IsReplayOpened};
     ghost use Rattle.replay_merge.specs.Cursor.{AsksTheSame, steps_at_most, EndsExactly, IsRowAsked};
 
@@ -113,13 +115,13 @@ impl<D: Disk> Store<D> {
     }
 
     /// The next rows of a replay, at most `limit`: there may be more although these are fewer. No row, for a limit
-    /// above 0, is the end.
+    /// above 0, is the end. Refused, it leaves the cursor as it was.
     pub fn replay_step(
         &mut self,
         alloc: Global,
         cursor: &mut Cursor,
         limit: u64,
-    ) -> Result<Rows, Refusal>
+    ) -> Result<Rows, RowFault>
         ensures rows { IfOk result (λ rows.
             rows ++ rest_of cursor.new (rows_below self.old.history)
             ≡ rest_of cursor.old (rows_below self.old.history)) }
@@ -128,11 +130,12 @@ impl<D: Disk> Store<D> {
         ensures few { IfOk result (λ rows. length rows ≤ limit) }
         ensures each { IfOk result (λ rows. AllByRecursion (IsRowAsked cursor.old) rows) }
         ensures asked { AsksTheSame cursor.old cursor.new }
-        ensures refused { IfErr result (λ e. (e ≡ OutOfMemory) × (cursor.new ≡ cursor.old)) }
+        ensures refused { IfErr result (IsReadFault D.device self.old self.new) }
+        ensures unmoved { OnErr result (cursor.new ≡ cursor.old) }
         ensures same { self.new ≡ self.old }
     {
         let mut source = self.source();
-        Ok(cursor.next(alloc, &mut source, limit)?)
+        cursor.next(alloc, &mut source, limit)
     }
 
     /// The spans of time in which a packet name, by its number, has rows in a table, in milliseconds since 1970.

@@ -18,6 +18,7 @@ use crate::store::Store;
 use arch_disk::Disk;
 use arch_types::name::{Name, Names};
 use arch_types::octets::Octets;
+use arch_types::row_fault::RowFault;
 use asks::Request;
 use interval_walks::intervals_meeting;
 use intervals::Interval;
@@ -58,6 +59,7 @@ fn parts_of<D: Disk>(
 
 impl<D: Disk> Store<D> {
     ghost use Rattle.archive_store.specs.Plans.{IsPlanOver, late_rows_of_range};
+    ghost use Rattle.archive_store.specs.UnreadRows.{IsReadFault};
 
     /// The intervals that a retrieval reads: those that have rows of table `tm` and meet the request's range, in the
     /// order of their numbers. The one error is want of memory.
@@ -120,8 +122,8 @@ impl<D: Disk> Store<D> {
     }
 
     /// What a retrieval reads: the sets of the intervals that its range meets, and the rows of those that are late. The
-    /// request was found in the database in force, which the plan shares. The one error is want of memory.
-    pub fn plan(&mut self, alloc: Global, found: &FoundRequest) -> Result<Plan, AllocError>
+    /// request was found in the database in force, which the plan shares.
+    pub fn plan(&mut self, alloc: Global, found: &FoundRequest) -> Result<Plan, RowFault>
         requires in_force { arc_value found.now.mdb ≡ database_in self.old.head.mdb self.old.history }
         ensures planned { IfOk result (IsPlan self.old found.now.request.from found.now.request.to) }
 
@@ -136,10 +138,11 @@ impl<D: Disk> Store<D> {
         // Rows are left to extract of late intervals that meet the range alone.
         ensures steps { IfOk result (λ plan. length (rows_of_parts plan.parts) ≤ length (late_rows_of_range
             self.old.exponent self.old.history self.old.fills found.now.request.from found.now.request.to)) }
+        ensures refused { IfErr result (IsReadFault D.device self.old self.new) }
         ensures same { self.new ≡ self.old }
     {
         let mdb = Arc::try_clone(&found.mdb)?;
-        self.planned(alloc, &found.request, mdb)
+        Ok(self.planned(alloc, &found.request, mdb)?)
     }
 
     /// How many packet names the history has: at most 65,536.

@@ -1,11 +1,12 @@
 -- Whether what an archive keeps of its intervals is what their rows give. Of an archive with its fills, as a disk
 -- stands for one.
-use Rattle.std.specs.Prelude.{◌≡◌, ℕ, ◌<◌, ◌<ℤ◌, true, List, length, map, slice_get, Some}
+use Rattle.std.specs.Prelude.{◌≡◌, ◌⊎◌, ℕ, ◌<◌, ◌<ℤ◌, true, List, length, map, slice_get, Some}
 use Rattle.std.specs.List.{filter_map, list_any}
+use Rattle.arch_disk.specs.Disk.{Device}
 use Rattle.arch_types.specs.declared.cell.Cell.{Cell}
 use Rattle.intervals.specs.declared.interval.Interval.{Interval}
 use Rattle.refusals.specs.declared.refusal.Refusal.{Refusal}
-use Rattle.refusals.specs.declared.refusal.Refusal.TheVariants.{Mismatch, OutOfMemory}
+use Rattle.refusals.specs.declared.refusal.Refusal.TheVariants.{Mismatch}
 use Rattle.mdb_items.specs.Database.{Database}
 use Rattle.container_extract.specs.Extraction.{cell_of}
 use Rattle.history_items.specs.Databases.{database_in}
@@ -18,7 +19,8 @@ use Rattle.param_segments.specs.Rows.{SetRow}
 use Rattle.store_fills.specs.Filled.{HoldsRows}
 use Rattle.store_fills.specs.Sound.{Filling}
 use Rattle.archive_store.specs.Entries.{FilledArchive}
-use Rattle.archive_store.specs.StoreView.{StoreView}
+use Rattle.archive_store.specs.UnreadRows.{IsReadRefusal}
+use Rattle.archive_store.specs.StoreView.{StoreView, filled_of}
 use Rattle.archive_verify.specs.declared.compared_sets.SetDifference.{SetDifference}
 use Rattle.archive_verify.specs.declared.differences.CellDifference.{CellDifference}
 use Rattle.archive_verify.specs.declared.verified.Sound.{Sound}
@@ -89,12 +91,15 @@ pub record IsNamedMismatch (filled : FilledArchive) (interval : Interval) (name 
   pub first : IsFirstMismatch filled interval (record { parameter = parameter; cells = d })
   pub named : slice_get (map (λ p. p.name) (database_of_archive filled).parameters) parameter ≡ Some name
 
--- why an archive is not found sound: its first mismatch, or want of memory
-abbrev pub IsVerifyRefusal : FilledArchive → Refusal → Type 0
-IsVerifyRefusal filled (Mismatch interval name key stored replayed) =
+-- the refusal that tells of the first mismatch
+abbrev pub TellsMismatch : FilledArchive → Refusal → Type 0
+TellsMismatch filled (Mismatch interval name key stored replayed) =
     IsNamedMismatch filled interval name (record { key = key; stored = stored; replayed = replayed })
-IsVerifyRefusal filled OutOfMemory = Unit {0}
-IsVerifyRefusal filled _ = ⊥
+TellsMismatch filled _ = ⊥
+
+-- why an archive is not found sound: its first mismatch, or that its rows aren't read
+abbrev pub IsVerifyRefusal : {D : Type 0} → Device D → StoreView D → StoreView D → Refusal → Type 0
+IsVerifyRefusal device old new refusal = TellsMismatch (filled_of old) refusal ⊎ IsReadRefusal device old new refusal
 
 -- ---- how much there is
 

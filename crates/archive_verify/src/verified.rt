@@ -123,14 +123,14 @@ fn mismatch_of(
 
 /// Compares the set of each interval that isn't late with what the interval's rows give.
 ///
-/// Refuses by `Mismatch` at the least interval, parameter and key that differ, and else by `OutOfMemory` alone.
+/// Refuses by `Mismatch` at the least interval, parameter and key that differ, and else as rows aren't read.
 pub fn verify<D: Disk>(alloc: Global, store: &mut Store<D>) -> Result<Sound, Refusal>
     // Ok: each fill that stands for an interval holds the cells that the interval's rows give.
     ensures sound { IfOk result (λ _. HoldCurrentFills (filled_of store.old)) }
     ensures counted { IfOk result (IsCounted store.old) }
 
-    // Refused: the first cell that is stored otherwise than rows give it, or want of memory.
-    ensures refused { IfErr result (IsVerifyRefusal (filled_of store.old)) }
+    // Refused: the first cell that is stored otherwise than rows give it, or rows that aren't read.
+    ensures refused { IfErr result (IsVerifyRefusal D.device store.old store.new) }
 
     // Whatever it answers, it has changed nothing.
     ensures same { store.new ≡ store.old }

@@ -1,14 +1,32 @@
-use Rattle.std.proofs.Common.{◌∙◌, length, List, ap, subst}
-use Rattle.std.specs.Prelude.{IfNone, IfSome, filter}
+use Rattle.std.proofs.Common.{◌≡◌, ◌∙◌, inl, inr, length, List, Result, Ok, Err, IfErr, ap, subst}
+use Rattle.std.specs.Prelude.{IfNone, IfSome, IsErrAnd, filter}
 use Rattle.std.specs.List.{AllByRecursion}
+use Rattle.arch_disk.specs.Disk.{Device}
+use Rattle.arch_types.specs.declared.row_fault.RowFault.TheVariants as unread
 use Rattle.intervals.specs.declared.interval.Interval.{Interval}
 use Rattle.history_items.specs.Late.{is_late_in}
 use Rattle.mdb_items.specs.Database.{Database}
-use Rattle.archive_store.specs.StoreView.{filled_of}
-use Rattle.archive_verify.specs.Verified.{HoldBelow, HoldsWhereCurrent, IsIntervalMismatch, IsMismatchOf}
+use Rattle.refusals.specs.declared.refusal.Refusal.{Refusal}
+use Rattle.refusals.specs.declared.refusal.Refusal.TheVariants.{OutOfMemory}
+use Rattle.archive_store.specs.StoreView.{StoreView, filled_of}
+use Rattle.archive_verify.specs.Verified.{HoldBelow, HoldsWhereCurrent, IsIntervalMismatch, IsMismatchOf, IsVerifyRefusal}
 use Rattle.archive_verify.proofs.Counting.{as_many_intervals, as_many_passed}
 use Rattle.archive_verify.proofs.Currents.{all_held, named_refusal}
 use Rattle.archive_verify.proofs.verified.verify.Goals as goal
+
+-- memory that is wanting is why rows aren't read
+wanting : {D X : Type 0} (device : Device D) (store : StoreView D) (r : Result X Refusal) → IsErrAnd r (λ e. e ≡ OutOfMemory) → IfErr r (IsVerifyRefusal device store store)
+wanting device store (Ok x) is = tt
+wanting device store (Err e) is = inr (unread.OutOfMemory, tt, is)
+
+pub returns-in_err-intervals-clause-refused : goal.returns-in_err-intervals-clause-refused
+returns-in_err-intervals-clause-refused g c = wanting g.D.Disk.device c.args.store.now c.from_residual.result c.from_residual.ensures.1
+
+pub returns-in_err-difference-clause-refused : goal.returns-in_err-difference-clause-refused
+returns-in_err-difference-clause-refused g c = wanting g.D.Disk.device c.args.store.now c.from_residual-in_err-difference.result c.from_residual-in_err-difference.ensures.1
+
+pub returns-in_err-mismatch_of-clause-refused : goal.returns-in_err-mismatch_of-clause-refused
+returns-in_err-mismatch_of-clause-refused g c = wanting g.D.Disk.device c.args.store.now c.from_residual-in_err-mismatch_of.result c.from_residual-in_err-mismatch_of.ensures.1
 
 pub returns-clause-sound : goal.returns-clause-sound
 returns-clause-sound g c =
@@ -35,4 +53,4 @@ returns-in-Some-clause-refused g c =
     let is = c.in_ok-intervals.intervals.items in
     let d = c.in-Some.difference in
     let found = subst (λ o. IfSome o (λ x. IsIntervalMismatch (filled_of store) x.interval x.sets × HoldBelow (filled_of store) c.as_slice.result.now x.interval)) c.in-Some.is c.in_ok-difference.ensures.some in
-    named_refusal store is d.interval d.sets c.in_ok-mismatch_of.field-0 c.in_ok-intervals.ensures.filled found.0 (subst (λ (l : List Interval). HoldBelow (filled_of store) l d.interval) c.as_slice.ensures.value found.1) (subst (λ (db : Database). IsMismatchOf db d.interval d.sets c.in_ok-mismatch_of.field-0) c.mdb.ensures c.in_ok-mismatch_of.ensures)
+    inl (named_refusal store is d.interval d.sets c.in_ok-mismatch_of.field-0 c.in_ok-intervals.ensures.filled found.0 (subst (λ (l : List Interval). HoldBelow (filled_of store) l d.interval) c.as_slice.ensures.value found.1) (subst (λ (db : Database). IsMismatchOf db d.interval d.sets c.in_ok-mismatch_of.field-0) c.mdb.ensures c.in_ok-mismatch_of.ensures))

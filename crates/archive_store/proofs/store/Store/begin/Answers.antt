@@ -1,5 +1,6 @@
 use Rattle.std.proofs.Common.{◌≡◌, List, [], ◌∷◌, ◌++◌, true, Some, None, refl, sym, ◌∙◌, ap, subst}
 use Rattle.std.specs.Prelude.{IfSome}
+use Rattle.arch_types.specs.declared.row_fault.RowFault.TheVariants.{OutOfMemory}
 use Rattle.intervals.specs.declared.interval.Interval.{Interval}
 use Rattle.history_items.specs.declared.fills.Fill.{Fill}
 use Rattle.history_items.specs.declared.fills.Fill.TheVariants.{Begun}
@@ -106,3 +107,6 @@ returns-in_default-prepared-clause-grows g c =
     let new : StoreView g.row.D.Denot = view_of s.disk s.opened.value s.journal s.head s.history.exponent s.history.items c.prepare_task-prepared.new.tracker.fills s.sets.filled in
     subst (λ (x : StoreView g.row.D.Denot). OnlyAppends x new) c.self.view_is
     (goes_same (view_of s.disk s.opened.value s.journal s.head s.history.exponent s.history.items s.tracker.fills s.sets.filled) new refl c.prepare_task-prepared.ensures.same.0 refl refl refl)
+
+pub returns-in_default-prepared-clause-refused : goal.returns-in_default-prepared-clause-refused
+returns-in_default-prepared-clause-refused g c = (OutOfMemory, tt, refl)

@@ -4,7 +4,7 @@ use Rattle.mdb_model.proofs.Counts.{counts}
 use Rattle.archive_store.specs.Inside.{view_of}
 use Rattle.archive_store.specs.Keeping.{IsKept}
 use Rattle.archive_store.specs.StoreView.{StoreView}
-use Rattle.archive_store.proofs.KeptFills.{kept_now}
+use Rattle.archive_store.proofs.KeptFills.{kept_now, records_now}
 use Rattle.archive_store.proofs.PlainLog.{crash_of, sound_of}
 use Rattle.archive_store.proofs.RowsAlone.{few_names}
 use Rattle.archive_store.proofs.store.Store.is_kept.Goals as goal
@@ -26,5 +26,6 @@ returns g c =
       faults = of_store.faults;
       images = crash_of device s.disk s.opened.value s.journal s.head s.history.exponent s.history.items s.tracker.fills s.sets.filled s.pending_fault of_store;
       kept = λ known healed. kept_now device s.disk s.opened.value s.journal s.head s.history.exponent s.history.items s.tracker.fills s.sets.filled s.pending_fault of_store healed known;
+      records = λ known healed. records_now device s.disk s.opened.value s.journal s.head s.history.exponent s.history.items s.tracker.fills s.sets.filled s.pending_fault of_store healed known;
     } in
     subst (λ (x : StoreView g.row.D.Denot). IsKept device x) c.self.view_is all
