@@ -104,7 +104,7 @@ module _ {D T : Type 0} (device : Device D) (first before after : StoreView D) (
   begun t None i = nothing t i.1
   begun t (Some task) i = notes t _ i.step.history i.step.fills
 
-  began : Turned device first before after old new → (answer : Result (Option FillTask) Refusal) → SaysBegun answer before after → AddsTo before old new [] (begin_notes answer)
+  began : Turned device first before after old new → (answer : Result (Option FillTask) Refusal) → SaysBegun device answer before after → AddsTo before old new [] (begin_notes answer)
   began t (Ok o) i = begun t o i
   began t (Err e) i = nothing t i.1
 

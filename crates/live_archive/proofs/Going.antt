@@ -1,5 +1,5 @@
 -- Each call of a store goes on from what there was.
-use Rattle.std.proofs.Common.{◌≡◌, ◌⊎◌, inl, inr, ⊎_elim, ℕ, suc, ◌+◌, ◌≤◌, Bool, true, false, List, [], ◌∷◌, ◌++◌, length, fold, IsTrue, Option, Some, None, Result, Ok, Err, MatchResult, if◌then◌else◌, refl, sym, ap, ◌∙◌, subst, arith, append_assoc, append-nil, length-append, le_refl}
+use Rattle.std.proofs.Common.{◌≡◌, ◌≢◌, ◌⊎◌, inl, inr, ⊎_elim, ℕ, suc, ◌+◌, ◌≤◌, Bool, true, false, List, [], ◌∷◌, ◌++◌, length, fold, IsTrue, Option, Some, None, Result, Ok, Err, MatchResult, if◌then◌else◌, refl, sym, ap, ◌∙◌, subst, arith, append_assoc, append-nil, length-append, le_refl}
 use Rattle.std.specs.List.{filter_map}
 use Rattle.std.specs.Option.{is_some, option_or}
 use Rattle.std.specs.Prelude.{slice_get}
@@ -26,7 +26,7 @@ use Rattle.history_items.specs.FillList.{flights_of}
 use Rattle.history_items.specs.Outcomes.{fresh_of}
 use Rattle.history_items.proofs.ItemLists.{databases_in-append, no_databases}
 use Rattle.history_items.proofs.Databases.{rows_keep_database, rows_keep_names}
-use Rattle.history_items.proofs.Outcomes.{fresh_added}
+use Rattle.history_items.proofs.Outcomes.{fresh_added, fresh_new}
 use Rattle.interval_fills.specs.Steps.{freed, all_freed}
 use Rattle.interval_fills.proofs.Steps.{same_interval}
 use Rattle.param_segments.specs.Rows.{SetRow}
@@ -37,6 +37,7 @@ use Rattle.store_fills.specs.LastFills.{fillings_in, fill_over}
 use Rattle.store_fills.specs.Sound.{Filling, Fillings}
 use Rattle.store_fills.proofs.RightFills.{right_fill_stays}
 use Rattle.archive_store.specs.declared.head.Head.{Head}
+use Rattle.archive_store.specs.UnreadRows.{IsReadRefusal}
 use Rattle.archive_store.specs.StoreView.{StoreView, OnlyAppends, AddsFault, filled_of}
 use Rattle.archive_store.specs.Stands.{StandsFilled}
 use Rattle.archive_store.specs.Calls.{AreIngested, CrashLeavesEither, IsIngestRefusal, archive_with}
@@ -48,7 +49,7 @@ use Rattle.history_items.proofs.FillLists.{pending_fault_of-append}
 use Rattle.live_archive.proofs.Places.{at_behind, at_later}
 use Rattle.live_archive.proofs.Images.{batch_came, batch_failed, fill_tried, same_pending, without_disk}
 use Rattle.live_archive.specs.Images.{LeavesBetween}
-use Rattle.live_archive.specs.GoesOn.{GoesOn, HasFillOrNew, HasNewFill, NoneFailed, OneFailed, SameDatabase, done_of_fill, dones}
+use Rattle.live_archive.specs.GoesOn.{AreNewTo, GoesOn, HasFillOrNew, HasNewFill, NoneFailed, OneFailed, SameDatabase, done_of_fill, dones}
 
 prefix_self : {A : Type 0} (xs : List A) → IsPrefix xs xs
 prefix_self xs = ([], append-nil xs)
@@ -71,6 +72,14 @@ still_pending fills count addition none = go (pending_fault_of fills) (sym (pend
     go None e = absurd (cc e)
     go (Some n) e = absurd (cc e)
 
+-- what was pending is, whatever comes behind it
+pending_later : (fills more : List Fill) → pending_fault_of fills ≢ None → pending_fault_of (fills ++ more) ≢ None
+pending_later fills more pending none = go (pending_fault_of fills) pending (sym (pending_fault_of-append fills more) ∙ none)
+  where
+    go : (o : Option ℕ) → o ≢ None → option_or o (pending_fault_of more) ≡ None → ⊥
+    go None pending e = absurd (pending refl)
+    go (Some n) pending e = absurd (cc e)
+
 -- what a flight's end adds
 freed_is : (i : Interval) (fills : List Fill) → (dones (freed i fills) ≡ dones fills) × (faults_in (freed i fills) ≡ faults_in fills) × IsPrefix fills (freed i fills)
 freed_is i fills = by_flight (is_some (in_flight i fills))
@@ -79,7 +88,7 @@ freed_is i fills = by_flight (is_some (in_flight i fills))
     by_flight true = (let h = dones-append fills (Freed i ∷ []) in omega (arith, h), faults_in-append fills (Freed i ∷ []) ∙ append-nil (faults_in fills), (Freed i ∷ [], refl))
     by_flight false = (refl, refl, prefix_self fills)
 
-all_freed_is : (flights : List Interval) (fills : List Fill) → (dones (fold (λ ended i. freed i ended) fills flights) ≡ dones fills) × (faults_in (fold (λ ended i. freed i ended) fills flights) ≡ faults_in fills)
+pub all_freed_is : (flights : List Interval) (fills : List Fill) → (dones (fold (λ ended i. freed i ended) fills flights) ≡ dones fills) × (faults_in (fold (λ ended i. freed i ended) fills flights) ≡ faults_in fills)
     × IsPrefix fills (fold (λ ended i. freed i ended) fills flights)
 all_freed_is [] fills = (refl, refl, prefix_self fills)
 all_freed_is (i ∷ flights) fills = let a = freed_is i fills in let b = all_freed_is flights (freed i fills) in (b.0 ∙ a.0, b.1 ∙ a.1, prefix_trans fills (freed i fills) _ a.2 b.2)
@@ -103,7 +112,9 @@ module _ {D : Type 0} (device : Device D) where
     appends = record { history = prefix_self a.history; fills = prefix_self a.fills; head = refl; exponent = refl; opened = refl };
     database = record { alone = refl; in_force = refl; names = refl };
     records = le_refl _;
+    recorded = le_refl _;
     faults = inl (record { same_faults = refl; no_failed_write = refl; no_fault = refl });
+    stops = λ _. refl;
     sets = λ _ i. inl refl;
     images = λ _ start since. since;
   })
@@ -122,6 +133,7 @@ module _ {D : Type 0} (device : Device D) where
     };
     database = record { alone = q.database.alone ∙ p.database.alone; in_force = q.database.in_force ∙ p.database.in_force; names = q.database.names ∙ p.database.names };
     records = let x = p.records in let y = q.records in omega (arith, x, y);
+    recorded = let x = p.recorded in let y = q.recorded in omega (arith, x, y);
     faults = ⊎_elim
         (λ (x : NoneFailed device a b). ⊎_elim
         (λ (y : NoneFailed device b c). inl (record { same_faults = y.same_faults ∙ x.same_faults; no_failed_write = y.no_failed_write ∙ x.no_failed_write; no_fault = y.no_fault ∙ x.no_fault }))
@@ -129,6 +141,7 @@ module _ {D : Type 0} (device : Device D) where
           healed = pending_fault_of-in a.fills ∙ (ap pending_fault_of (sym x.same_faults) ∙ (sym (pending_fault_of-in b.fills) ∙ y.healed));
           count = y.count;
           addition = y.addition;
+          new_to = y.new_to;
           faults = y.faults ∙ ap (λ (l : List Fill). l ++ Fault y.count true y.addition ∷ []) x.same_faults;
           wrote = y.wrote ∙ ap raised x.no_failed_write;
           rose = subst (λ (n : ℕ). raised n ≤ device.fault_count c.disk) x.no_fault y.rose;
@@ -139,6 +152,8 @@ module _ {D : Type 0} (device : Device D) where
           healed = x.healed;
           count = x.count;
           addition = x.addition;
+          new_to = subst (λ (l : List Item). AreNewTo l x.addition)
+              (sym (q.stops (λ none. still_pending (faults_in a.fills) x.count x.addition (ap pending_fault_of (sym x.faults) ∙ (sym (pending_fault_of-in b.fills) ∙ none))))) x.new_to;
           faults = y.same_faults ∙ x.faults;
           wrote = y.no_failed_write ∙ x.wrote;
           rose = subst (λ (n : ℕ). raised (device.fault_count a.disk) ≤ n) (sym y.no_fault) x.rose;
@@ -146,6 +161,7 @@ module _ {D : Type 0} (device : Device D) where
         (λ (y : OneFailed device b c). absurd (still_pending (faults_in a.fills) x.count x.addition (ap pending_fault_of (sym x.faults) ∙ (sym (pending_fault_of-in b.fills) ∙ y.healed))))
         q.faults)
         p.faults;
+    stops = λ pending. q.stops (subst (λ (l : List Fill). pending_fault_of l ≢ None) p.appends.fills.1 (pending_later a.fills p.appends.fills.0 pending)) ∙ p.stops pending;
     sets = λ clear i. ⊎_elim
         (λ (same : fillings_in c.filled i ≡ fillings_in b.filled i). ⊎_elim
         (λ (was : fillings_in b.filled i ≡ fillings_in a.filled i). inl (same ∙ was))
@@ -195,18 +211,22 @@ module _ {D : Type 0} (device : Device D) where
             appends = appends;
             database = rows_same a b (fresh_of a.history rows) appends.head (i.history ∙ fresh_added a.history rows);
             records = let f = ap dones i.fills in omega (arith, count, grown, f);
+            recorded = let f = ap dones i.fills in omega (arith, count, f);
             faults = inl (record { same_faults = ap faults_in i.fills; no_failed_write = i.no_failed_write; no_fault = i.no_fault });
+            stops = λ pending. absurd (pending i.healed);
             sets = λ _ j. inl (ap (λ f. fillings_in f j) i.filled);
             images = λ clear start since. batch_came device start a b since appends rows i.healed i.history (crash i.healed clear);
           }
 
   -- a write failed
-  pub goes_fault : (a b : StoreView D) (addition : Addition) → pending_fault_of a.fills ≡ None → AddsFault device a b true addition → b.head ≡ a.head → b.exponent ≡ a.exponent → b.opened ≡ a.opened → KeepsImages a b → GoesOn device a b
-  goes_fault a b addition healed f head exponent opened images = record {
+  pub goes_fault : (a b : StoreView D) (addition : Addition) → pending_fault_of a.fills ≡ None → AddsFault device a b true addition → b.head ≡ a.head → b.exponent ≡ a.exponent → b.opened ≡ a.opened → AreNewTo a.history addition → KeepsImages a b → GoesOn device a b
+  goes_fault a b addition healed f head exponent opened new_to images = record {
     appends = record { history = ([], append-nil a.history ∙ sym f.history); fills = (Fault f.count true addition ∷ [], sym f.fills); head = head; exponent = exponent; opened = opened };
     database = history_same a b head f.history;
     records = let h = ap length f.history in let r = f.records in let d = ap dones f.fills ∙ dones-append a.fills (Fault f.count true addition ∷ []) in omega (arith, h, r, d);
-    faults = inr (record { healed = healed; count = f.count; addition = addition; faults = ap faults_in f.fills ∙ faults_in-append a.fills (Fault f.count true addition ∷ []); wrote = f.writes; rose = f.rose });
+    recorded = let r = f.records in let d = ap dones f.fills ∙ dones-append a.fills (Fault f.count true addition ∷ []) in omega (arith, r, d);
+    faults = inr (record { healed = healed; count = f.count; addition = addition; new_to = subst (λ (l : List Item). AreNewTo l addition) (sym f.history) new_to; faults = ap faults_in f.fills ∙ faults_in-append a.fills (Fault f.count true addition ∷ []); wrote = f.writes; rose = f.rose });
+    stops = λ _. f.history;
     sets = λ _ j. inl (ap (λ g. fillings_in g j) f.filled);
     images = images;
   }
@@ -216,7 +236,7 @@ module _ {D : Type 0} (device : Device D) where
   goes_ingest_refused a b rows (refused.NeedsReopen n) g crash i = goes_same a b i.1
   goes_ingest_refused a b rows (refused.Limit w n) g crash i = goes_same a b i.1
   goes_ingest_refused a b rows refused.DiskFault g crash i =
-      goes_fault a b _ i.healed i.fault g.head g.exponent g.opened (λ clear start since. batch_failed device start a b since g rows i.healed i.fault (crash i.healed clear))
+      goes_fault a b _ i.healed i.fault g.head g.exponent g.opened (fresh_new a.history rows) (λ clear start since. batch_failed device start a b since g rows i.healed i.fault (crash i.healed clear))
   goes_ingest_refused a b rows refused.OutOfMemory g crash i = goes_same a b i.1
   goes_ingest_refused a b rows _ g crash i = absurd i
 
@@ -230,7 +250,9 @@ module _ {D : Type 0} (device : Device D) where
     appends = grew;
     database = record { alone = refl; in_force = refl; names = refl };
     records = let d = k.0 in omega (arith, d);
+    recorded = let d = k.0 in omega (arith, d);
     faults = inl (record { same_faults = k.1; no_failed_write = refl; no_fault = refl });
+    stops = λ _. refl;
     sets = λ _ j. inl refl;
     images = λ clear start since. let new = record a { fills = fills } in without_disk device start a new since grew (same_pending device start a new since grew k.1 refl) refl;
   }
@@ -257,7 +279,9 @@ module _ {D : Type 0} (device : Device D) where
     appends = g;
     database = history_same a b g.head history;
     records = let r = f.records in let h = ap length history in let d = ap dones fills ∙ dones-append a.fills (Done done.interval done.base ∷ []) in omega (arith, r, h, d);
+    recorded = let r = f.records in let d = ap dones fills ∙ dones-append a.fills (Done done.interval done.base ∷ []) in omega (arith, r, d);
     faults = inl (record { same_faults = ap faults_in fills ∙ (faults_in-append a.fills (Done done.interval done.base ∷ []) ∙ append-nil (faults_in a.fills)); no_failed_write = f.no_failed_write; no_fault = f.no_fault });
+    stops = λ _. history;
     images = λ clear start since. fill_tried device start a b since g done healed (crash healed clear);
     sets = λ clear j. by_same (right clear).1 j (is_same j done.interval) refl (ap (λ (s : Fillings (List SetRow)). s j) f.filled);
   }
@@ -312,7 +336,7 @@ module _ {D : Type 0} (device : Device D) where
       } in
       let disk : b.disk ≡ failed.disk = ap (λ s. s.disk) same in
       goes_trans a failed b
-      (goes_fault a failed (additions.Fill done.interval done.base) i.0.healed fault head exponent opened
+      (goes_fault a failed (additions.Fill done.interval done.base) i.0.healed fault head exponent opened tt
       (λ clear start since. fill_tried device start a failed since grew done i.0.healed (subst (λ (d : D). LeavesOnly device a.disk d (λ c. StandsFilled c (filled_of a) ⊎ StandsFilled c (filled_with a done))) disk (crash i.0.healed clear))))
       (goes_freed failed b done.interval same)
   goes_install_refused a b done _ g crash i = absurd i
@@ -322,6 +346,6 @@ module _ {D : Type 0} (device : Device D) where
   goes_install a b done (Ok o) g right crash i = goes_installed a b done o g right crash i
   goes_install a b done (Err e) g right crash i = goes_install_refused a b done e g crash i
 
-  pub goes_begin : (a b : StoreView D) (r : Result (Option FillTask) Refusal) → MatchResult r (IsFillBegun a b) (λ e. (e ≡ refused.OutOfMemory) × (b ≡ a)) → GoesOn device a b
+  pub goes_begin : (a b : StoreView D) (r : Result (Option FillTask) Refusal) → MatchResult r (IsFillBegun a b) (λ e. IsReadRefusal device a b e × (b ≡ a)) → GoesOn device a b
   goes_begin a b (Ok o) i = goes_begun a b o i
   goes_begin a b (Err e) i = goes_same a b i.1

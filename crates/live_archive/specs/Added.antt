@@ -102,7 +102,7 @@ module _ {D : Type 0} (T : Type 0) (device : Device D) where
   abbrev pub BeginsAdd : Type 0
   BeginsAdd = (first before after : StoreView D) (old new : PassView Item Fill T)
       (answer : Result (Option FillTask) Refusal) →
-      Turned device first before after old new → SaysBegun answer before after →
+      Turned device first before after old new → SaysBegun device answer before after →
       AddsTo before old new [] (begin_notes answer)
 
   abbrev pub InstallsAdd : Type 0

@@ -4,7 +4,6 @@ use Rattle.arch_disk.specs.Disk.{Device}
 use Rattle.arch_types.specs.declared.inserted.Installed.{Installed}
 use Rattle.arch_types.specs.declared.row.Row.{Row}
 use Rattle.refusals.specs.declared.refusal.Refusal.{Refusal}
-use Rattle.refusals.specs.declared.refusal.Refusal.TheVariants.{OutOfMemory}
 use Rattle.intervals.specs.declared.interval.Interval.{Interval}
 use Rattle.history_items.specs.Databases.{database_in}
 use Rattle.history_items.specs.Late.{IsLate}
@@ -18,6 +17,7 @@ use Rattle.archive_store.specs.declared.batch.Ingested.{Ingested}
 use Rattle.archive_store.specs.Calls.{AreIngested, IsIngestRefusal}
 use Rattle.archive_store.specs.CurrentSets.{IsCurrentSet}
 use Rattle.archive_store.specs.Installs.{IsInstallRefusal, IsStoreInstalled}
+use Rattle.archive_store.specs.UnreadRows.{IsReadRefusal}
 use Rattle.archive_store.specs.Stands.{IsSoundImage}
 use Rattle.archive_store.specs.StoreView.{StoreView}
 use Rattle.archive_store.specs.Tasks.{IsFillBegun}
@@ -30,9 +30,9 @@ SaysIngested device rows answer before after =
     (IsIngestRefusal device before after rows)
 
 -- of the beginning of a fill
-abbrev pub SaysBegun : {D : Type 0} → Result (Option FillTask) Refusal → StoreView D → StoreView D → Type 0
-SaysBegun answer before after =
-    MatchResult answer (IsFillBegun before after) (λ refusal. (refusal ≡ OutOfMemory) × (after ≡ before))
+abbrev pub SaysBegun : {D : Type 0} → Device D → Result (Option FillTask) Refusal → StoreView D → StoreView D → Type 0
+SaysBegun device answer before after =
+    MatchResult answer (IsFillBegun before after) (λ refusal. IsReadRefusal device before after refusal × (after ≡ before))
 
 -- of a fill that is installed
 abbrev pub SaysInstalled

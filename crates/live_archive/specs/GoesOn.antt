@@ -1,5 +1,5 @@
 -- What stays true of a store while it is taken in turns, beside the one that the turns began with.
-use Rattle.std.specs.Prelude.{◌≡◌, ◌⊎◌, ℕ, ◌+◌, ◌≤◌, List, [], ◌∷◌, ◌++◌, length, slice_get, Option, Some, None, IsTrue, true}
+use Rattle.std.specs.Prelude.{◌≡◌, ◌≢◌, ◌⊎◌, ℕ, ◌+◌, ◌≤◌, List, [], ◌∷◌, ◌++◌, length, slice_get, Option, Some, None, IsTrue, true}
 use Rattle.std.specs.List.{filter_map}
 use Rattle.arch_disk.specs.Disk.{Device, NoFault, NoWriteFailed, raised}
 use Rattle.intervals.specs.declared.interval.Interval.{Interval}
@@ -8,7 +8,9 @@ use Rattle.history_items.specs.declared.fills.Fill.{Fill}
 use Rattle.history_items.specs.declared.fills.Fill.TheVariants.{Done, Fault}
 use Rattle.history_items.specs.Databases.{database_in, names_in}
 use Rattle.history_items.specs.Fills.{pending_fault_of}
-use Rattle.history_items.specs.Items.{databases_in}
+use Rattle.history_items.specs.declared.fills.Addition.TheVariants.{Rows}
+use Rattle.history_items.specs.declared.items.Item.{Item}
+use Rattle.history_items.specs.Items.{after_rows, databases_in, items_of}
 use Rattle.history_items.specs.Noted.{IntervalFill, noted_of}
 use Rattle.param_segments.specs.Rows.{SetRow}
 use Rattle.store_fills.specs.Faults.{faults_in}
@@ -32,11 +34,18 @@ pub record NoneFailed {D : Type 0} (device : Device D) (old new : StoreView D) :
   pub no_failed_write : NoWriteFailed device old.disk new.disk
   pub no_fault : NoFault device old.disk new.disk
 
--- one write of the disk failed, where none was pending: what its call would have added stands in one fault more
+-- the rows that an addition holds are all new to a history: each would come to stand behind it
+abbrev pub AreNewTo : List Item → Addition → Type 0
+AreNewTo history (Rows rows) = after_rows history rows ≡ history ++ items_of rows
+AreNewTo history other = Unit {0}
+
+-- One write of the disk failed, where none was pending: what its call would have added stands in one fault more, and no
+-- row of it came since.
 pub record OneFailed {D : Type 0} (device : Device D) (old new : StoreView D) : Type 0 where
   pub healed : pending_fault_of old.fills ≡ None
   pub count : ℕ
   pub addition : Addition
+  pub new_to : AreNewTo new.history addition
   pub faults : faults_in new.fills ≡ faults_in old.fills ++ Fault count true addition ∷ []
   pub wrote : device.failed_writes new.disk ≡ raised (device.failed_writes old.disk)
   pub rose : raised (device.fault_count old.disk) ≤ device.fault_count new.disk
@@ -61,16 +70,18 @@ abbrev pub HasFillOrNew : {D : Type 0} → StoreView D → StoreView D → Inter
 HasFillOrNew old new interval =
     (fillings_in new.filled interval ≡ fillings_in old.filled interval) ⊎ HasNewFill old new interval
 
--- Both lists go on from the first ones, under one database. Each record more is one of an item or of a fill. One call
--- of the disk failed at most, a write. Where the disk is transparent, each interval has the fill that it had, or a
--- right one since; and what power lost since an earlier store leaves lies between that store and this one, if it did up
--- to the first.
+-- Both lists go on from the first ones, under one database. Each record more is one of an item or of a fill, and each
+-- fill more has one. One call of the disk failed at most, a write, and while a failed write is pending no row comes.
+-- Where the disk is transparent, each interval has the fill that it had, or a right one since; and what power lost since
+-- an earlier store leaves lies between that store and this one, if it did up to the first.
 pub record GoesOn {D : Type 0} (device : Device D) (first now : StoreView D) : Type 0 where
   pub appends : OnlyAppends first now
   pub database : SameDatabase first now
   pub records : now.records + length first.history + dones first.fills
       ≤ first.records + length now.history + dones now.fills
+  pub recorded : first.records + dones now.fills ≤ now.records + dones first.fills
   pub faults : NoneFailed device first now ⊎ OneFailed device first now
+  pub stops : pending_fault_of first.fills ≢ None → now.history ≡ first.history
   pub sets : IsTrue device.is_transparent → (interval : Interval) → HasFillOrNew first now interval
   pub images : IsTrue device.is_transparent → (start : StoreView D) →
       LeavesBetween device start first → LeavesBetween device start now

@@ -9,7 +9,6 @@ use Rattle.asks.specs.declared.ask.Request.{Request}
 use Rattle.asks.specs.Names.{parameter_number}
 use Rattle.asks.specs.Refusals.{request_refusal}
 use Rattle.refusals.specs.declared.refusal.Refusal.{Refusal}
-use Rattle.refusals.specs.declared.refusal.Refusal.TheVariants.{OutOfMemory}
 use Rattle.intervals.specs.declared.interval.Interval.{Interval}
 use Rattle.container_extract.specs.Answer.{answer_of}
 use Rattle.history_items.specs.Databases.{database_in}
@@ -21,6 +20,7 @@ use Rattle.store_fills.specs.LastFills.{fillings_in}
 use Rattle.store_fills.specs.Sound.{base_of_filling}
 use Rattle.archive_store.specs.Finding.{IsNotFound, IsRequestFound}
 use Rattle.archive_store.specs.Plans.{IsPlan, IsPlanOver, late_rows_of_range}
+use Rattle.archive_store.specs.UnreadRows.{IsReadRefusal}
 use Rattle.archive_store.specs.StoreView.{StoreView}
 use Rattle.retrieval.specs.FilledAnswer.{IsFilledAnswer}
 use Rattle.live_archive.specs.declared.retrieving.Planned.{Planned}
@@ -30,10 +30,10 @@ use Rattle.live_archive.specs.Answers.{WhereSound}
 abbrev pub in_force : {D : Type 0} → StoreView D → Database
 in_force store = database_in store.head.mdb store.history
 
--- what is refused of the ask, or want of memory
-abbrev pub IsNotAnswered : {D : Type 0} → StoreView D → Request → Refusal → Type 0
-IsNotAnswered store request refusal =
-    IsNotFound (request_refusal (in_force store) request) refusal ⊎ (refusal ≡ OutOfMemory)
+-- what is refused of the ask, or rows that aren't read
+abbrev pub IsNotAnswered : {D : Type 0} → Device D → StoreView D → StoreView D → Request → Refusal → Type 0
+IsNotAnswered device before after request refusal =
+    IsNotFound (request_refusal (in_force before) request) refusal ⊎ IsReadRefusal device before after refusal
 
 -- the rows of the range in late intervals
 abbrev pub late_rows_asked : {D : Type 0} → StoreView D → Request → List Row

@@ -1,10 +1,10 @@
 //! Replays.
 
-ghost use Rattle.std.specs.Prelude.{◌≡◌, ◌≤◌, ◌<◌, ◌++◌, [], length, IfOk, IfErr};
+ghost use Rattle.std.specs.Prelude.{◌≡◌, ◌≤◌, ◌<◌, ◌++◌, [], length, IfOk, IfErr, OnErr};
 ghost use Rattle.std.specs.List.{AllByRecursion};
-ghost use Rattle.refusals.specs.declared.refusal.Refusal.TheVariants.{OutOfMemory};
 ghost use Rattle.replay_merge.specs.Cursor.{AsksTheSame, steps_at_most, EndsExactly, IsRowAsked, rest_of};
 ghost use Rattle.archive_store.specs.Finding.{IsReplayFound};
+ghost use Rattle.archive_store.specs.UnreadRows.{IsReadFault};
 ghost use Rattle.archive_store.specs.Replays.{IsReplayOpened, rows_below};
 ghost use Rattle.turn_cell.specs.Pass.{IsFree};
 ghost use Rattle.live_archive.specs.Turns.{TookTurn};
@@ -13,9 +13,9 @@ use crate::held::HeldStore;
 use crate::live::{LiveOver, LivePass};
 use arch_disk::Disk;
 use arch_types::row::Rows;
+use arch_types::row_fault::RowFault;
 use archive_store::FoundReplay;
 use archive_store::laws::replays_keep_their_front;
-use refusals::Refusal;
 use replay_merge::cursor::Cursor;
 use std::alloc::{AllocError, Global};
 use std::sync::Wait;
@@ -43,7 +43,7 @@ impl<D: Disk> LiveOver<HeldStore<D>> {
     }
 
     /// The next rows of a replay, at most `limit`, whose front the caller has seen. No row, for a limit above 0, is the
-    /// end.
+    /// end. Refused, it leaves the cursor as it was.
     pub fn replay_next<R: Wait>(
         &self,
         rt: &R,
@@ -51,11 +51,12 @@ impl<D: Disk> LiveOver<HeldStore<D>> {
         pass: &mut LivePass<D>,
         cursor: &mut Cursor,
         limit: u64,
-    ) -> Result<Rows, Refusal>
+    ) -> Result<Rows, RowFault>
         requires free { IsFree self.now.cell pass.old }
         requires front { cursor.old.front ≤ length pass.old.history.seen }
         ensures free { IsFree self.now.cell pass.new }
-        ensures turn { TookTurn D.device self.now.cell.first.store pass.old pass.new (λ before after. after ≡ before) }
+        ensures turn { TookTurn D.device self.now.cell.first.store pass.old pass.new (λ before after.
+            (after ≡ before) × IfErr result (IsReadFault D.device before after)) }
 
         // The rows are those of the history that the caller has seen, whatever came to it since.
         ensures rows { IfOk result (λ rows. rows ++ rest_of cursor.new (rows_below pass.old.history.seen)
@@ -65,7 +66,7 @@ impl<D: Disk> LiveOver<HeldStore<D>> {
         ensures few { IfOk result (λ rows. length rows ≤ limit) }
         ensures each { IfOk result (λ rows. AllByRecursion (IsRowAsked cursor.old) rows) }
         ensures asked { AsksTheSame cursor.old cursor.new }
-        ensures refused { IfErr result (λ e. (e ≡ OutOfMemory) × (cursor.new ≡ cursor.old)) }
+        ensures unmoved { OnErr result (cursor.new ≡ cursor.old) }
     {
         replays_keep_their_front();
         let mut held = self.cell.enter(rt, pass);

@@ -31,7 +31,7 @@ impl<D: Disk> LiveOver<HeldStore<D>> {
     ) -> Result<Option<FillTask>, Refusal>
         requires free { IsFree self.now.cell pass.old }
         ensures free { IsFree self.now.cell pass.new }
-        ensures turn { TookTurn D.device self.now.cell.first.store pass.old pass.new (SaysBegun result) }
+        ensures turn { TookTurn D.device self.now.cell.first.store pass.old pass.new (SaysBegun D.device result) }
         ensures in_order { IfOk result (λ begun. IfSome begun (λ task.
             IsTaskRows task.exponent task.interval task.rows)) }
     {

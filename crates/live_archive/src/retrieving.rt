@@ -28,15 +28,13 @@ impl<D: Disk> HeldStore<D> {
     /// Finds a request in the database in force, and plans what is read for it.
     pub(crate) fn planned(&mut self, alloc: Global, request: Request) -> Result<Planned, Refusal>
         ensures planned { IfOk result (IsPlannedIn D.device self.old.store request) }
-        ensures refused { IfErr result (IsNotAnswered self.old.store request) }
+        ensures refused { IfErr result (IsNotAnswered D.device self.old.store self.new.store request) }
         ensures same { self.new.store ≡ self.old.store }
     {
         self.store.is_kept();
         let found = self.store.find(request)?;
-        match self.store.plan(alloc, &found) {
-            Ok(plan) => Ok(Planned { found, plan }),
-            Err(_) => Err(Refusal::OutOfMemory),
-        }
+        let plan = self.store.plan(alloc, &found)?;
+        Ok(Planned { found, plan })
     }
 }
 
@@ -52,7 +50,7 @@ impl<D: Disk> LiveOver<HeldStore<D>> {
         requires free { IsFree self.now.cell pass.old }
         ensures free { IsFree self.now.cell pass.new }
         ensures turn { TookTurn D.device self.now.cell.first.store pass.old pass.new (λ before after. (after ≡ before)
-            × MatchResult result (IsPlannedIn D.device before request) (IsNotAnswered before request)) }
+            × MatchResult result (IsPlannedIn D.device before request) (IsNotAnswered D.device before after request)) }
     {
         let mut held = self.cell.enter(rt, pass);
         let result = held.planned(alloc, request);
@@ -72,7 +70,7 @@ impl<D: Disk> LiveOver<HeldStore<D>> {
         requires free { IsFree self.now.cell pass.old }
         ensures free { IsFree self.now.cell pass.new }
         ensures turn { TookTurn D.device self.now.cell.first.store pass.old pass.new (λ before after. (after ≡ before)
-            × MatchResult result (IsAnswerIn D.device before request) (IsNotAnswered before request)
+            × MatchResult result (IsAnswerIn D.device before request) (IsNotAnswered D.device before after request)
             × (steps.new ≤ steps_allowed before request steps.old)) }
     {
         let planned = self.planned(rt, alloc, pass, request)?;

@@ -1,5 +1,5 @@
 -- Asks that are answered in a turn.
-use Rattle.std.proofs.Common.{◌≡◌, ◌⊎◌, inl, inr, ℕ, ◌≤◌, List, length, Result, Ok, Err, MatchResult, Option, Some, None, sym, ap, ◌∙◌, subst, arith}
+use Rattle.std.proofs.Common.{◌≡◌, inl, inr, ℕ, ◌≤◌, List, length, Result, Ok, Err, MatchResult, Option, Some, None, sym, ap, ◌∙◌, subst, arith}
 use Rattle.arch_disk.specs.Disk.{Device}
 use Rattle.asks.specs.declared.ask.Answer.{Answer}
 use Rattle.asks.specs.declared.ask.Request.{Request}
@@ -26,26 +26,29 @@ use Rattle.archive_store.specs.Finding.{IsNotFound, IsRequestFound}
 use Rattle.archive_store.specs.Replays.{IsReplayOpened, rows_below}
 use Rattle.archive_store.specs.Stands.{IsSoundImage}
 use Rattle.archive_store.specs.StoreView.{StoreView}
+use Rattle.archive_store.proofs.UnreadRows.{refusal_is_memory}
 use Rattle.retrieval.specs.declared.found_asks.FoundAsk.TheVariants as looked_up
-use Rattle.live_archive.specs.Retrievals.{IsAnswerIn, IsNotAnswered}
+use Rattle.live_archive.specs.Answers.{WhereSound}
+use Rattle.live_archive.specs.Retrievals.{IsAnswerIn, IsNotAnswered, in_force}
 use Rattle.live_archive.specs.Turns.{TookTurn}
 use Rattle.live_archive.proofs.Going.{prefix_trans}
 use Rattle.live_asks.specs.declared.answered.AskAnswer.TheVariants as answered
 use Rattle.live_asks.specs.LiveAsks.{IsAnsweredInTurn, OnlySees}
 use Rattle.live_asks.proofs.Sees.{found_begins, found_is_seen, sees_turn}
 
--- a request that was found is refused for want of memory alone
-memory_alone : RequestHasAnswerExactly → (db : Database) (found : FoundRequest) (refusal : Refusal) → IsRequestFound db found → IsNotFound (request_refusal db found.request) refusal ⊎ (refusal ≡ OutOfMemory) → refusal ≡ OutOfMemory
-memory_alone exactly db found refusal is (inr memory) = memory
-memory_alone exactly db found refusal is (inl not) =
-    let none : request_refusal db found.request ≡ None = (exactly db found.request).1 ((λ no. absurd (cc (no, is.number))), is.range) in
+-- a request that was found is refused for want of memory alone, where nothing changed
+memory_alone : {D : Type 0} (device : Device D) (before after : StoreView D) → RequestHasAnswerExactly → (found : FoundRequest) (refusal : Refusal) → IsRequestFound (in_force before) found → after ≡ before
+    → IsNotAnswered device before after found.request refusal → refusal ≡ OutOfMemory
+memory_alone device before after exactly found refusal is same (inr unread) = refusal_is_memory device before after refusal unread same
+memory_alone device before after exactly found refusal is same (inl not) =
+    let none : request_refusal (in_force before) found.request ≡ None = (exactly (in_force before) found.request).1 ((λ no. absurd (cc (no, is.number))), is.range) in
     subst (λ (o : Option AskRefusal). IsNotFound o refusal) none not
 
 module _ {D T : Type 0} (device : Device D) (first : StoreView D) (old new : PassView Item Fill T) where
   -- ---- values
   module _ (found : FoundRequest) where
     values_answered : (answer : Answer) (turn : TookTurn device first old new (λ before after. (after ≡ before) × IsAnswerIn device before found.request answer))
-        → IsAnsweredInTurn device first old.history.seen new.history.seen (looked_up.Values found) (answered.Values answer)
+        → IsAnsweredInTurn (WhereSound device first) first.head old.history.seen new.history.seen (looked_up.Values found) (answered.Values answer)
     values_answered answer turn =
         let before = turn.before in
         let request = found.request in
@@ -65,21 +68,21 @@ module _ {D T : Type 0} (device : Device D) (first : StoreView D) (old new : Pas
     -- what a retrieval of an equal request says in its turn, of either answer
     module _ (request : Request) (same : request ≡ found.request) where
       abbrev Retrieves : Result Answer Refusal → Type 0
-      Retrieves result = TookTurn device first old new (λ before after. (after ≡ before) × MatchResult result (IsAnswerIn device before request) (IsNotAnswered before request))
+      Retrieves result = TookTurn device first old new (λ before after. (after ≡ before) × MatchResult result (IsAnswerIn device before request) (IsNotAnswered device before after request))
 
-      of_found : (result : Result Answer Refusal) → Retrieves result → TookTurn device first old new (λ before after. (after ≡ before) × MatchResult result (IsAnswerIn device before found.request) (IsNotAnswered before found.request))
-      of_found result turn = subst (λ (r : Request). TookTurn device first old new (λ before after. (after ≡ before) × MatchResult result (IsAnswerIn device before r) (IsNotAnswered before r))) same turn
+      of_found : (result : Result Answer Refusal) → Retrieves result → TookTurn device first old new (λ before after. (after ≡ before) × MatchResult result (IsAnswerIn device before found.request) (IsNotAnswered device before after found.request))
+      of_found result turn = subst (λ (r : Request). TookTurn device first old new (λ before after. (after ≡ before) × MatchResult result (IsAnswerIn device before r) (IsNotAnswered device before after r))) same turn
 
       pub retrieval_sees : (result : Result Answer Refusal) → Retrieves result → OnlySees old new
       retrieval_sees result turn = sees_turn device first turn.before turn.after old new turn.turned turn.said.0
 
-      pub retrieval_answers : (answer : Answer) → Retrieves (Ok answer) → IsAnsweredInTurn device first old.history.seen new.history.seen (looked_up.Values found) (answered.Values answer)
+      pub retrieval_answers : (answer : Answer) → Retrieves (Ok answer) → IsAnsweredInTurn (WhereSound device first) first.head old.history.seen new.history.seen (looked_up.Values found) (answered.Values answer)
       retrieval_answers answer turn = values_answered answer (of_found (Ok answer) turn)
 
       pub retrieval_refuses : RequestHasAnswerExactly → (refusal : Refusal) → IsRequestFound (database_in first.head.mdb first.history) found → Retrieves (Err refusal) → refusal ≡ OutOfMemory
       retrieval_refuses exactly refusal is turn =
           let t = of_found (Err refusal) turn in
-          memory_alone exactly (database_in t.before.head.mdb t.before.history) found refusal (subst (λ (db : Database). IsRequestFound db found) (sym t.turned.found.database.in_force) is) t.said.1
+          memory_alone device t.before t.after exactly found refusal (subst (λ (db : Database). IsRequestFound db found) (sym t.turned.found.database.in_force) is) t.said.0 t.said.1
 
   -- ---- replays
   abbrev Opens : FoundReplay → CursorView → Type 0
@@ -95,7 +98,7 @@ module _ {D T : Type 0} (device : Device D) (first : StoreView D) (old new : Pas
   -- all rows that were left were taken
   pub replay_answers : (found : FoundReplay) (cursor : CursorView) (rows : List Row) (last : PassView Item Fill T) → Opens found cursor → OnlySees new last
       → rows ≡ rest_of cursor (rows_below last.history.seen)
-      → IsAnsweredInTurn device first old.history.seen last.history.seen (looked_up.Replay found) (answered.Replay (record { front = cursor.front; rows = rows }))
+      → IsAnsweredInTurn (WhereSound device first) first.head old.history.seen last.history.seen (looked_up.Replay found) (answered.Replay (record { front = cursor.front; rows = rows }))
   replay_answers found cursor rows last turn sees is =
       let before = turn.before in
       let opened = turn.said.1 in

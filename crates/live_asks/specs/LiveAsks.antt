@@ -1,7 +1,6 @@
 -- What a reader is told of a live archive.
 use Rattle.std.specs.Prelude.{◌≡◌, ℕ, zero, suc, List, [], ◌∷◌, length, Option, Some, None}
 use mathlib.Core.List.{IsPrefix}
-use Rattle.arch_disk.specs.Disk.{Device}
 use Rattle.asks.specs.declared.ask.Answer.{Answer}
 use Rattle.asks.specs.declared.ask.ReplayRequest.{ReplayRequest}
 use Rattle.asks.specs.declared.ask.Request.{Request}
@@ -16,10 +15,8 @@ use Rattle.history_items.specs.Items.{rows_in}
 use Rattle.replay_merge.specs.Replay.{replay_of}
 use Rattle.turn_cell.specs.Pass.{PassView}
 use Rattle.archive_store.specs.declared.head.Head.{Head}
-use Rattle.archive_store.specs.StoreView.{StoreView}
 use Rattle.retrieval.specs.declared.found_asks.FoundAsk.{FoundAsk}
 use Rattle.retrieval.specs.declared.found_asks.FoundAsk.TheVariants as looked_up
-use Rattle.live_archive.specs.Answers.{WhereSound}
 use Rattle.live_asks.specs.declared.answered.ReplayedRows.{ReplayedRows}
 use Rattle.live_asks.specs.declared.answered.AskAnswer.{AskAnswer}
 use Rattle.live_asks.specs.declared.answered.AskAnswer.TheVariants as answered
@@ -43,14 +40,14 @@ every_fourth (suc before) (x ∷ xs) = every_fourth before xs
 
 -- ---- answers
 
--- The whole history stands behind the answer; where the archive's fills were sound when it was opened, its cells are
--- those that the rows of the range give.
-pub record HasCellsOf {D : Type 0} (device : Device D) (first : StoreView D) (history : List Item) (request : Request)
+-- The whole history stands behind the answer; where `Where` says so, as where the archive's fills were sound when it
+-- was opened, its cells are those that the rows of the range give.
+pub record HasCellsOf (Where : Type 0 → Type 0) (head : Head) (history : List Item) (request : Request)
     (answer : Answer) : Type 0 where
   pub front : answer.front ≡ length history
-  pub cells : WhereSound device first ((number : ℕ)
-      × (parameter_number (database_in first.head.mdb history) request.parameter ≡ Some number)
-      × (answer.cells ≡ answer_of (database_in first.head.mdb history) number request (rows_in history)))
+  pub cells : Where ((number : ℕ)
+      × (parameter_number (database_in head.mdb history) request.parameter ≡ Some number)
+      × (answer.cells ≡ answer_of (database_in head.mdb history) number request (rows_in history)))
 
 -- the whole history stands behind the rows, which are the replay of it
 pub record HasReplayOf (head : Head) (history : List Item) (request : ReplayRequest) (replayed : ReplayedRows)
@@ -61,29 +58,29 @@ pub record HasReplayOf (head : Head) (history : List Item) (request : ReplayRequ
   pub rows : replayed.rows ≡ replay_of (names_in head.mdb history) table request (rows_in history)
 
 -- an ask is answered over a history
-abbrev pub AnswersOver : {D : Type 0} → Device D → StoreView D → List Item → FoundAsk → AskAnswer → Type 0
-AnswersOver device first history (looked_up.Values found) (answered.Values answer) =
-    HasCellsOf device first history found.request answer
-AnswersOver device first history (looked_up.Replay found) (answered.Replay replayed) =
-    HasReplayOf first.head history found.request replayed
-AnswersOver device first history ask other = ⊥
+abbrev pub AnswersOver : (Type 0 → Type 0) → Head → List Item → FoundAsk → AskAnswer → Type 0
+AnswersOver Where head history (looked_up.Values found) (answered.Values answer) =
+    HasCellsOf Where head history found.request answer
+AnswersOver Where head history (looked_up.Replay found) (answered.Replay replayed) =
+    HasReplayOf head history found.request replayed
+AnswersOver Where head history ask other = ⊥
 
 -- It is over the history that there was in some turn: it goes on from an old one, and the one seen last goes on from
 -- it.
-pub record IsAnsweredInTurn {D : Type 0} (device : Device D) (first : StoreView D) (old seen : List Item)
-    (ask : FoundAsk) (answer : AskAnswer) : Type 0 where
+pub record IsAnsweredInTurn (Where : Type 0 → Type 0) (head : Head) (old seen : List Item) (ask : FoundAsk)
+    (answer : AskAnswer) : Type 0 where
   pub over : List Item
   pub later : IsPrefix old over
   pub begins : IsPrefix over seen
-  pub answers : AnswersOver device first over ask answer
+  pub answers : AnswersOver Where head over ask answer
 
 -- each ask is answered, over a history that goes on from that of the answer before, or, where there was no memory for
 -- one, those before it
-abbrev pub AreAnswered : {D : Type 0} → Device D → StoreView D → List Item → List Item → List FoundAsk → List AskAnswer
+abbrev pub AreAnswered : (Type 0 → Type 0) → Head → List Item → List Item → List FoundAsk → List AskAnswer
     → Option Refusal → Type 0
-AreAnswered device first old seen [] [] None = Unit {0}
-AreAnswered device first old seen (ask ∷ asks) [] (Some refusal) = refusal ≡ OutOfMemory
-AreAnswered device first old seen (ask ∷ asks) (answer ∷ answers) refusal =
-    (turn : IsAnsweredInTurn device first old seen ask answer)
-    × AreAnswered device first turn.over seen asks answers refusal
-AreAnswered device first old seen asks answers refusal = ⊥
+AreAnswered Where head old seen [] [] None = Unit {0}
+AreAnswered Where head old seen (ask ∷ asks) [] (Some refusal) = refusal ≡ OutOfMemory
+AreAnswered Where head old seen (ask ∷ asks) (answer ∷ answers) refusal =
+    (turn : IsAnsweredInTurn Where head old seen ask answer)
+    × AreAnswered Where head turn.over seen asks answers refusal
+AreAnswered Where head old seen asks answers refusal = ⊥

@@ -4,6 +4,7 @@ ghost use Rattle.std.specs.Prelude.{◌≡◌, []};
 ghost use Rattle.retrieval.specs.FoundAsks.{AreFound};
 ghost use Rattle.std.specs.Result.{result_err};
 ghost use Rattle.turn_cell.specs.Pass.{IsFree};
+ghost use Rattle.live_archive.specs.Answers.{WhereSound};
 ghost use Rattle.live_asks.specs.LiveAsks.{AreAnswered, OnlySees, every_fourth};
 
 use crate::answered::AskAnswers;
@@ -46,6 +47,7 @@ pub struct ReaderDone<P> {
 impl<'a, D: Disk + Send, G: Gate + Sync> Job for Reader<'a, Live<D>, LivePass<D>, G> {
     ghost use Rattle.retrieval.specs.FoundAsks.{AreFound};
     ghost use Rattle.turn_cell.specs.Pass.{IsFree};
+    ghost use Rattle.live_archive.specs.Answers.{WhereSound};
     ghost use Rattle.live_asks.specs.LiveAsks.{AreAnswered, OnlySees, every_fourth};
 
     type Done = ReaderDone<LivePass<D>>;
@@ -54,8 +56,9 @@ impl<'a, D: Disk + Send, G: Gate + Sync> Job for Reader<'a, Live<D>, LivePass<D>
         × AreFound reader.live.now.cell.first.store.head reader.live.now.cell.first.store.history reader.asks.now };
 
     ghost did = { λ reader done. IsFree reader.live.now.cell done.pass × OnlySees reader.pass done.pass
-        × AreAnswered D.device reader.live.now.cell.first.store reader.pass.history.seen done.pass.history.seen
-        (every_fourth reader.before reader.asks.now) done.answers done.refusal };
+        × AreAnswered (WhereSound D.device reader.live.now.cell.first.store) reader.live.now.cell.first.store.head
+        reader.pass.history.seen done.pass.history.seen (every_fourth reader.before reader.asks.now) done.answers
+        done.refusal };
 
     fn run<R: Wait>(self, rt: &R) -> ReaderDone<LivePass<D>> {
         let Reader {
@@ -107,8 +110,8 @@ fn answer_asks<D: Disk, G: Gate, R: Wait>(
     requires none { answers.old ≡ [] }
     ensures free { IsFree live.now.cell pass.new }
     ensures sees { OnlySees pass.old pass.new }
-    ensures answered { AreAnswered D.device live.now.cell.first.store pass.old.history.seen pass.new.history.seen
-        (every_fourth before asks.now) answers.new (result_err result) }
+    ensures answered { AreAnswered (WhereSound D.device live.now.cell.first.store) live.now.cell.first.store.head
+        pass.old.history.seen pass.new.history.seen (every_fourth before asks.now) answers.new (result_err result) }
 {
     let mut skip = before;
     for ask in asks {

@@ -9,6 +9,7 @@ ghost use Rattle.replay_merge.specs.Cursor.{rest_of};
 ghost use Rattle.retrieval.specs.FoundAsks.{IsAskFound};
 ghost use Rattle.retrieval.specs.declared.found_asks.FoundAsk.TheVariants as looked_up;
 ghost use Rattle.turn_cell.specs.Pass.{IsFree};
+ghost use Rattle.live_archive.specs.Answers.{WhereSound};
 ghost use Rattle.live_archive.specs.Retrievals.{IsAnswerIn, IsNotAnswered};
 ghost use Rattle.live_archive.specs.Turns.{TookTurn};
 ghost use Rattle.live_asks.specs.LiveAsks.{IsAnsweredInTurn, OnlySees};
@@ -62,8 +63,8 @@ pub(crate) fn answer_ask<D: Disk, G: Gate, R: Wait>(
     requires found { IsAskFound live.now.cell.first.store.head live.now.cell.first.store.history ask.now }
     ensures free { IsFree live.now.cell pass.new }
     ensures sees { OnlySees pass.old pass.new }
-    ensures answered { IfOk result (IsAnsweredInTurn D.device live.now.cell.first.store pass.old.history.seen
-        pass.new.history.seen ask.now) }
+    ensures answered { IfOk result (IsAnsweredInTurn (WhereSound D.device live.now.cell.first.store)
+        live.now.cell.first.store.head pass.old.history.seen pass.new.history.seen ask.now) }
     ensures refused { IfErr result (λ refusal. refusal ≡ OutOfMemory) }
 {
     match ask {
@@ -86,8 +87,8 @@ fn values<D: Disk, G: Gate, R: Wait>(
         live.now.cell.first.store.history) found.now }
     ensures free { IsFree live.now.cell pass.new }
     ensures sees { OnlySees pass.old pass.new }
-    ensures answered { IfOk result (IsAnsweredInTurn D.device live.now.cell.first.store pass.old.history.seen
-        pass.new.history.seen (looked_up.Values found.now)) }
+    ensures answered { IfOk result (IsAnsweredInTurn (WhereSound D.device live.now.cell.first.store)
+        live.now.cell.first.store.head pass.old.history.seen pass.new.history.seen (looked_up.Values found.now)) }
     ensures refused { IfErr result (λ refusal. refusal ≡ OutOfMemory) }
 {
     request_has_answer_exactly();
@@ -124,7 +125,7 @@ fn retrieved<D: Disk, R: Wait, L: Ledger>(
     requires blank { (blank.name ≡ L.name) × (blank.parts ≡ L.parts) × (0 < blank.parts) }
     ensures free { IsFree live.now.cell pass.new }
     ensures turn { TookTurn D.device live.now.cell.first.store pass.old pass.new (λ before after. (after ≡ before)
-        × MatchResult result (IsAnswerIn D.device before request) (IsNotAnswered before request)) }
+        × MatchResult result (IsAnswerIn D.device before request) (IsNotAnswered D.device before after request)) }
 {
     let (book, share) = blank.open::<L>();
     live.retrieve(rt, alloc, pass, request, &mut Steps::new(book, share))
@@ -144,8 +145,8 @@ fn replay<D: Disk, G: Gate, R: Wait>(
     requires found { IsReplayFound live.now.cell.first.store.head.tables found.now }
     ensures free { IsFree live.now.cell pass.new }
     ensures sees { OnlySees pass.old pass.new }
-    ensures answered { IfOk result (IsAnsweredInTurn D.device live.now.cell.first.store pass.old.history.seen
-        pass.new.history.seen (looked_up.Replay found.now)) }
+    ensures answered { IfOk result (IsAnsweredInTurn (WhereSound D.device live.now.cell.first.store)
+        live.now.cell.first.store.head pass.old.history.seen pass.new.history.seen (looked_up.Replay found.now)) }
     ensures refused { IfErr result (λ refusal. refusal ≡ OutOfMemory) }
 {
     gated.pass();

@@ -75,7 +75,7 @@ module _ {D T : Type 0} (first : StoreView D) where
         record {
           item = x.0;
           there = ap (λ (l : List Fill). slice_get l place) adds.fills.seen ∙ (ap (slice_get (before.fills ++ noted)) at ∙ (at_behind before.fills noted i ∙ x.1));
-          no_rows = x.2.0;
+          of_fill = x.2.0;
           late = λ j base e.
               late_on first.exponent first.fills before.history new.history.seen before.fills (take place new.fills.seen) j history_on (before_place before.fills new.fills.seen place fills_on behind) (x.2.1 j base e);
         }

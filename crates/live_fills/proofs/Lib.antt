@@ -5,4 +5,5 @@ pub mod Causes
 pub mod Refused
 pub mod Works
 pub mod Late
+pub mod Calm
 pub mod Runs

@@ -15,13 +15,13 @@ use Rattle.history_items.specs.declared.fills.Addition.TheVariants as additions
 use Rattle.history_items.specs.declared.fills.Fill.{Fill}
 use Rattle.history_items.specs.declared.fills.Fill.TheVariants.{Done, Freed}
 use Rattle.history_items.specs.declared.items.Item.{Item}
-use Rattle.history_items.specs.Fills.{in_flight, rows_of_faults}
+use Rattle.history_items.specs.Fills.{in_flight}
 use Rattle.store_fills.specs.declared.task.FillTask.{FillTask}
 use Rattle.store_fills.specs.Built.{BuiltFill}
 use Rattle.archive_store.specs.StoreView.{StoreView}
 use Rattle.live_archive.specs.Added.{AreFaults, InstallNotes, begin_notes, flight_ended}
 use Rattle.live_archive.proofs.Places.{at_later}
-use Rattle.live_fills.specs.Filler.{IsFillNote}
+use Rattle.live_fills.specs.Filler.{IsNoBatchFault, IsFillNote}
 use Rattle.live_fills.specs.LiveTarget.{WasLate}
 use Rattle.live_fills.proofs.Tasks.{late_on}
 
@@ -52,7 +52,7 @@ module _ {D : Type 0} (first : StoreView D) where
       record {
         item = note.item;
         there = at_later noted fills place note.item q note.there;
-        no_rows = note.no_rows;
+        of_fill = note.of_fill;
         late = λ i base is.
             let was = late_on first.exponent first.fills front history (take place noted) (take place noted) i p ([], append-nil (take place noted)) (note.late i base is) in
             subst (λ (l : List Fill). WasLate first.exponent first.fills history l i) same was;
@@ -60,9 +60,9 @@ module _ {D : Type 0} (first : StoreView D) where
 
 -- ---- by call
 
--- items that hold no rows, and are fills of such intervals alone
+-- no faults of batches, and fills of such intervals alone
 abbrev pub IsQuiet : (Interval → Type 0) → Fill → Type 0
-IsQuiet Late item = (rows_of_faults (item ∷ []) ≡ []) × ((i : Interval) (base : ℕ) → item ≡ Done i base → Late i)
+IsQuiet Late item = IsNoBatchFault item × ((i : Interval) (base : ℕ) → item ≡ Done i base → Late i)
 
 abbrev pub AreQuiet : (Interval → Type 0) → List Fill → Type 0
 AreQuiet Late noted = AllByRecursion (IsQuiet Late) noted
@@ -76,21 +76,21 @@ module _ (Late : Interval → Type 0) where
   ended_quiet i fills = go (is_some (in_flight i fills))
     where
       go : (b : Bool) → AreQuiet Late (if b then Freed i ∷ [] else [])
-      go true = ((refl, λ j base is. absurd (cc is)), tt)
+      go true = ((tt, λ j base is. absurd (cc is)), tt)
       go false = tt
 
   pub begun_quiet : (answer : Result (Option FillTask) Refusal) → AreQuiet Late (begin_notes answer)
   begun_quiet (Ok None) = tt
-  begun_quiet (Ok (Some task)) = ((refl, λ j base is. absurd (cc is)), tt)
+  begun_quiet (Ok (Some task)) = ((tt, λ j base is. absurd (cc is)), tt)
   begun_quiet (Err refusal) = tt
 
   faults_quiet : (i : Interval) (base : ℕ) (refusal : Refusal) (noted : List Fill) → AreFaults (additions.Fill i base) refusal noted → AreQuiet Late noted
-  faults_quiet i base refused.DiskFault noted are = subst (AreQuiet Late) (sym are.1) ((refl, λ j b is. absurd (cc is)), tt)
+  faults_quiet i base refused.DiskFault noted are = subst (AreQuiet Late) (sym are.1) ((tt, λ j b is. absurd (cc is)), tt)
   faults_quiet i base _ noted are = subst (AreQuiet Late) (sym are) tt
 
   pub installed_quiet : (fills : List Fill) (done : BuiltFill) (answer : Result Installed Refusal) (noted : List Fill) → Late done.interval → InstallNotes fills done answer noted → AreQuiet Late noted
   installed_quiet fills done (Ok became.Done) noted late is =
-      subst (AreQuiet Late) (sym is) ((refl, λ j base e. let same : done.interval ≡ j = cc e in subst Late same late), tt)
+      subst (AreQuiet Late) (sym is) ((tt, λ j base e. let same : done.interval ≡ j = cc e in subst Late same late), tt)
   installed_quiet fills done (Ok (became.Stale position)) noted late is = subst (AreQuiet Late) (sym is) (ended_quiet done.interval fills)
   installed_quiet fills done (Err refusal) noted late (faults, are, is) =
       subst (AreQuiet Late) (sym is) (both_quiet faults (flight_ended done.interval fills) (faults_quiet done.interval done.base refusal faults are) (ended_quiet done.interval fills))

@@ -1,5 +1,5 @@
 -- What all of a filler's turns come to.
-use Rattle.std.specs.Prelude.{◌≡◌, ◌⊎◌, ◌≤◌, ◌+◌, ℕ, List, [], ◌∷◌, length, take, slice_get, Contains, true, Option, Some, IfNone, IfSome}
+use Rattle.std.specs.Prelude.{◌≡◌, ◌⊎◌, ◌≤◌, ◌+◌, ℕ, List, length, take, slice_get, Contains, true, Option, Some, IfNone, IfSome}
 use mathlib.Core.List.{IsPrefix}
 use Rattle.arch_disk.specs.Disk.{Device}
 use Rattle.intervals.specs.declared.interval.Interval.{Interval}
@@ -8,10 +8,11 @@ use Rattle.refusals.specs.declared.refusal.Refusal.TheVariants.{DiskFault, Limit
 use Rattle.refusals.specs.declared.refusal.Which.TheVariants.{Records}
 use Rattle.refusals.specs.Limits.{limit_of}
 use Rattle.history_items.specs.declared.fills.Addition.{Addition}
+use Rattle.history_items.specs.declared.fills.Addition.TheVariants as additions
 use Rattle.history_items.specs.declared.fills.Fill.{Fill}
 use Rattle.history_items.specs.declared.fills.Fill.TheVariants.{Done, Fault}
 use Rattle.history_items.specs.declared.items.Item.{Item}
-use Rattle.history_items.specs.Fills.{pending_fault_of, rows_of_faults}
+use Rattle.history_items.specs.Fills.{pending_fault_of}
 use Rattle.turn_cell.specs.Pass.{CellView, IsFree, PassView}
 use Rattle.archive_store.specs.StoreView.{StoreView}
 use Rattle.backfiller.specs.Work.{AreAllDone, IsOneRefused}
@@ -21,17 +22,27 @@ use Rattle.live_fills.specs.LiveTarget.{BeginsInTurn, InstallsInTurn, WasLate}
 
 -- ---- what it notes
 
--- The item at the place holds no rows. Where it is a fill, its interval was late by the items before it.
+-- a fill, of what a failed write was to add
+abbrev pub IsOfFill : Addition → Type 0
+IsOfFill (additions.Fill interval base) = Unit {0}
+IsOfFill other = ⊥
+
+-- an item is no fault, or the fault of a fill
+abbrev pub IsNoBatchFault : Fill → Type 0
+IsNoBatchFault (Fault count wrote addition) = IsOfFill addition
+IsNoBatchFault other = Unit {0}
+
+-- The item at the place is no fault of a batch. Where it is a fill, its interval was late by the items before it.
 pub record IsFillNote {D : Type 0} (first : StoreView D) (history : List Item) (fills : List Fill) (place : ℕ)
     : Type 0 where
   pub item : Fill
   pub there : slice_get fills place ≡ Some item
-  pub no_rows : rows_of_faults (item ∷ []) ≡ []
+  pub of_fill : IsNoBatchFault item
   pub late : (interval : Interval) (base : ℕ) → item ≡ Done interval base
       → WasLate first.exponent first.fills history (take place fills) interval
 
 -- The pass has seen more of both lists. It has put nothing into the history, and what it has noted in the fill list are
--- fills of late intervals, and what holds no rows.
+-- fills of late intervals, and no fault of a batch.
 pub record FillsAlone {D T : Type 0} (first : StoreView D) (old new : PassView Item Fill T) : Type 0 where
   pub share : new.share ≡ old.share
   pub begins : IsPrefix old.history.seen new.history.seen

@@ -43,7 +43,7 @@ pub record IsOwnTask {D T : Type 0} (first : StoreView D) (pass : PassView Item 
 module _ {D T : Type 0} (device : Device D) (first : StoreView D) where
   -- a begin, in a turn of the pass
   abbrev pub BeginsInTurn : PassView Item Fill T → Result (Option FillTask) Refusal → PassView Item Fill T → Type 0
-  BeginsInTurn old answer new = TookTurn device first old new (SaysBegun answer)
+  BeginsInTurn old answer new = TookTurn device first old new (SaysBegun device answer)
 
   -- the end of a task without a fill, in a turn
   abbrev pub GivesUpInTurn : PassView Item Fill T → FillTask → PassView Item Fill T → Type 0

@@ -1,6 +1,6 @@
 //! A link of a load.
 
-ghost use Rattle.std.specs.Prelude.{◌≡◌, [], length};
+ghost use Rattle.std.specs.Prelude.{◌≡◌, ◌≤◌, [], length};
 ghost use Rattle.outer_traits.specs.Outside.{Stays};
 ghost use Rattle.turn_cell.specs.Pass.{IsFree};
 ghost use Rattle.load_session.specs.Receiving.{receiving};
@@ -57,6 +57,7 @@ pub fn run_link<D: Disk, S: Source, G: Gate, R: Wait>(
 
     // A read of its source failed exactly where its end says so.
     ensures counted { IsReadCounted result.end (S.state link.entry.source).faults (S.state result.source).faults }
+    ensures later { (S.state link.entry.source).faults ≤ (S.state result.source).faults }
     ensures reliable { (S.state link.entry.source).never_fails →
         Stays (S.state link.entry.source).faults (S.state result.source).faults }
 {

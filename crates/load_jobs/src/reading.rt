@@ -20,6 +20,7 @@ pub(crate) fn read_dump<S: Source>(alloc: Global, source: &mut S) -> Result<Octe
     ensures unread { IfErr result (IsReadingEnd (S.state source.old).left) }
     ensures counted { MatchResult result (λ _. Stays (S.state source.old).faults (S.state source.new).faults)
         (λ end. IsReadCounted end (S.state source.old).faults (S.state source.new).faults) }
+    ensures later { (S.state source.old).faults ≤ (S.state source.new).faults }
     ensures reliable { (S.state source.old).never_fails →
         Stays (S.state source.old).faults (S.state source.new).faults }
 {

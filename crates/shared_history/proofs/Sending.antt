@@ -14,7 +14,7 @@ use Rattle.history_items.proofs.Outcomes.{duplicate_back, each_other, fresh_adde
 use Rattle.shared_history.specs.Laws.{BatchIsSent, OneLinkIngests, SentStays}
 use Rattle.shared_history.specs.Sent.{AreKept, AreSomeOf}
 use Rattle.shared_history.proofs.Fresh as law
-use Rattle.shared_history.proofs.Fresh.{IsLikeness, any_left, any_like, batch_goes_on, ingested_fresh, or_cases, or_left, or_right}
+use Rattle.shared_history.proofs.Fresh.{IsLikeness, any_append, any_left, any_like, any_right, batch_goes_on, covers_batch, fresh_is_some, ingested_fresh, or_cases, or_left, or_right}
 use Rattle.shared_history.proofs.OneLink.{all_put}
 
 likeness : IsLikeness is_duplicate_of
@@ -120,3 +120,29 @@ one_link_ingests before after arrived put is_history whole sent =
     let new = new_behind (rows_in before) put (subst IsHistory rows is_history) in
     let fresh = all_put is_duplicate_of likeness arrived (rows_in before) [] put (λ z e. absurd cc) some covers new same_key in
     whole ∙ (ap (λ (l : List Row). before ++ items_of l) (sym (sym (same_fresh before arrived) ∙ fresh)) ∙ sym (fresh_added before arrived))
+
+-- ---- rows that nothing came between
+
+-- The rows of a batch that were new to a history are those that are new to a longer one, where they are all new to that
+-- too.
+pub fresh_stays : (history later : List Item) (batch : List Row) → IsPrefix history later → after_rows later (fresh_of history batch) ≡ later ++ items_of (fresh_of history batch)
+    → fresh_of later batch ≡ fresh_of history batch
+fresh_stays history later batch begins new =
+    let put = fresh_of history batch in
+    let some : AreSomeOf put (law.fresh_of is_duplicate_of [] batch) =
+    subst (λ (l : List Row). AreSomeOf l (law.fresh_of is_duplicate_of [] batch)) (same_fresh history batch) (fresh_is_some is_duplicate_of likeness batch (rows_in history) [] (λ z e. absurd cc)) in
+    let covers : Covers (rows_in history ++ put) batch =
+    subst (λ (l : List Row). Covers l batch) (ingested_fresh is_duplicate_of likeness (rows_in history) batch ∙ ap (λ (l : List Row). rows_in history ++ l) (same_fresh history batch))
+    (covers_batch is_duplicate_of likeness (rows_in history) batch) in
+    let longer = rows_begin history later begins in
+    let more : Covers (rows_in later ++ put) batch = λ z e. wider z (rows_in history) (rows_in later) put longer (covers z e) in
+    let all : law.fresh_of is_duplicate_of (rows_in later) put ≡ put =
+    cancel (rows_in later) _ _ (sym (ingested_fresh is_duplicate_of likeness (rows_in later) put) ∙ (sym (rows_after later put) ∙ (ap rows_in new ∙ rows_behind later put))) in
+    sym (same_fresh later batch) ∙ all_put is_duplicate_of likeness batch (rows_in later) [] put (λ z e. absurd cc) some more all same_key
+  where
+    wider : (z : Row) (xs ys put : List Row) → IsPrefix xs ys → list_any (is_duplicate_of z) (xs ++ put) ≡ true → list_any (is_duplicate_of z) (ys ++ put) ≡ true
+    wider z xs ys put (more, is) e = go (any_append is_duplicate_of likeness z xs put e)
+      where
+        go : (list_any (is_duplicate_of z) xs ≡ true) ⊎ (list_any (is_duplicate_of z) put ≡ true) → list_any (is_duplicate_of z) (ys ++ put) ≡ true
+        go (inl h) = any_left is_duplicate_of likeness z ys put (subst (λ (l : List Row). list_any (is_duplicate_of z) l ≡ true) is (any_left is_duplicate_of likeness z xs more h))
+        go (inr h) = any_right is_duplicate_of likeness z ys put h

@@ -15,7 +15,7 @@ returns-clause-turn g c =
     let entered = c.enter-held.ensures in
     took g.D.Disk.device _ c.enter-held.result.store c.replay_step-result.new.self c.args.pass.now c.enter-held.new.pass c.leave.new.pass _
     entered.value go entered.begins entered.fills_begin entered.found c.leave.ensures.left
-    c.replay_step-result.ensures.same
+    (c.replay_step-result.ensures.same, c.replay_step-result.ensures.refused)
 
 pub returns-clause-rows : goal.returns-clause-rows
 returns-clause-rows g c =

@@ -1,4 +1,5 @@
 use Rattle.std.proofs.Common.{inr, refl, arith}
+use Rattle.arch_types.specs.declared.row_fault.RowFault.TheVariants.{OutOfMemory}
 use Rattle.live_archive.proofs.Retrieved.{answered_in, steps_within, values_of_plan}
 use Rattle.live_archive.specs.Retrievals.{IsAnswerIn, IsNotAnswered}
 use Rattle.live_archive.proofs.Turning.{handed_on, turn_says}
@@ -9,7 +10,7 @@ returns-in_err-planned-clause-turn g c =
     let refusal = c.in_err-planned.field-0.0 in
     turn_says g.D.Disk.device c.in_err-planned.ensures.turn (λ before after said. (
       said.0,
-      handed_on c.from_residual.result refusal (IsAnswerIn g.D.Disk.device before c.args.request) (IsNotAnswered before c.args.request) c.from_residual.ensures.1 said.1,
+      handed_on c.from_residual.result refusal (IsAnswerIn g.D.Disk.device before c.args.request) (IsNotAnswered g.D.Disk.device before after c.args.request) c.from_residual.ensures.1 said.1,
       omega arith,
     ))
 
@@ -31,6 +32,6 @@ pub returns-clause-turn : goal.returns-clause-turn
 returns-clause-turn g c =
     turn_says g.D.Disk.device c.in_ok-planned.ensures.turn (λ before after said. (
       said.0,
-      inr refl,
+      inr (OutOfMemory, tt, refl),
       steps_within g.D.Disk.device before c.args.request c.in_ok-planned.planned said.1 _ _ c.answer.ensures.steps,
     ))
