@@ -58,7 +58,7 @@ there_or : (o : Option (List ℕ)) → IsSome o → IsNone o → ⊥
 there_or None some none = cc
 there_or (Some octets) some none = cc
 
-there_once : (all : Files) (name : List ℕ) (a b : Bool) → IsThereAs (Some all) name a → IsThereAs (Some all) name b → a ≡ b
+pub there_once : (all : Files) (name : List ℕ) (a b : Bool) → IsThereAs (Some all) name a → IsThereAs (Some all) name b → a ≡ b
 there_once all name true true h k = refl
 there_once all name false false h k = refl
 there_once all name true false h k = absurd (there_or (get all name) h k)

@@ -22,7 +22,7 @@ risen_counted before now least risen = (least, risen)
 pub inputs_unused : (state : InputsState) → UsedInputs state state 0 false
 inputs_unused state = record { files = refl; closed = λ _. refl; gave = refl; counted = refl; reliable = λ sure. (sure, refl) }
 
-given_then : (a b c m n t : ℕ) → t ≡ m + n → b ≡ given_more m a → c ≡ given_more n b → c ≡ given_more t a
+pub given_then : (a b c m n t : ℕ) → t ≡ m + n → b ≡ given_more m a → c ≡ given_more n b → c ≡ given_more t a
 given_then a b c zero zero zero s e f = f ∙ e
 given_then a b c zero zero (suc t) s e f = absurd (omega (arith, s))
 given_then a b c zero (suc n) zero s e f = absurd (omega (arith, s))
@@ -39,7 +39,9 @@ given_then a b c (suc m) (suc n) (suc t) s e f =
 pub used_inputs_then : (a b c : InputsState) (m n : ℕ) (failed : Bool) → UsedInputs a b m false → UsedInputs b c n failed → UsedInputs a c (m + n) failed
 used_inputs_then a b c m n failed first next = record {
   files = next.files ∙ first.files;
-  closed = λ few. next.closed (rw (first.closed few) few) ∙ first.closed few;
+  closed = λ few.
+      let back = first.closed (omega (arith, few)) in
+      next.closed (omega (arith, few, back)) ∙ back;
   gave = given_then a.given b.given c.given m n (m + n) refl first.gave next.gave;
   counted = counted_then a.faults b.faults c.faults failed first.counted next.counted;
   reliable = λ sure. let now = first.reliable sure in let after = next.reliable now.0 in (after.0, after.1 ∙ now.1);

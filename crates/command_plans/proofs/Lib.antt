@@ -3,3 +3,4 @@ pub mod Ledgers
 pub mod Inputs
 pub mod Readings
 pub mod Whole
+pub mod Sources

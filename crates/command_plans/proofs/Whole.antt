@@ -22,7 +22,7 @@ none before = omega arith
 module _ {X : Type 0} (files : Option Files) (which : Which) (of : List ℕ → X) (name : List ℕ) (old new : InputsState) (same : new.files ≡ old.files)
     (closed : old.open_sources + 1 < 2 ^ 64 → new.open_sources ≡ old.open_sources) (reliable : old.never_fails → new.never_fails × (new.faults ≡ old.faults)) where
   used : (sources : ℕ) (failed : Bool) → new.given ≡ given_more sources old.given → Counted failed old.faults new.faults → UsedInputs old new sources failed
-  used sources failed gave counted = record { files = same; closed = closed; gave = gave; counted = counted; reliable = reliable }
+  used sources failed gave counted = record { files = same; closed = λ few. closed (omega (arith, few)); gave = gave; counted = counted; reliable = reliable }
 
   -- it was read
   pub was_read : (octets : List ℕ) → IsInput files name octets → length octets ≤ limit_of which → new.given ≡ given_more 1 old.given → new.faults ≡ old.faults →

@@ -1,5 +1,5 @@
 -- What a call did to an object of the outside, as one fact on its state before and after.
-use Rattle.std.specs.Prelude.{◌≡◌, ℕ, zero, suc, ◌+◌, ◌-◌, ◌^◌, ◌<◌, ◌≤◌, min, Bool, true, false}
+use Rattle.std.specs.Prelude.{◌≡◌, ℕ, zero, suc, ◌+◌, ◌-◌, ◌^◌, ◌<◌, ◌≤◌, max, min, Bool, true, false}
 use Rattle.arch_disk.specs.Disk.{Device, raised}
 use Rattle.outer_traits.specs.Outside.{HasRisen, Stays, StaysKnown}
 use Rattle.outer_traits.specs.States.{InputsState, OutputState, ClockState}
@@ -28,10 +28,11 @@ given_more (suc n) count = min (count + suc n) (2 ^ 64 - 1)
 
 -- ---- inputs
 
--- What a call did to inputs that gave so many sources, by whether a call of them failed: each source is closed again, and the files are as they were.
+-- What a call did to inputs that gave so many sources, by whether a call of them failed: each source is closed again, also where all of them were open at
+-- once, and the files are as they were.
 pub record UsedInputs (old new : InputsState) (sources : ℕ) (failed : Bool) : Type 0 where
   pub files : new.files ≡ old.files
-  pub closed : old.open_sources + 1 < 2 ^ 64 → new.open_sources ≡ old.open_sources
+  pub closed : old.open_sources + max 1 sources < 2 ^ 64 → new.open_sources ≡ old.open_sources
   pub gave : new.given ≡ given_more sources old.given
   pub counted : Counted failed old.faults new.faults
   pub reliable : old.never_fails → new.never_fails × (new.faults ≡ old.faults)

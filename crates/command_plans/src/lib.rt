@@ -8,7 +8,8 @@
 //! The reading of named inputs is such a plan too: `input_plan` (specs/Inputs.antt) looks whether there is an input of the name, then opens it, then reads it
 //! to its end or to its limit. What was done by then is the number of sources that the inputs had given: so "each input is opened once", "nothing was asked
 //! of the disk before a source was given" and "a failed read takes the place of no refusal of an input behind it" are read from a plan. `read_limited`
-//! (src/read.rt) is such a reading.
+//! (src/read.rt) is such a reading. Inputs that are open together are opened by `opening_all_plan` (specs/Sources.antt), whose sources are out until they are
+//! closed, each with a count of faults of its own: what was done to each of them adds up to what was done to the inputs (`open_all`, `close_all`).
 //!
 //! What a call did to the objects of the outside is one fact a call, on the object's state before and after: `UsedInputs`, `UsedOutput`, `UsedDisk`,
 //! `UsedClock` (specs/Ledger.antt). Each says of a use whether a call of the object failed in it, that its count of faults rose there (of inputs and output
@@ -22,11 +23,12 @@
 //! The ideas of the proofs: a plan goes on as its parts do (proofs/Plans.antt: `gave`, `ended` and `cut` are a call followed by `?`), and a plan whose
 //! questions have one answer each went as it had to (`required`; where the inputs are known `reads_determined`). A use of inputs in which nothing failed and
 //! another after it are one use (proofs/Ledgers.antt): so what a command did to its inputs is what its last reading did, whatever it read before, and the
-//! sources of all.
+//! sources of all. So is an opening of sources, a use of each and their closing (proofs/Sources.antt, `used_sources`).
 //!
 //! Begin with `Allows` in specs/Plan.antt, and then `input_plan`.
 #![tactic(auto)]
 
+pub mod opening;
 pub mod read;
 
 ghost use Rattle.std.specs.Prelude.{◌≡◌};

@@ -1,2 +1,3 @@
 pub mod Jobs
 pub mod Given
+pub mod Simple

@@ -1,5 +1,5 @@
 -- What the words of a command line ask.
-use Rattle.std.specs.Prelude.{◌≡◌, ◌≤◌, ◌⊎◌, ℕ, false, List, [], ◌∷◌, Option, Some, None, option_map, option_and_then, codes, nat_le, if◌then◌else◌}
+use Rattle.std.specs.Prelude.{◌≡◌, ◌≤◌, ◌⊎◌, ℕ, false, List, [], ◌∷◌, length, Option, Some, None, option_map, option_and_then, codes, nat_le, if◌then◌else◌}
 use Rattle.std.specs.Str.{bytes_eq}
 use mathlib.Core.Logic.{inl, inr}
 use Rattle.refusals.specs.declared.refusal.Refusal.{Refusal}
@@ -10,8 +10,8 @@ use Rattle.text_forms.specs.Digits.{digits_at_most}
 use Rattle.command_words.specs.declared.job.CommandName.{CommandName}
 use Rattle.command_words.specs.declared.job.CommandName.TheVariants as name
 use Rattle.command_words.specs.Words.{rows_of_words}
-use Rattle.command_words.specs.Given.{one_of_two}
-use Rattle.command_words.specs.Arguments.{command_app, option_rule, optional_word_rule, word_rule}
+use Rattle.command_words.specs.Given.{one_of_two, repeated_words}
+use Rattle.command_words.specs.Arguments.{command_app, option_rule, optional_word_rule, repeated_rule, word_rule}
 
 -- the names of three sheets and of a dump, and the name of a parameter
 pub record ValuesWords : Type 0 where
@@ -28,10 +28,12 @@ pub record CreateWords : Type 0 where
   pub containers : List ℕ
   pub script : Option (List ℕ)
 
--- the name of a dump, the number of the link that it came by, and the names of a sheet of asks and of a script that routes, where they are given
+-- the names of dumps, the number of the first one's link, how many fillers there are, and the names of a sheet of asks and of a script that routes, where
+-- they are given
 pub record LoadWords : Type 0 where
-  pub dump : List ℕ
+  pub dumps : List (List ℕ)
   pub link : ℕ
+  pub fillers : ℕ
   pub asks : Option (List ℕ)
   pub route : Option (List ℕ)
 
@@ -66,15 +68,16 @@ create_words parameters calibrations containers script = None
 abbrev pub from_one : ℕ → Option ℕ
 from_one n = if nat_le 1 n then Some n else None
 
--- the number of the link: the one that 1 to 19 digits spell, or 1 where none is given
-abbrev pub link_of : Option (List ℕ) → Option ℕ
-link_of None = Some 1
-link_of (Some word) = option_and_then from_one (digits_at_most 19 word)
+-- the number, from 1 on, that 1 to 19 digits spell, or 1 where none is given
+abbrev pub number_or_one : Option (List ℕ) → Option ℕ
+number_or_one None = Some 1
+number_or_one (Some word) = option_and_then from_one (digits_at_most 19 word)
 
--- the job of `load`, where there are a dump and a link; there may be a sheet of asks, and a script that routes
-abbrev pub load_words : Option (List ℕ) → Option ℕ → Option (List ℕ) → Option (List ℕ) → Option Job
-load_words (Some dump) (Some link) asks route = Some (Load (record { dump = dump; link = link; asks = asks; route = route }))
-load_words dump link asks route = None
+-- the job of `load`, where there are dumps, and the numbers of a link and of fillers; there may be a sheet of asks, and a script that routes
+abbrev pub load_words : Option (List (List ℕ)) → Option ℕ → Option ℕ → Option (List ℕ) → Option (List ℕ) → Option Job
+load_words (Some dumps) (Some link) (Some fillers) asks route =
+    Some (Load (record { dumps = dumps; link = link; fillers = fillers; asks = asks; route = route }))
+load_words dumps link fillers asks route = None
 
 -- the job of `query`, by the name of a script or of a sheet of asks
 abbrev pub query_words : List ℕ ⊎ List ℕ → Job
@@ -96,7 +99,7 @@ command_named word =
     else None
 
 -- the words that a command takes: `scan DUMP`, `values PARAMETERS CALIBRATIONS CONTAINERS DUMP NAME`, `create PARAMETERS CALIBRATIONS CONTAINERS [SCRIPT]`,
--- `load [--route FILE] [--ask FILE] [--link N] DUMP`, `query --sql FILE` or `query --ask FILE`, `recover`, `verify`
+-- `load [--route FILE] [--ask FILE] [--fillers N] [--link N] DUMP..`, `query --sql FILE` or `query --ask FILE`, `recover`, `verify`
 abbrev pub app_of_command : CommandName → App
 app_of_command name.Scan = command_app (codes "scan") (word_rule (codes "dump") ∷ [])
 app_of_command name.Values =
@@ -105,7 +108,8 @@ app_of_command name.Values =
 app_of_command name.Create =
     command_app (codes "create") (word_rule (codes "parameters") ∷ word_rule (codes "calibrations") ∷ word_rule (codes "containers") ∷ optional_word_rule (codes "script") ∷ [])
 app_of_command name.Load =
-    command_app (codes "load") (word_rule (codes "dump") ∷ option_rule (codes "link") false ∷ option_rule (codes "ask") false ∷ option_rule (codes "route") false ∷ [])
+    command_app (codes "load")
+    (repeated_rule (codes "dump") ∷ option_rule (codes "link") false ∷ option_rule (codes "fillers") false ∷ option_rule (codes "ask") false ∷ option_rule (codes "route") false ∷ [])
 app_of_command name.Query = command_app (codes "query") (option_rule (codes "sql") false ∷ option_rule (codes "ask") false ∷ [])
 app_of_command name.Recover = command_app (codes "recover") []
 app_of_command name.Verify = command_app (codes "verify") []
@@ -117,7 +121,9 @@ job_in name.Values rows =
     values_words (first_of (codes "parameters") rows) (first_of (codes "calibrations") rows) (first_of (codes "containers") rows) (first_of (codes "dump") rows) (first_of (codes "name") rows)
 job_in name.Create rows =
     create_words (first_of (codes "parameters") rows) (first_of (codes "calibrations") rows) (first_of (codes "containers") rows) (first_of (codes "script") rows)
-job_in name.Load rows = load_words (first_of (codes "dump") rows) (link_of (first_of (codes "link") rows)) (first_of (codes "ask") rows) (first_of (codes "route") rows)
+job_in name.Load rows =
+    load_words (repeated_words (codes "dump") rows) (number_or_one (first_of (codes "link") rows)) (number_or_one (first_of (codes "fillers") rows)) (first_of (codes "ask") rows)
+    (first_of (codes "route") rows)
 job_in name.Query rows = option_map query_words (one_of_two (first_of (codes "sql") rows) (first_of (codes "ask") rows))
 job_in name.Recover rows = Some Recover
 job_in name.Verify rows = Some Verify
@@ -131,10 +137,16 @@ abbrev pub job_of : List (List ℕ) → Option Job
 job_of [] = None
 job_of (word ∷ words) = option_and_then (λ command. command_job command words) (command_named word)
 
--- where packets are loaded, their link has a number from 1 on
-abbrev pub HasLink : Job → Type 0
-HasLink (Load words) = 1 ≤ words.link
-HasLink other = Unit {0}
+-- Words of a load have a dump or more, and the numbers of links and of fillers begin at 1.
+pub record AreLoadWords (words : LoadWords) : Type 0 where
+  pub dumps : 1 ≤ length words.dumps
+  pub link : 1 ≤ words.link
+  pub fillers : 1 ≤ words.fillers
+
+-- where packets are loaded, the words are those of a load
+abbrev pub HasLoadWords : Job → Type 0
+HasLoadWords (Load words) = AreLoadWords words
+HasLoadWords other = Unit {0}
 
 -- why there is no job: the words are none, or want of memory
 abbrev pub IsNoJob : Option Job → Refusal → Type 0

@@ -1,5 +1,5 @@
 -- The job that the program reads from its words.
-use Rattle.std.specs.Prelude.{option_map}
+use Rattle.std.specs.Prelude.{map, option_map}
 use Rattle.command_words.specs.Job as spec
 use Rattle.command_words.specs.declared.job.Job.{Job}
 use Rattle.command_words.specs.declared.job.Job.TheVariants.{Scan, Values, Create, Load, Query, Sql, Recover, Verify}
@@ -29,8 +29,9 @@ create_words_of words = record {
 -- the words of `load`
 abbrev pub load_words_of : LoadWords → spec.LoadWords
 load_words_of words = record {
-  dump = words.dump.now;
+  dumps = map (λ name. name.now) words.dumps.items;
   link = words.link;
+  fillers = words.fillers;
   asks = option_map (λ name. name.now) words.asks;
   route = option_map (λ name. name.now) words.route;
 }

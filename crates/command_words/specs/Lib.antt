@@ -3,3 +3,4 @@ pub mod Arguments
 pub mod Given
 pub mod Job
 pub mod JobView
+pub mod LoadLimits

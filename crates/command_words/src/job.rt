@@ -1,12 +1,13 @@
 //! The job that the words of a command line ask.
 
-ghost use Rattle.std.specs.Prelude.{◌≡◌, map, string_bytes, Some, IfOk, IfErr, option_map};
+ghost use Rattle.std.specs.Prelude.{◌≡◌, map, string_bytes, None, Some, IfOk, IfErr, option_map};
+ghost use Rattle.clap.specs.Walk.{first_of};
 ghost use Rattle.clap.specs.Words.{rows_of, found_of};
-ghost use Rattle.command_words.specs.Job.{job_of, command_named, command_job, app_of_command, job_in, link_of, IsNoJob};
+ghost use Rattle.command_words.specs.Job.{job_of, command_named, command_job, app_of_command, job_in, number_or_one, IsNoJob};
 ghost use Rattle.command_words.specs.JobView.{job_view};
 ghost use Rattle.command_words.specs.Words.{rows_of_words, AreNoRows};
 
-use crate::words::{Argument, OneOfTwo, given_word, one_of_two, read_arguments};
+use crate::words::{Argument, OneOfTwo, given_word, one_of_two, read_arguments, repeated_words};
 use clap::ArgMatches;
 use refusals::Refusal;
 use std::alloc::Global;
@@ -31,17 +32,21 @@ pub struct CreateWords<'a> {
     pub script: Option<&'a str>,
 }
 
-/// The name of a dump, the number of the link that it came by, and the names of a sheet of asks and of a script that routes, where they are given.
-#[derive(Clone, Copy, Debug)]
+/// The names of dumps, and how they are loaded: by which links, with how many fillers, and with a sheet of asks and a script that routes, where they
+/// are given.
+#[derive(Debug, Drop)]
 pub struct LoadWords<'a> {
-    pub dump: &'a str,
+    /// One or more.
+    pub dumps: Vec<&'a str>,
+    /// The number of the first dump's link. Each next dump comes by the link of the next number.
     pub link: u64,
+    pub fillers: u64,
     pub asks: Option<&'a str>,
     pub route: Option<&'a str>,
 }
 
 /// A job, with the words that it was given.
-#[derive(Clone, Copy, Debug)]
+#[derive(Debug, Drop)]
 pub enum Job<'a> {
     /// The rows of a dump, printed in key order.
     Scan { dump: &'a str },
@@ -49,7 +54,7 @@ pub enum Job<'a> {
     Values(ValuesWords<'a>),
     /// A new archive with the database of three sheets, and the tables of a script.
     Create(CreateWords<'a>),
-    /// The packets of a dump, ingested into the archive.
+    /// The packets of dumps, ingested into the archive.
     Load(LoadWords<'a>),
     /// The answers to a sheet of asks.
     Query { asks: &'a str },
@@ -126,10 +131,7 @@ fn command_job<'a>(
     ensures none { IfErr result (IsNoJob (command_job command (map (λ w. string_bytes w) words.entry.now))) }
 {
     let found = found_words(alloc, command, words)?;
-    match job_in(command, &found) {
-        Some(job) => Ok(job),
-        None => Err(Refusal::Usage),
-    }
+    job_in(alloc, command, &found)
 }
 
 /// What clap finds in the words behind a command.
@@ -164,22 +166,7 @@ fn found_words<'a>(
             ];
             read_arguments(alloc, "create", &arguments, words)
         }
-        CommandName::Load => {
-            let link = Argument::Option {
-                id: "link",
-                required: false,
-            };
-            let asks = Argument::Option {
-                id: "ask",
-                required: false,
-            };
-            let route = Argument::Option {
-                id: "route",
-                required: false,
-            };
-            let arguments = [Argument::Word("dump"), link, asks, route];
-            read_arguments(alloc, "load", &arguments, words)
-        }
+        CommandName::Load => found_of_load(alloc, words),
         CommandName::Query => {
             let script = Argument::Option {
                 id: "sql",
@@ -196,18 +183,61 @@ fn found_words<'a>(
     }
 }
 
+/// What clap finds in the words behind `load`.
+fn found_of_load<'a>(alloc: Global, words: &'a [String]) -> Result<ArgMatches<'a>, Refusal>
+    ensures found { IfOk result (λ found. rows_of_words (app_of_command CommandName.Load)
+        (map (λ w. string_bytes w) words.entry.now) ≡ Some (rows_of (found_of found))) }
+    ensures none { IfErr result
+        (AreNoRows (rows_of_words (app_of_command CommandName.Load) (map (λ w. string_bytes w) words.entry.now))) }
+{
+    let link = Argument::Option {
+        id: "link",
+        required: false,
+    };
+    let fillers = Argument::Option {
+        id: "fillers",
+        required: false,
+    };
+    let asks = Argument::Option {
+        id: "ask",
+        required: false,
+    };
+    let route = Argument::Option {
+        id: "route",
+        required: false,
+    };
+    let arguments = [Argument::Repeated("dump"), link, fillers, asks, route];
+    read_arguments(alloc, "load", &arguments, words)
+}
+
 /// The job of a command, by the words that clap found.
-fn job_in<'a>(command: CommandName, found: &ArgMatches<'a>) -> Option<Job<'a>>
-    ensures { option_map (λ job. job_view job) result ≡ job_in command (rows_of (found_of found.now)) }
+fn job_in<'a>(
+    alloc: Global,
+    command: CommandName,
+    found: &ArgMatches<'a>,
+) -> Result<Job<'a>, Refusal>
+    ensures job { IfOk result (λ job. job_in command (rows_of (found_of found.now)) ≡ Some (job_view job)) }
+    ensures none { IfErr result (IsNoJob (job_in command (rows_of (found_of found.now)))) }
 {
     match command {
-        CommandName::Scan => scan_in(found),
-        CommandName::Values => values_in(found),
-        CommandName::Create => create_in(found),
-        CommandName::Load => load_in(found),
-        CommandName::Query => query_in(found),
-        CommandName::Recover => Some(Job::Recover),
-        CommandName::Verify => Some(Job::Verify),
+        CommandName::Scan => or_usage(scan_in(found)),
+        CommandName::Values => or_usage(values_in(found)),
+        CommandName::Create => or_usage(create_in(found)),
+        CommandName::Load => load_in(alloc, found),
+        CommandName::Query => or_usage(query_in(found)),
+        CommandName::Recover => Ok(Job::Recover),
+        CommandName::Verify => Ok(Job::Verify),
+    }
+}
+
+/// A job, or Usage where the words are none.
+fn or_usage(job: Option<Job<'_>>) -> Result<Job<'_>, Refusal>
+    ensures job { IfOk result (λ made. option_map (λ job. job_view job) job.entry ≡ Some (job_view made)) }
+    ensures none { IfErr result (IsNoJob (option_map (λ job. job_view job) job.entry)) }
+{
+    match job {
+        Some(job) => Ok(job),
+        None => Err(Refusal::Usage),
     }
 }
 
@@ -254,16 +284,20 @@ fn create_in<'a>(found: &ArgMatches<'a>) -> Option<Job<'a>>
 }
 
 /// The job of `load`.
-fn load_in<'a>(found: &ArgMatches<'a>) -> Option<Job<'a>>
-    ensures { option_map (λ job. job_view job) result ≡ job_in CommandName.Load (rows_of (found_of found.now)) }
+fn load_in<'a>(alloc: Global, found: &ArgMatches<'a>) -> Result<Job<'a>, Refusal>
+    ensures job { IfOk result (λ job. job_in CommandName.Load (rows_of (found_of found.now)) ≡ Some (job_view job)) }
+    ensures none { IfErr result (IsNoJob (job_in CommandName.Load (rows_of (found_of found.now)))) }
 {
-    let dump = given_word(found, "dump")?;
-    let link = link_of(given_word(found, "link"))?;
+    let names = repeated_words(found, "dump")?;
+    let link = given_number(found, "link")?;
+    let fillers = given_number(found, "fillers")?;
     let asks = given_word(found, "ask");
     let route = given_word(found, "route");
-    Some(Job::Load(LoadWords {
-        dump,
+    let dumps = Vec::from_slice(alloc, names)?;
+    Ok(Job::Load(LoadWords {
+        dumps,
         link,
+        fillers,
         asks,
         route,
     }))
@@ -282,9 +316,22 @@ fn query_in<'a>(found: &ArgMatches<'a>) -> Option<Job<'a>>
     }
 }
 
-/// The number of a link: the one that a word spells, or 1 where there is none.
-fn link_of(word: Option<&str>) -> Option<u64>
-    ensures { result ≡ link_of (option_map (λ word. word.now) word.entry) }
+/// The number, from 1 on, that was given for an id, or 1 where none was.
+fn given_number(found: &ArgMatches<'_>, id: &str) -> Result<u64, Refusal>
+    ensures number { IfOk result (λ number.
+        number_or_one (first_of id.now (rows_of (found_of found.now))) ≡ Some number) }
+    ensures none { IfErr result (λ refusal. (refusal ≡ Refusal.Usage) ×
+        (number_or_one (first_of id.now (rows_of (found_of found.now))) ≡ None)) }
+{
+    match number_or_one(given_word(found, id)) {
+        Some(number) => Ok(number),
+        None => Err(Refusal::Usage),
+    }
+}
+
+/// The number, from 1 on, that a word spells, or 1 where there is none.
+fn number_or_one(word: Option<&str>) -> Option<u64>
+    ensures { result ≡ number_or_one (option_map (λ word. word.now) word.entry) }
 {
     let Some(word) = word else {
         return Some(1);

@@ -22,7 +22,7 @@ pub enum Argument<'a> {
     Word(&'a str),
     /// A word that may come. It stands behind every `Word`.
     Optional(&'a str),
-    /// One word or more. It stands behind every `Word`. No command has it yet (D-136).
+    /// One word or more. It stands behind every `Word`.
     Repeated(&'a str),
     /// An option `--id value` or `--id=value`, which may have to come.
     Option { id: &'a str, required: bool },
