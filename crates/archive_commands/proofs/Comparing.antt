@@ -3,16 +3,17 @@ use Rattle.std.proofs.Common.{◌≡◌, ◌∙◌, inl, inr, ℕ, List, Option,
 use Rattle.std.specs.Prelude.{IsTrue, map, slice_get}
 use Rattle.arch_disk.specs.Disk.{Device}
 use Rattle.refusals.specs.declared.refusal.Refusal.{Refusal}
-use Rattle.refusals.specs.declared.refusal.Refusal.TheVariants.{Mismatch, OutOfMemory}
+use Rattle.refusals.specs.declared.refusal.Refusal.TheVariants.{Mismatch}
 use Rattle.intervals.specs.declared.interval.Interval.{Interval}
 use Rattle.history_items.specs.Fills.{base_in}
 use Rattle.store_fills.specs.LastFills.{fillings_in}
 use Rattle.store_fills.specs.Sound.{base_of_filling}
 use Rattle.archive_store.specs.Entries.{FilledArchive}
 use Rattle.archive_store.specs.StoreView.{StoreView, filled_of}
+use Rattle.archive_store.proofs.UnreadRows.{refusal_is_memory}
 use Rattle.archive_verify.specs.declared.compared_sets.SetDifference.{SetDifference}
 use Rattle.archive_verify.specs.declared.verified.Sound.{Sound}
-use Rattle.archive_verify.specs.Verified.{IsCounted, IsVerifyRefusal, database_of_archive}
+use Rattle.archive_verify.specs.Verified.{IsCounted, IsVerifyRefusal, TellsMismatch, database_of_archive}
 use Rattle.archive_verify.proofs.Counting.{late_by_bases}
 use Rattle.archive_verify.proofs.Currents.{mismatch_unsound, one_mismatch}
 use Rattle.command_plans.specs.Plan.{EachEnd, IsDetermined}
@@ -46,11 +47,15 @@ compared_once filled (Some (Mismatch i n k s r)) None is other = absurd (mismatc
 compared_once filled (Some a) None none other = absurd none
 compared_once filled (Some a) (Some b) is other = ap Some (one_named filled a b is other)
 
--- why verifying was refused
-pub check_refused : (filled : FilledArchive) (refusal : Refusal) → IsVerifyRefusal filled refusal → IsCheckRefusal (IsCompared filled) refusal
-check_refused filled OutOfMemory is = inl refl
-check_refused filled (Mismatch i n k s r) is = inr is
-check_refused filled other is = absurd is
+-- a mismatch that is told was found
+told_found : (filled : FilledArchive) (refusal : Refusal) → TellsMismatch filled refusal → IsCompared filled (Some refusal)
+told_found filled (Mismatch i n k s r) is = is
+told_found filled other is = absurd is
+
+-- why verifying was refused, which changed nothing
+pub check_refused : {D : Type 0} (device : Device D) (old new : StoreView D) (refusal : Refusal) → IsVerifyRefusal device old new refusal → new ≡ old → IsCheckRefusal (IsCompared (filled_of old)) refusal
+check_refused device old new refusal (inl told) same = inr (told_found (filled_of old) refusal told)
+check_refused device old new refusal (inr unread) same = inl (refusal_is_memory device old new refusal unread same)
 
 -- ---- the plan
 

@@ -119,6 +119,8 @@ module _ {D : Type 0} (sources : ℕ) (device : Device D) (e : Effects D) (head 
       printed = rw silent (no_text e.output.written);
       output = record { counted = rw silent refl };
       disk = (only_sought device e.disk e.disk' refused.no_fault refused.no_failed_write, λ known. left_alone device e.disk e.disk' (kept known (refused.held known)));
+      log = tt;
+      pending = tt;
     };
   }
   ran_unmade DiskFault refused kept crash counts report silent = record {
@@ -136,12 +138,14 @@ module _ {D : Type 0} (sources : ℕ) (device : Device D) (e : Effects D) (head 
           closed = λ none one. refused.closed (fewer_than_two device e.disk e.disk' one) known none;
         },
       );
+      log = tt;
+      pending = tt;
     };
   }
   ran_unmade OutOfMemory refused kept crash counts report silent = record {
     way = Interrupted (nothing_done sources) OfMemory;
     allows = inl refl;
-    did = record { report = report; printed = rw silent (no_text e.output.written); output = record { counted = rw silent refl }; disk = refused };
+    did = record { report = report; printed = rw silent (no_text e.output.written); output = record { counted = rw silent refl }; disk = refused; log = tt; pending = tt };
   }
   ran_unmade other refused kept crash counts report silent = absurd refused
 

@@ -1,9 +1,11 @@
 -- How the plan of `recover` goes.
-use Rattle.std.proofs.Common.{◌≡◌, inl, ℕ, zero, suc, false, true, List, length, Option, Some, None, refl, sym, ◌∙◌, ap}
+use Rattle.std.proofs.Common.{◌≡◌, inl, ℕ, zero, suc, ◌≤◌, false, true, List, length, Option, Some, None, refl, sym, ◌∙◌, ap}
 use Rattle.std.specs.Prelude.{IsTrue}
 use Rattle.arch_disk.specs.Disk.{Device}
 use Rattle.refusals.specs.declared.refusal.Refusal.{Refusal}
 use Rattle.refusals.specs.declared.refusal.Refusal.TheVariants.{DiskFault, Limit, NeedsReopen, OutOfMemory}
+use Rattle.refusals.specs.declared.refusal.Which.TheVariants.{Records}
+use Rattle.refusals.specs.Limits.{limit_of}
 use Rattle.interval_walks.specs.Counts.{late_intervals}
 use Rattle.archive_store.specs.Entries.{FilledArchive}
 use Rattle.archive_store.specs.StoreView.{StoreView, filled_of}
@@ -13,11 +15,12 @@ use Rattle.command_runs.specs.Finishing.{IsFinished}
 use Rattle.command_runs.specs.Command.{AllFilled, Effects, Extended, FillingFailed, HasDiskOutcome, Opened, Progress, Ran, archive_opened, opening_plan, printing_plan}
 use Rattle.history_items.specs.Fills.{pending_fault_of}
 use Rattle.load_session.specs.Filling.{IsFillFailed, IsFillingRefusal, IsUnfailed, filling_refusal}
-use Rattle.command_runs.specs.FillingPlan.{IsRecordCount, all_filled}
+use Rattle.command_runs.specs.Causes.{IsLogNear}
+use Rattle.command_runs.specs.FillingPlan.{IsFullFor, IsRecordCount, all_filled}
 use Rattle.archive_commands.specs.Recover.{archive_with_fills, late_plan, recover_line, recover_plan, recovering_plan}
 use Rattle.command_runs.specs.Report.{read_only}
 use Rattle.command_runs.proofs.Commands.{no_text, ran_later, ran_printed}
-use Rattle.command_runs.proofs.FillingPlan.{filling_determined, filling_reads, ran_all_filled, ran_unfilled}
+use Rattle.command_runs.proofs.FillingPlan.{filling_determined, filling_reads, limit_filling, ran_all_filled, ran_unfilled, room_filling}
 use Rattle.command_runs.proofs.Openings.{opening_reads, opens_determined}
 use Rattle.command_runs.proofs.OverInputs.{HasRead}
 use Rattle.archive_store.specs.LateFills.{late_in_archive}
@@ -29,7 +32,7 @@ line_next filled = printing_plan (all_filled filled filled.plain.history (archiv
 module _ {D : Type 0} (device : Device D) (disk : D) where
   late_determined : (filled : FilledArchive) (late : ℕ) → IsDetermined (late_plan (IsRecordCount device disk) filled late)
   late_determined filled zero = tt
-  late_determined filled (suc late) = filling_determined (IsRecordCount device disk) filled filled.plain.history (suc late) (archive_with_fills filled) (line_next filled) tt
+  late_determined filled (suc late) = filling_determined (IsFullFor (IsRecordCount device disk) (suc late)) filled filled.plain.history (archive_with_fills filled) (line_next filled) tt
 
   -- one answer is due
   pub recover_determined : IsTrue device.is_transparent → IsDetermined (recover_plan device disk)
@@ -39,7 +42,7 @@ module _ {D : Type 0} (device : Device D) (disk : D) where
   late_reads : (filled : FilledArchive) (late : ℕ) → EachEnd (HasRead 0) (late_plan (IsRecordCount device disk) filled late)
   late_reads filled zero = ((refl, refl), ((refl, refl), (refl, refl)))
   late_reads filled (suc late) =
-      filling_reads (IsRecordCount device disk) filled filled.plain.history (suc late) (archive_with_fills filled) (line_next filled) 0 (refl, refl) ((refl, refl), (refl, refl))
+      filling_reads (IsFullFor (IsRecordCount device disk) (suc late)) filled filled.plain.history (archive_with_fills filled) (line_next filled) 0 (refl, refl) ((refl, refl), (refl, refl))
 
   -- nothing is asked of the inputs
   pub recover_reads : EachEnd (HasRead 0) (recover_plan device disk)
@@ -65,11 +68,11 @@ module _ {D : Type 0} (device : Device D) (e : Effects D) (Recorded : ℕ → Ty
     filled_by : (late : ℕ) → length (late_in_archive (filled_of old)) ≡ late → filling_refusal old.records late ≡ None → Ran device (late_plan Recorded (filled_of old) late) e
     filled_by zero none fits =
         let s = archive_opened 0 (filled_of old) in
-        ran_later device e OfMemory s (printing_plan s line) (ran_printed device e s line refusal refl refl text report (still none))
+        ran_later device e OfMemory s (printing_plan s line) (ran_printed device e s line refusal refl refl (refl, refl) text report (still none))
     filled_by (suc late) is fits =
         let end = all_filled (filled_of old) old.history st in
-        ran_all_filled Recorded (filled_of old) old.history (suc late) st (printing_plan end line) device e old.records recorded fits
-        (ran_printed device e end line refusal refl refl text report disk)
+        ran_all_filled (IsFullFor Recorded (suc late)) (filled_of old) old.history st (printing_plan end line) device e (old.records, recorded, sym (room_filling old.records late fits))
+        (ran_printed device e end line refusal refl refl (refl, refl) text report disk)
 
     pub ran_recovered : filling_refusal old.records (length (late_in_archive (filled_of old))) ≡ None → Ran device (recovering_plan Recorded (filled_of old)) e
     ran_recovered fits = filled_by (length (late_in_archive (filled_of old))) refl fits
@@ -77,14 +80,15 @@ module _ {D : Type 0} (device : Device D) (e : Effects D) (Recorded : ℕ → Ty
   -- not each was
   module _ (silent : e.output' ≡ e.output) (healed : pending_fault_of old.fills ≡ None) (none_failed : length (late_in_archive (filled_of old)) ≡ 0 → IsFillFailed device old mid → ⊥)
       (unfailed : IsUnfailed device old mid → HasDiskOutcome device e.disk e.disk' false (Extended (filled_of old) old.history))
-      (failed : IsFillFailed device old mid → HasDiskOutcome device e.disk e.disk' true (FillingFailed (filled_of old) old.history)) where
+      (failed : IsFillFailed device old mid → HasDiskOutcome device e.disk e.disk' true (FillingFailed (filled_of old) old.history))
+      (near : IsUnfailed device old mid → limit_of Records ≤ mid.records → IsLogNear device e.disk' false (Some 0)) where
     -- where none is late memory was wanting
     none_to_fill : (refusal : Refusal) → length (late_in_archive (filled_of old)) ≡ 0 → IsFillingRefusal device old mid refusal
         → e.report ≡ read_only (Some refusal) (length old.history) → Ran device (late_plan Recorded (filled_of old) 0) e
     none_to_fill OutOfMemory none r report = record {
       way = Interrupted (archive_opened 0 (filled_of old)) OfMemory;
       allows = inl refl;
-      did = record { report = report; printed = rw silent (no_text e.output.written); output = record { counted = rw silent refl }; disk = still none };
+      did = record { report = report; printed = rw silent (no_text e.output.written); output = record { counted = rw silent refl }; disk = still none; log = tt; pending = tt };
     }
     none_to_fill (NeedsReopen faults) none r report = let pending = r.0 in absurd (cc (healed, pending))
     none_to_fill (Limit which number) none r report =
@@ -96,8 +100,9 @@ module _ {D : Type 0} (device : Device D) (e : Effects D) (Recorded : ℕ → Ty
         → e.report ≡ read_only (Some refusal) (length old.history) → Ran device (late_plan Recorded (filled_of old) late) e
     unfilled_by zero none refusal r report = none_to_fill refusal none r report
     unfilled_by (suc late) is refusal r report =
-        ran_unfilled Recorded (filled_of old) old.history (suc late) st device e old mid recorded (as_filled ∙ is) healed refl refl
-        (rw silent (no_text e.output.written)) (record { counted = rw silent refl }) unfailed failed (line_next (filled_of old)) refusal r report
+        ran_unfilled (filled_of old) old.history st device e old mid healed refl refl
+        (rw silent (no_text e.output.written)) (record { counted = rw silent refl }) unfailed failed (IsFullFor Recorded (suc late)) (line_next (filled_of old)) (refl, refl)
+        (λ other told. (old.records, recorded, sym (limit_filling old.records (suc late) other (ap (filling_refusal old.records) (sym (as_filled ∙ is)) ∙ told)).1)) near refusal r report
 
     pub ran_unrecovered : (refusal : Refusal) → IsFillingRefusal device old mid refusal → e.report ≡ read_only (Some refusal) (length old.history)
         → Ran device (recovering_plan Recorded (filled_of old)) e

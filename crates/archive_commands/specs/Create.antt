@@ -102,6 +102,8 @@ making_failed sources head = record {
   disk = MakingFailed head;
   sources = sources;
   failed = no_failed_calls;
+  log = None;
+  pending = None;
 }
 
 -- so many sources were given, and an archive of this head was made
@@ -113,6 +115,8 @@ made sources head = record {
   disk = Made head;
   sources = sources;
   failed = no_failed_calls;
+  log = None;
+  pending = None;
 }
 
 -- what a making leads to, by whether there was an archive

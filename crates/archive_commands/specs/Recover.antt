@@ -5,7 +5,7 @@ use Rattle.history_items.specs.Items.{rows_in}
 use Rattle.archive_store.specs.Entries.{FilledArchive}
 use Rattle.command_plans.specs.Plan.{OfMemory, CommandPlan, May, and_then}
 use Rattle.command_runs.specs.Command.{Progress, Extended, archive_opened, nothing_done, opening_plan, printing_plan}
-use Rattle.command_runs.specs.FillingPlan.{IsRecordCount, all_filled, filling_plan}
+use Rattle.command_runs.specs.FillingPlan.{IsFullFor, IsRecordCount, all_filled, filling_plan}
 use Rattle.archive_store.specs.LateFills.{late_in_archive}
 
 -- how many rows an archive has, and how many of its intervals were late and are filled
@@ -26,7 +26,7 @@ late_plan Recorded filled zero =
     May OfMemory s (printing_plan s (recover_line filled))
 late_plan Recorded filled (suc late) =
     let s = archive_with_fills filled in
-    filling_plan Recorded filled filled.plain.history (suc late) s
+    filling_plan (IsFullFor Recorded (suc late)) filled filled.plain.history s
     (printing_plan (all_filled filled filled.plain.history s) (recover_line filled))
 
 -- fills each late interval of an archive, and prints its line

@@ -48,12 +48,14 @@ module _ {D : Type 0} (device : Device D) (e : Effects D) (sources : ℕ) (fille
       printed = rw silent (no_text e.output.written);
       output = record { counted = rw silent refl };
       disk = disk;
+      log = tt;
+      pending = tt;
     };
   }
   ran_refused refusal (inr is) report silent = record {
     way = Stopped (archive_opened sources filled) (Some refusal);
     allows = inr (Some refusal, is, refl);
-    did = record { report = report; printed = rw silent (no_text e.output.written); output = record { counted = rw silent refl }; disk = disk };
+    did = record { report = report; printed = rw silent (no_text e.output.written); output = record { counted = rw silent refl }; disk = disk; log = tt; pending = tt };
   }
 
   -- or it found nothing
@@ -62,7 +64,7 @@ module _ {D : Type 0} (device : Device D) (e : Effects D) (sources : ℕ) (fille
   ran_checked None (inr refused) report = absurd refused.0
   ran_checked (Some refusal) (inr refused) report = ran_refused refusal refused.0 report refused.1
   ran_checked refusal (inl passed) report =
-      let printed = ran_printed device e (archive_opened sources filled) text refusal refl refl passed.printed report disk in
+      let printed = ran_printed device e (archive_opened sources filled) text refusal refl refl (refl, refl) passed.printed report disk in
       record { way = printed.way; allows = inr (None, passed.found, printed.allows); did = printed.did }
 
 -- and so it is as a work with an archive, which is left as it was

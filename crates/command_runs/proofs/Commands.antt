@@ -28,6 +28,10 @@ pub no_text : (known : Option (List ℕ)) → Appends known known []
 no_text None = refl
 no_text (Some before) = rw (append-nil before) refl
 
+-- of the disk that is handed back no more is told than its outcome
+abbrev pub IsUntold : Progress → Type 0
+IsUntold s = (s.log ≡ None) × (s.pending ≡ None)
+
 module _ {D : Type 0} (device : Device D) (e : Effects D) where
   -- a call gave something, and what follows ran
   pub ran_then : {X : Type 0} (p : CommandPlan Progress X) (f : X → CommandPlan Progress ⊥) (x : X) → Allows p (Returned x) → Ran device (f x) e → Ran device (and_then p f) e
@@ -38,15 +42,15 @@ module _ {D : Type 0} (device : Device D) (e : Effects D) where
   ran_later fault s p ran = record { way = ran.way; allows = inr ran.allows; did = ran.did }
 
   -- a text was printed
-  pub ran_printed : (s : Progress) (text : List ℕ) (refusal : Option Refusal) → s.failed OfOutput ≡ false → s.failed OfDisk ≡ false →
+  pub ran_printed : (s : Progress) (text : List ℕ) (refusal : Option Refusal) → s.failed OfOutput ≡ false → s.failed OfDisk ≡ false → IsUntold s →
       IsFinished refusal e.output e.output' text →
       e.report ≡ record s.report { refusal = refusal } → HasDiskOutcome device e.disk e.disk' false s.disk → Ran device (printing_plan s text) e
-  ran_printed s text None no_output no_disk written report disk = record {
+  ran_printed s text None no_output no_disk untold written report disk = record {
     way = Stopped (record s { text = text; is_whole = true }) None;
     allows = inr refl;
-    did = record { report = report; printed = written.all; output = record { counted = rw no_output written.no_fault }; disk = rw no_disk disk };
+    did = record { report = report; printed = written.all; output = record { counted = rw no_output written.no_fault }; disk = rw no_disk disk; log = rw untold.0 tt; pending = rw untold.1 tt };
   }
-  ran_printed s text (Some WriteFault) no_output no_disk cut report disk = record {
+  ran_printed s text (Some WriteFault) no_output no_disk untold cut report disk = record {
     way = Interrupted (record s { text = text; is_whole = false }) OfOutput;
     allows = inl refl;
     did = record {
@@ -54,9 +58,11 @@ module _ {D : Type 0} (device : Device D) (e : Effects D) where
       printed = cut.some;
       output = record { counted = risen_counted e.output.faults e.output'.faults cut.later cut.failed };
       disk = rw no_disk disk;
+      log = rw untold.0 tt;
+      pending = rw untold.1 tt;
     };
   }
-  ran_printed s text (Some other) no_output no_disk never report disk = absurd never
+  ran_printed s text (Some other) no_output no_disk untold never report disk = absurd never
 
   -- the refusal at the end of the way is that of the report
   pub ended_is : (way : Way Progress ⊥) → HasEffects device e way → refusal_at way ≡ e.report.refusal
@@ -99,6 +105,8 @@ module _ {D : Type 0} (device : Device D) (e : Effects D) (f : FilledArchive →
       printed = rw silent (no_text e.output.written);
       output = record { counted = rw silent refl };
       disk = (only_sought device e.disk e.disk' refused.no_fault refused.no_failed_write, λ known. record { reads = reads; images = images });
+      log = tt;
+      pending = tt;
     };
   }
   ran_unopened (Damaged file at) refused reads images report silent = record {
@@ -109,6 +117,8 @@ module _ {D : Type 0} (device : Device D) (e : Effects D) (f : FilledArchive →
       printed = rw silent (no_text e.output.written);
       output = record { counted = rw silent refl };
       disk = (only_sought device e.disk e.disk' refused.no_fault refused.no_failed_write, λ known. record { reads = reads; images = images });
+      log = tt;
+      pending = tt;
     };
   }
   ran_unopened DiskFault refused reads images report silent = record {
@@ -119,6 +129,8 @@ module _ {D : Type 0} (device : Device D) (e : Effects D) (f : FilledArchive →
       printed = rw silent (no_text e.output.written);
       output = record { counted = rw silent refl };
       disk = (seeking_failed_once device e.disk e.disk' refused, λ known. record { reads = reads; images = images });
+      log = tt;
+      pending = tt;
     };
   }
   ran_unopened OutOfMemory refused reads images report silent = record {
@@ -129,6 +141,8 @@ module _ {D : Type 0} (device : Device D) (e : Effects D) (f : FilledArchive →
       printed = rw silent (no_text e.output.written);
       output = record { counted = rw silent refl };
       disk = (only_sought device e.disk e.disk' refused.1 refused.0, λ known. record { reads = reads; images = images });
+      log = tt;
+      pending = tt;
     };
   }
   ran_unopened other refused reads images report silent = absurd refused
@@ -171,7 +185,7 @@ module _ {D : Type 0} (device : Device D) (disk : D) (output : OutputState) (sou
     ran = record {
       way = Interrupted (nothing_done sources) OfMemory;
       allows = inl refl;
-      did = record { report = refl; printed = no_text output.written; output = record { counted = refl }; disk = refl };
+      did = record { report = refl; printed = no_text output.written; output = record { counted = refl }; disk = refl; log = tt; pending = tt };
     };
     used = inl (refl, refl, refl);
   }

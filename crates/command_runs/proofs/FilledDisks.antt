@@ -1,8 +1,8 @@
 -- The disk of a call that fills what is late.
-use Rattle.std.proofs.Common.{◌≡◌, ◌⊎◌, inl, inr, ℕ, ◌≤◌, true, false, List, [], ◌∷◌, ◌++◌, Bool, Option, Some, None, refl, sym, ◌∙◌, ap, subst, arith}
+use Rattle.std.proofs.Common.{◌≡◌, ◌⊎◌, inl, inr, ℕ, ◌+◌, ◌≤◌, true, false, List, [], ◌∷◌, ◌++◌, Bool, Option, Some, None, refl, sym, ◌∙◌, ap, subst, arith}
 use Rattle.std.specs.Prelude.{◌≢◌, IsTrue, IfErr, IfOk, Result, Ok, Err, filter, fold, if◌then◌else◌}
 use Rattle.std.specs.List.{AllByRecursion}
-use Rattle.std.specs.Option.{option_map_or}
+use Rattle.std.specs.Option.{option_map, option_map_or}
 use Rattle.std.proofs.Math.Path.{fun_ext}
 use Rattle.arch_disk.specs.Image.{Image}
 use mathlib.Core.List.{IsPrefix}
@@ -16,17 +16,20 @@ use Rattle.history_items.specs.Late.{IsLate, last_in}
 use Rattle.interval_walks.specs.Counts.{intervals_in, late_intervals}
 use Rattle.interval_walks.proofs.Counts.{none_late}
 use Rattle.late_marks.specs.Mark.{is_late_by}
+use Rattle.param_segments.specs.Rows.{SetRow}
 use Rattle.store_fills.specs.Faults.{IsDone, faults_in}
 use Rattle.store_fills.proofs.Faults.{Rising-in, pending_fault_of-in, rows_of_faults-in, unacknowledged-in}
 use Rattle.store_fills.specs.LastFills.{PlacedFills, fillings_in}
-use Rattle.store_fills.specs.Sound.{base_of_filling}
+use Rattle.store_fills.specs.Sound.{Filling, Fillings, base_of_filling}
 use Rattle.archive_store.specs.declared.head.Head.{Head}
 use Rattle.archive_store.specs.Entries.{FilledArchive, archive, filled_archive}
-use Rattle.archive_store.specs.Stands.{StandsFilled, StandsFor}
+use Rattle.archive_store.specs.Stands.{HasRecordCount, StandsFilled, StandsFor}
 use Rattle.archive_store.specs.StoreView.{CrashInvariant, FaultInvariant, IsKeptWithFills, StoreView, archive_of, filled_of}
 use Rattle.archive_store.proofs.PlainLog.{HoldsNoRows, kept_rows}
 use Rattle.refusals.specs.declared.refusal.Refusal.{Refusal}
 use Rattle.refusals.specs.declared.refusal.Refusal.TheVariants.{DiskFault, Limit, NeedsReopen, OutOfMemory}
+use Rattle.refusals.specs.declared.refusal.Which.TheVariants.{Records}
+use Rattle.refusals.specs.Limits.{limit_of}
 use Rattle.arch_types.specs.declared.row.Row.{Row}
 use Rattle.history_items.specs.declared.fills.Addition.{Addition}
 use Rattle.history_items.specs.declared.items.Item.{Item}
@@ -35,15 +38,16 @@ use Rattle.archive_store.specs.Unacknowledged.{with_rows}
 use Rattle.load_session.specs.During.{IsDuring}
 use Rattle.load_session.specs.Filling.{AllLateFilled, IsFillFailed, IsFilledOn, IsFillingRefusal, IsUnfailed}
 use Rattle.command_runs.specs.Healing.{TriesToHeal, IsTakenBack, OneOrTwo}
-use Rattle.command_runs.proofs.Healed.{more_faults, taken_back}
+use Rattle.command_runs.proofs.Healed.{more_faults, pending_behind, taken_back}
 use Rattle.command_plans.specs.Ledger.{UsedDisk, UsedWithoutFailedWrite}
+use Rattle.command_runs.specs.Causes.{IsCountedSince, IsLogNear}
 use Rattle.command_runs.specs.Command.{AllFilled, Extended, ExtensionFailed, FillingFailed, HasDiskOutcome}
 use Rattle.command_runs.specs.Durable.{FailedAtMostOnce, IsDurableAs, IsDurableWithFills}
-use Rattle.archive_store.specs.AddedFills.{AddsRightFills}
+use Rattle.archive_store.specs.AddedFills.{AddsRightFills, IsAddedFill}
 use Rattle.command_runs.specs.Extension.{KeepsFills, batch_left}
 use Rattle.command_runs.specs.ReadOnly.{IsOpenedThen}
 use Rattle.command_runs.proofs.During.{IsOpened, failed_images, left, load_images}
-use Rattle.archive_store.specs.LateFills.{late_in_archive}
+use Rattle.archive_store.specs.LateFills.{is_late_by_fill, late_in_archive}
 
 -- ---- a store that was opened
 
@@ -91,11 +95,28 @@ late_as_filled filled fills bases =
     ap (λ (p : Interval → Bool). filter p (intervals_in filled.plain.exponent filled.plain.history))
     (fun_ext (λ i. ap (λ (b : Option ℕ). option_map_or (λ last. is_late_by last b) (last_in filled.plain.exponent i filled.plain.history) false) (bases i)))
 
+-- ---- fills that were added to others
+
+-- whether an interval is late by its fill hangs on that alone
+late_alike : (exponent : ℕ) (history : List Item) (a b : Fillings (List SetRow)) (i : Interval) → a i ≡ b i → is_late_by_fill exponent history a i ≡ is_late_by_fill exponent history b i
+late_alike exponent history a b i same =
+    ap (λ (f : Option (Filling (List SetRow))). option_map_or (λ last. is_late_by last (option_map (λ g. g.base) f)) (last_in exponent i history) false) same
+
+-- right fills that were added to some that were
+pub adds_then : (head : Head) (exponent : ℕ) (history : List Item) (a b c : Fillings (List SetRow)) → AddsRightFills head exponent history a b → AddsRightFills head exponent history b c → AddsRightFills head exponent history a c
+adds_then head exponent history a b c first next i = go (first i) (next i)
+  where
+    go : (b i ≡ a i) ⊎ IsAddedFill head exponent history a i (b i) → (c i ≡ b i) ⊎ IsAddedFill head exponent history b i (c i) → (c i ≡ a i) ⊎ IsAddedFill head exponent history a i (c i)
+    go (inl was) (inl is) = inl (is ∙ was)
+    go (inr added) (inl is) = inr (subst (IsAddedFill head exponent history a i) (sym is) added)
+    go (inl was) (inr added) = inr (sym (late_alike exponent history b a i was) ∙ added.0, added.1)
+    go (inr before) (inr added) = inr (before.0, added.1)
+
 module _ {D : Type 0} (device : Device D) (disk : D) (old new : StoreView D) (head : new.head ≡ old.head) (exponent : new.exponent ≡ old.exponent) (opening : new.opened ≡ old.opened)
     (opened : IsTrue device.is_transparent → IsOpened device disk old) (first : device.fault_count disk ≤ device.fault_count old.opened)
     (keeps : IsTrue device.is_transparent → CrashInvariant device new) (faults : FaultInvariant device new)
     (kept : IsTrue device.is_transparent → pending_fault_of new.fills ≡ None → IsKeptWithFills device new)
-    (adds : AddsRightFills old.head old.exponent new.history (fillings_in old.filled) (fillings_in new.filled)) where
+    (adds : IsTrue device.is_transparent → AddsRightFills old.head old.exponent new.history (fillings_in old.filled) (fillings_in new.filled)) where
   -- the fills stand, where no failed write is pending
   pub with_fills : IsTrue device.is_transparent → pending_fault_of new.fills ≡ None → IsDurableWithFills device new.disk (filled_archive old.head old.exponent new.history (fillings_in new.filled))
   with_fills known healed =
@@ -104,7 +125,7 @@ module _ {D : Type 0} (device : Device D) (disk : D) (old new : StoreView D) (he
       (record { reads = kept known healed (device.reads new.disk) (device.reads_as_image new.disk known); now = kept known healed }))
 
   keeps_fills : IsTrue device.is_transparent → pending_fault_of new.fills ≡ None → KeepsFills device new.disk (filled_of old) new.history
-  keeps_fills known healed = record { fillings = fillings_in new.filled; adds = adds; durable = with_fills known healed }
+  keeps_fills known healed = record { fillings = fillings_in new.filled; adds = adds known; durable = with_fills known healed }
 
   -- no call failed
   no_failed_write : faults_in new.fills ≡ [] → pending_fault_of new.fills ≡ None
@@ -186,7 +207,7 @@ module _ {D : Type 0} (device : Device D) (disk : D) (old new : StoreView D) (he
       stands = (opened known).stands;
       images = during known;
       fillings = fillings_in new.filled;
-      adds = adds;
+      adds = adds known;
       now = λ c leaves. elim (left device new failed.count failed.wrote rows (keeps known) (kept known) failed.fault c leaves) [
         | inl stands ↦ inl (subst (StandsFilled c) as_old stands)
         | inr more ↦ inr (subst (StandsFilled c) (ap (λ (a : FilledArchive). with_rows a (items_of rows)) as_old) more)
@@ -207,7 +228,7 @@ module _ {D : Type 0} (device : Device D) (disk : D) (old new : StoreView D) (he
         extended = record {
           stands = (opened known).stands;
           images = images_still no_fault known;
-          kept = record { fillings = fillings_in new.filled; adds = adds; durable = with_fills known (no_failed_write no_fault) };
+          kept = record { fillings = fillings_in new.filled; adds = adds known; durable = with_fills known (no_failed_write no_fault) };
         };
         none_late = none_by_fills known;
       },
@@ -216,8 +237,8 @@ module _ {D : Type 0} (device : Device D) (disk : D) (old new : StoreView D) (he
 -- ---- a store behind fills, and a failed write that was taken back
 
 module _ {D : Type 0} (device : Device D) (disk : D) (old between mid new : StoreView D) (opened : IsTrue device.is_transparent → IsOpened device disk old) (first : device.fault_count disk ≤ device.fault_count old.opened)
-    (head : between.head ≡ old.head) (exponent : between.exponent ≡ old.exponent) (opening : between.opened ≡ old.opened) (filled : between.filled ≡ old.filled)
-    (filled_on : IsFilledOn between mid) (healed : TriesToHeal device mid new)
+    (head : between.head ≡ old.head) (exponent : between.exponent ≡ old.exponent) (opening : between.opened ≡ old.opened)
+    (sets : IsTrue device.is_transparent → AddsRightFills old.head old.exponent between.history (fillings_in old.filled) (fillings_in between.filled)) (filled_on : IsFilledOn between mid) (healed : TriesToHeal device mid new)
     (keeps : IsTrue device.is_transparent → CrashInvariant device new) (faults : FaultInvariant device new)
     (kept : IsTrue device.is_transparent → pending_fault_of new.fills ≡ None → IsKeptWithFills device new) where
   pub new_head : new.head ≡ old.head
@@ -233,13 +254,15 @@ module _ {D : Type 0} (device : Device D) (disk : D) (old between mid new : Stor
   new_rows = ap (λ (s : StoreView D). s.history) healed.left ∙ filled_on.rows
 
   -- what was added to the fills since the opening
-  pub new_fills : AddsRightFills old.head old.exponent new.history (fillings_in old.filled) (fillings_in new.filled)
-  new_fills =
-      subst (λ (h : Head). AddsRightFills h old.exponent new.history (fillings_in old.filled) (fillings_in new.filled)) head
-      (subst (λ (e : ℕ). AddsRightFills between.head e new.history (fillings_in old.filled) (fillings_in new.filled)) exponent
-      (subst (λ (h : List Item). AddsRightFills between.head between.exponent h (fillings_in old.filled) (fillings_in new.filled)) (sym new_rows)
-      (subst (λ (f : PlacedFills). AddsRightFills between.head between.exponent between.history (fillings_in f) (fillings_in new.filled)) filled
-      (subst (λ (f : PlacedFills). AddsRightFills between.head between.exponent between.history (fillings_in between.filled) (fillings_in f)) (sym (ap (λ (s : StoreView D). s.filled) healed.left)) filled_on.sets))))
+  new_fills : IsTrue device.is_transparent → AddsRightFills old.head old.exponent new.history (fillings_in old.filled) (fillings_in new.filled)
+  new_fills known =
+      let behind =
+      subst (λ (h : Head). AddsRightFills h old.exponent new.history (fillings_in between.filled) (fillings_in new.filled)) head
+      (subst (λ (e : ℕ). AddsRightFills between.head e new.history (fillings_in between.filled) (fillings_in new.filled)) exponent
+      (subst (λ (h : List Item). AddsRightFills between.head between.exponent h (fillings_in between.filled) (fillings_in new.filled)) (sym new_rows)
+      (subst (λ (f : PlacedFills). AddsRightFills between.head between.exponent between.history (fillings_in between.filled) (fillings_in f)) (sym (ap (λ (s : StoreView D). s.filled) healed.left)) filled_on.sets))) in
+      adds_then old.head old.exponent new.history (fillings_in old.filled) (fillings_in between.filled) (fillings_in new.filled)
+      (subst (λ (h : List Item). AddsRightFills old.head old.exponent h (fillings_in old.filled) (fillings_in between.filled)) (sym new_rows) (sets known)) behind
 
   -- no call of the disk had failed before the fills
   module _ (no_fault : faults_in between.fills ≡ []) (told : NoFault device disk between.disk) (writes : device.failed_writes between.disk ≡ device.failed_writes disk) where
@@ -254,6 +277,13 @@ module _ {D : Type 0} (device : Device D) (disk : D) (old between mid new : Stor
 
     same_count : IsUnfailed device between mid → NoFault device disk new.disk
     same_count unfailed = ap (λ (s : StoreView D). device.fault_count s.disk) (untouched unfailed) ∙ unfailed.no_fault ∙ told
+
+    -- the log is as near its limit as the store tells
+    pub log_near : (more : ℕ) → (IsTrue device.is_transparent → pending_fault_of new.fills ≡ None → HasRecordCount (device.reads new.disk) new.records) → IsUnfailed device between mid
+        → limit_of Records ≤ mid.records + more → IsLogNear device new.disk false (Some more)
+    log_near more counted unfailed reaches calm known =
+        let same : new.records ≡ mid.records = ap (λ (s : StoreView D). s.records) (untouched unfailed) in
+        (new.records, counted known (pending_fault_of-in new.fills ∙ ap pending_fault_of (no_faults unfailed)), omega (arith, same, reaches))
 
     -- and none failed at a fill,
     pub unfailed_disk : IsUnfailed device between mid → HasDiskOutcome device disk new.disk false (Extended (filled_of old) between.history)
@@ -277,34 +307,59 @@ module _ {D : Type 0} (device : Device D) (disk : D) (old between mid new : Stor
         subst (λ (h : List Item). HasDiskOutcome device disk new.disk false (AllFilled (filled_of old) h)) new_rows
         (all_are_filled device disk old new new_head new_exponent new_opening opened first keeps faults kept new_fills none bases (no_faults done.unfailed) (same_count done.unfailed) (same_writes done.unfailed))
 
-  -- the disk had failed at the rows of a batch, so no fill came
-  module _ (rows : List Row) (count : ℕ) (fault : faults_in between.fills ≡ Fault count true (additions.Rows rows) ∷ []) (wrote : device.failed_writes between.disk ≡ raised (device.failed_writes disk)) where
+  -- a write had failed, so no fill came
+  module _ (addition : Addition) (count : ℕ) (fault : faults_in between.fills ≡ Fault count true addition ∷ []) (wrote : device.failed_writes between.disk ≡ raised (device.failed_writes disk)) where
     unhealed : pending_fault_of between.fills ≢ None
     unhealed none = let pending = pending_fault_of-in between.fills ∙ ap pending_fault_of fault in cc (pending, none)
 
-    same_faults : (r : Result ℕ Refusal) → IfOk r (AllLateFilled device between mid) → IfErr r (IsFillingRefusal device between mid) → faults_in mid.fills ≡ Fault count true (additions.Rows rows) ∷ []
+    same_faults : (r : Result ℕ Refusal) → IfOk r (AllLateFilled device between mid) → IfErr r (IsFillingRefusal device between mid) → faults_in mid.fills ≡ Fault count true addition ∷ []
     same_faults (Ok late) done refused = done.unfailed.same_faults ∙ fault
     same_faults (Err OutOfMemory) done refused = refused.same_faults ∙ fault
     same_faults (Err (NeedsReopen faults)) done refused = refused.1.same_faults ∙ fault
-    same_faults (Err (Limit which number)) done refused = refused.1.same_faults ∙ fault
+    same_faults (Err (Limit which number)) done refused = refused.2.same_faults ∙ fault
     same_faults (Err DiskFault) done refused = absurd (unhealed refused.healed)
     same_faults (Err other) done refused = absurd refused
 
+    pub is_taken_back : faults_in mid.fills ≡ Fault count true addition ∷ [] → IsTakenBack device disk new addition
+    is_taken_back one = taken_back device disk mid new addition count healed one (ap device.failed_writes (filled_on.no_call unhealed) ∙ wrote)
+
+    -- the count at which it was pending was reached since the disk was handed in
+    pub fault_count_since : (r : Result ℕ Refusal) → IfOk r (AllLateFilled device between mid) → IfErr r (IsFillingRefusal device between mid) → (at : ℕ) → pending_fault_of between.fills ≡ Some at
+        → IsCountedSince device disk new.disk (Some at)
+    fault_count_since r done refused at pending =
+        let behind = pending_behind device mid new addition count healed (same_faults r done refused) in
+        let told : ◌≡◌ {A = Option ℕ} (Some at) (Some count) = sym pending ∙ pending_fault_of-in between.fills ∙ ap pending_fault_of fault in
+        let is : at ≡ count = cc (told) in
+        let opening = above (device.fault_count new.opened) in
+        let rising = subst (λ (fills : List Fill). Rising opening (device.fault_count new.disk) fills) behind.1 (Rising-in new.fills opening (device.fault_count new.disk) faults.rising) in
+        let low = rising.0 in
+        let high = rising.1 in
+        (omega (arith, is, low, first, ap device.fault_count new_opening), omega (arith, is, high))
+
+    -- of a fill,
+    pub fill_failed_disk : (r : Result ℕ Refusal) → IfOk r (AllLateFilled device between mid) → IfErr r (IsFillingRefusal device between mid) → (i : Interval) (base : ℕ) → addition ≡ additions.Fill i base
+        → HasDiskOutcome device disk new.disk true (FillingFailed (filled_of old) between.history)
+    fill_failed_disk r done refused i base is =
+        let back = subst (IsTakenBack device disk new) is (is_taken_back (same_faults r done refused)) in
+        subst (λ (h : List Item). HasDiskOutcome device disk new.disk true (FillingFailed (filled_of old) h)) new_rows
+        (fill_has_failed device disk old new new_head new_exponent new_opening opened first keeps faults kept new_fills i base back)
+
+    -- or of the rows of a batch
     as_mid : filled_of mid ≡ filled_archive old.head old.exponent between.history (fillings_in mid.filled)
     as_mid =
         ap (λ (h : Head). filled_archive h mid.exponent mid.history (fillings_in mid.filled)) (filled_on.head ∙ head)
         ∙ ap (λ (e : ℕ). filled_archive old.head e mid.history (fillings_in mid.filled)) (filled_on.exponent ∙ exponent)
         ∙ ap (λ (h : List Item). filled_archive old.head old.exponent h (fillings_in mid.filled)) filled_on.rows
 
-    pub batch_failed_disk : (r : Result ℕ Refusal) → IfOk r (AllLateFilled device between mid) → IfErr r (IsFillingRefusal device between mid)
+    pub batch_failed_disk : (r : Result ℕ Refusal) → IfOk r (AllLateFilled device between mid) → IfErr r (IsFillingRefusal device between mid) → (rows : List Row) → addition ≡ additions.Rows rows
         → (IsTrue device.is_transparent → LeavesOnly device old.opened old.disk (λ c. StandsFilled c (filled_of old))) → IsPrefix old.history between.history
         → (IsTrue device.is_transparent → LeavesOnly device old.disk between.disk (IsDuring (archive_of old) between.history (rows_of_faults between.fills)))
         → HasDiskOutcome device disk new.disk true (ExtensionFailed (filled_of old) between.history rows)
-    batch_failed_disk r done refused since grew session =
+    batch_failed_disk r done refused rows is since grew session =
         let one = same_faults r done refused in
-        let back = taken_back device disk mid new (additions.Rows rows) count healed one (ap device.failed_writes (filled_on.no_call unhealed) ∙ wrote) in
-        let held : rows_of_faults between.fills ≡ batch_left rows = rows_of_faults-in between.fills ∙ ap rows_of_faults fault in
-        let pending : unacknowledged_in mid.fills ≡ Some (additions.Rows rows) = unacknowledged-in mid.fills ∙ ap unacknowledged_in one in
+        let back = subst (IsTakenBack device disk new) is (is_taken_back one) in
+        let held : rows_of_faults between.fills ≡ batch_left rows = rows_of_faults-in between.fills ∙ ap rows_of_faults fault ∙ ap (λ (a : Addition). rows_of_faults (Fault count true a ∷ [])) is in
+        let pending : unacknowledged_in mid.fills ≡ Some (additions.Rows rows) = unacknowledged-in mid.fills ∙ ap unacknowledged_in one ∙ ap (λ (a : Addition). unacknowledged_in (Fault count true a ∷ [])) is in
         let during = λ (known : IsTrue device.is_transparent).
         subst (λ (h : List Item). IsOpenedThen device disk new.disk (IsDuring (archive_of old) h (batch_left rows))) (sym new_rows)
         (failed_images device disk old new (opened known) new_opening (keeps known) between mid rows (since known) grew (session known) held (filled_on.no_call unhealed) as_mid pending (healed.crash known)) in

@@ -63,6 +63,14 @@ module _ {D : Type 0} (device : Device D) where
 
   -- ---- a write that failed
 
+  -- the fault of one that was pending stands at the same count, whether it was taken back or not
+  pub pending_behind : (mid new : StoreView D) (addition : Addition) (count : ℕ) → TriesToHeal device mid new → faults_in mid.fills ≡ Fault count true addition ∷ []
+      → (wrote : Bool) × (faults_in new.fills ≡ Fault count wrote addition ∷ [])
+  pending_behind mid new addition count healed fault = elim healed.tried [
+    | inl undone ↦ (false, ap faults_in undone.fills ∙ faults_in-reopened mid.fills ∙ ap reopened fault)
+    | inr again ↦ (true, ap faults_in again.fills ∙ fault)
+  ]
+
   -- it was taken back, or one failed again
   pub taken_back : (before : D) (mid new : StoreView D) (addition : Addition) (count : ℕ) → TriesToHeal device mid new → faults_in mid.fills ≡ Fault count true addition ∷ []
       → device.failed_writes mid.disk ≡ raised (device.failed_writes before) → IsTakenBack device before new addition

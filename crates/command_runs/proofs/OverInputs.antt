@@ -59,6 +59,8 @@ module _ {D : Type 0} (device : Device D) (e : Effects D) {X : Type 0} (plan : �
         printed = rw silent (no_text e.output.written);
         output = record { counted = rw silent refl };
         disk = same;
+        log = tt;
+        pending = tt;
       };
     };
     inputs = subst (λ (s : ℕ). UsedInputs a b s true) (none_before sources) used;
@@ -72,6 +74,8 @@ module _ {D : Type 0} (device : Device D) (e : Effects D) {X : Type 0} (plan : �
         printed = rw silent (no_text e.output.written);
         output = record { counted = rw silent refl };
         disk = same;
+        log = tt;
+        pending = tt;
       };
     };
     inputs = subst (λ (s : ℕ). UsedInputs a b s false) (none_before sources) used;
@@ -85,7 +89,7 @@ module _ {D : Type 0} (device : Device D) (e : Effects D) {X : Type 0} (plan : �
       way = Stopped (nothing_done (0 + r.sources)) (Some refusal);
       allows = ended (map_done nothing_done (plan 0)) f (nothing_done (0 + r.sources)) (Some refusal)
           (allows_map_done nothing_done (plan 0) (Stopped (0 + r.sources) (Some refusal)) (r.allows 0));
-      did = record { report = report; printed = rw silent (no_text e.output.written); output = record { counted = rw silent refl }; disk = same };
+      did = record { report = report; printed = rw silent (no_text e.output.written); output = record { counted = rw silent refl }; disk = same; log = tt; pending = tt };
     };
     inputs = subst (λ (s : ℕ). UsedInputs a b s false) (none_before r.sources) r.used;
   }

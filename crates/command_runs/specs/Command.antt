@@ -16,6 +16,7 @@ use Rattle.history_items.specs.declared.items.Item.{Item}
 use Rattle.archive_store.specs.Entries.{FilledArchive}
 use Rattle.archive_store.specs.Stands.{StandsFilled, IsArchiveDamagedAt}
 use Rattle.command_runs.specs.declared.report.Report.{Report}
+use Rattle.command_runs.specs.Causes.{IsCountedSince, IsLogNear}
 use Rattle.command_runs.specs.Creation.{IsMade, IsMakingFailed}
 use Rattle.command_runs.specs.ReadOnly.{IsReadAsBefore, IsReadOnly}
 use Rattle.command_runs.specs.Report.{unopened, read_only}
@@ -72,8 +73,9 @@ HasDiskOutcome device old new failed (FillingFailed before reached) =
     UsedDisk device old new failed 1 2 × (IsTrue device.is_transparent → IsFillingFailed device old new before reached)
 
 -- What a command has done so far: the text that it printed, whole, or that it was printing; the report but for its
--- refusal; the outcome of the disk; how many sources the inputs gave; and which calls of the outside failed before,
--- though it went on.
+-- refusal; the outcome of the disk; how many sources the inputs gave; which calls of the outside failed before, though
+-- it went on; and, where it is refused for it, with how many records more the log reaches its limit, or at which count
+-- of faults a failed write was pending.
 pub record Progress : Type 0 where
   pub text : List ℕ
   pub is_whole : Bool
@@ -81,6 +83,8 @@ pub record Progress : Type 0 where
   pub disk : DiskOutcome
   pub sources : ℕ
   pub failed : FailedCalls
+  pub log : Option ℕ
+  pub pending : Option ℕ
 
 -- nothing was done but that so many sources were given
 abbrev pub nothing_done : ℕ → Progress
@@ -91,6 +95,8 @@ nothing_done sources = record {
   disk = NotAsked;
   sources = sources;
   failed = no_failed_calls;
+  log = None;
+  pending = None;
 }
 
 -- an archive was looked for after so many sources were given, and none was opened
@@ -102,6 +108,8 @@ archive_sought sources = record {
   disk = ArchiveSought;
   sources = sources;
   failed = no_failed_calls;
+  log = None;
+  pending = None;
 }
 
 -- an archive was looked for after so many sources were given, and a call of the disk failed
@@ -113,6 +121,8 @@ seeking_failed sources = record {
   disk = SeekingFailed;
   sources = sources;
   failed = no_failed_calls;
+  log = None;
+  pending = None;
 }
 
 -- this archive was opened after so many sources were given
@@ -124,6 +134,8 @@ archive_opened sources filled = record {
   disk = Opened filled;
   sources = sources;
   failed = no_failed_calls;
+  log = None;
+  pending = None;
 }
 
 -- What a call of the program did: the disk that was handed in and the one that is handed back, the output before and
@@ -152,6 +164,8 @@ pub record EndedAt {D : Type 0} (device : Device D) (e : Effects D) (s : Progres
   pub printed : AppendsAs s.is_whole e.output.written e.output'.written s.text
   pub output : UsedOutput e.output e.output' (failed OfOutput)
   pub disk : HasDiskOutcome device e.disk e.disk' (failed OfDisk) s.disk
+  pub log : IsLogNear device e.disk' (failed OfDisk) s.log
+  pub pending : IsCountedSince device e.disk e.disk' s.pending
 
 -- a call did what is said where its way ended
 abbrev pub HasEffects : {D : Type 0} → Device D → Effects D → Way Progress ⊥ → Type 0

@@ -1,4 +1,5 @@
 pub mod ArchiveWork
+pub mod Causes
 pub mod Checking
 pub mod Command
 pub mod Creation

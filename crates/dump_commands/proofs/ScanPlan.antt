@@ -72,6 +72,8 @@ module _ {D : Type 0} (device : Device D) (e : Effects D) (files : Option Files)
         printed = subst (Appends e.output.written e.output'.written) (text_of_received dump moment loaded l) text;
         output = record { counted = still };
         disk = same;
+        log = tt;
+        pending = tt;
       };
     })
 
@@ -86,6 +88,8 @@ module _ {D : Type 0} (device : Device D) (e : Effects D) (files : Option Files)
         printed = subst (WritesSome e.output.written e.output'.written) (text_of_received dump moment loaded l) text;
         output = record { counted = risen_counted e.output.faults e.output'.faults later risen };
         disk = same;
+        log = tt;
+        pending = tt;
       };
     })
 

@@ -85,7 +85,7 @@ module _ {D : Type 0} (device : Device D) (e : Effects D) (files : Option Files)
     ran_no_parameter refusal (inl cause) report silent = ran_read device e (values_inputs_plan files words) (valuing_plan next words.name) a b 4 (raw, dump) read (valued_after next words.name (raw, dump)) (record {
       way = Stopped (nothing_done 4) (Some refusal);
       allows = (moment, told, inr (Some refusal, sym cause, refl));
-      did = record { report = report; printed = rw silent (no_text e.output.written); output = record { counted = rw silent refl }; disk = same };
+      did = record { report = report; printed = rw silent (no_text e.output.written); output = record { counted = rw silent refl }; disk = same; log = tt; pending = tt };
     })
     ran_no_parameter refusal (inr memory) report silent = ran_read device e (values_inputs_plan files words) (valuing_plan next words.name) a b 4 (raw, dump) read (valued_after next words.name (raw, dump)) (record {
       way = Interrupted (nothing_done 4) OfMemory;
@@ -95,6 +95,8 @@ module _ {D : Type 0} (device : Device D) (e : Effects D) (files : Option Files)
         printed = rw silent (no_text e.output.written);
         output = record { counted = rw silent refl };
         disk = same;
+        log = tt;
+        pending = tt;
       };
     })
 
@@ -116,6 +118,8 @@ module _ {D : Type 0} (device : Device D) (e : Effects D) (files : Option Files)
           printed = subst (Appends e.output.written e.output'.written) text_is (all_went e.output e.output' (text_of_cells db number loaded.table.stored loaded.why) printed).all;
           output = record { counted = printed.no_fault };
           disk = same;
+          log = tt;
+          pending = tt;
         };
       })
 
@@ -130,6 +134,8 @@ module _ {D : Type 0} (device : Device D) (e : Effects D) (files : Option Files)
           printed = subst (WritesSome e.output.written e.output'.written) text_is printed.some;
           output = record { counted = risen_counted e.output.faults e.output'.faults printed.later printed.failed };
           disk = same;
+          log = tt;
+          pending = tt;
         };
       })
       ran_some_valued printing.DiskFault report printed = absurd printed
@@ -142,6 +148,8 @@ module _ {D : Type 0} (device : Device D) (e : Effects D) (files : Option Files)
           printed = subst (WritesSome e.output.written e.output'.written) text_is printed.some;
           output = record { counted = printed.no_fault };
           disk = same;
+          log = tt;
+          pending = tt;
         };
       })
 

@@ -160,6 +160,13 @@ module _ {D : Type 0} (device : Device D) (old new : StoreView D) (task : FillTa
   refused_filled DiskFault r = ap (λ (s : StoreView D). s.filled) r.1.2 ∙ r.1.1.filled
   refused_filled _ r = absurd r
 
+  refused_records : (e : Refusal) → IsTaskRefusal device old new task e → new.records ≡ old.records
+  refused_records OutOfMemory r = ap (λ (s : StoreView D). s.records) r
+  refused_records (NeedsReopen faults) r = ap (λ (s : StoreView D). s.records) r.1
+  refused_records (Limit which number) r = ap (λ (s : StoreView D). s.records) r.3
+  refused_records DiskFault r = ap (λ (s : StoreView D). s.records) r.1.2 ∙ r.1.1.records
+  refused_records _ r = absurd r
+
   refused_disk : (e : Refusal) → pending_fault_of old.fills ≢ None → IsTaskRefusal device old new task e → new.disk ≡ old.disk
   refused_disk OutOfMemory unhealed r = ap (λ (s : StoreView D). s.disk) r
   refused_disk (NeedsReopen faults) unhealed r = ap (λ (s : StoreView D). s.disk) r.1
@@ -386,6 +393,7 @@ module _ {D : Type 0} (device : Device D) (old now begun_store : StoreView D) (f
       head = same.0 ∙ same_head ∙ f.head;
       exponent = same.1 ∙ same_exponent ∙ f.exponent;
       opened = same.2 ∙ same_opened ∙ f.opened;
+      records = omega (arith, refused_records device begun_store new task e refused, same_records, f.records);
       sets = subst (λ (x : PlacedFills). AddsRightFills old.head old.exponent old.history (fillings_in old.filled) (fillings_in x)) (sym (refused_filled device begun_store new task e refused ∙ same_filled)) f.sets;
       unchanged = λ none. absurd (omega (arith, f.count, ap length none, some_left));
       no_call = λ unhealed.
@@ -419,6 +427,7 @@ module _ {D : Type 0} (device : Device D) (old now begun_store : StoreView D) (f
         let late_at_first = length (late_intervals old.exponent old.history old.fills) in (
           filling_full old.records late_at_first (omega (arith, f.count, some_left)) (omega (arith, r.2, same_records, f.records, f.count, some_left))
               ∙ ap (λ (n : ℕ). Some (Limit Records n)) (sym r.1) ∙ ap (λ w. Some (Limit w number)) (sym r.0),
+          omega (arith, r.2, ap (λ (x : StoreView D). x.records) r.3),
           unfailed_still r.3,
         )
     filling_refused DiskFault r = failed_then r.1.0 r.0 r.1.1 r.1.2
@@ -431,6 +440,7 @@ filled_so_far {D = D} device old now filled f = record {
   head = f.head;
   exponent = f.exponent;
   opened = f.opened;
+  records = omega (arith, f.records);
   sets = f.sets;
   unchanged = λ none. f.unchanged (omega (arith, f.count, ap length none));
   no_call = λ unhealed. ap (λ (x : StoreView D). x.disk) (f.unchanged (nothing_filled filled (pending_fault_of old.fills ≡ None) f.healed unhealed));

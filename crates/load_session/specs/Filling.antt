@@ -92,8 +92,8 @@ pub record AllLateFilled {D : Type 0} (device : Device D) (old new : StoreView D
   pub records : new.records ≡ old.records + filled
   pub unfailed : IsUnfailed device old new
 
--- why not each late interval was filled: a failed write is pending, there's no place for a record for each, no memory, or
--- the disk failed
+-- why not each late interval was filled: a failed write is pending; there's no place for a record for each, and the log is
+-- full; no memory; or the disk failed
 abbrev pub IsFillingRefusal : {D : Type 0} → Device D → StoreView D → StoreView D → Refusal → Type 0
 IsFillingRefusal device old new OutOfMemory = IsUnfailed device old new
 IsFillingRefusal device old new (NeedsReopen faults) =
@@ -101,18 +101,19 @@ IsFillingRefusal device old new (NeedsReopen faults) =
 IsFillingRefusal device old new (Limit which number) =
     (filling_refusal old.records (length (late_intervals old.exponent old.history old.fills))
     ≡ Some (Limit which number))
-    × IsUnfailed device old new
+    × (limit_of Records ≤ new.records) × IsUnfailed device old new
 IsFillingRefusal device old new DiskFault = IsFillFailed device old new
 IsFillingRefusal device old new _ = ⊥
 
--- What filling leaves whatever it came to: the rows of the same archive since the same opening, and the fills that
--- were there, but where a late interval got one. Where none was late all is as it was, and while a failed write was
--- pending the disk is.
+-- What filling leaves whatever it came to: the rows of the same archive since the same opening, the records, and the
+-- fills that were there, but where a late interval got one. Where none was late all is as it was, and while a failed
+-- write was pending the disk is.
 pub record IsFilledOn {D : Type 0} (old new : StoreView D) : Type 0 where
   pub rows : new.history ≡ old.history
   pub head : new.head ≡ old.head
   pub exponent : new.exponent ≡ old.exponent
   pub opened : new.opened ≡ old.opened
+  pub records : old.records ≤ new.records
   pub sets : AddsRightFills old.head old.exponent old.history (fillings_in old.filled) (fillings_in new.filled)
   pub unchanged : late_intervals old.exponent old.history old.fills ≡ [] → new ≡ old
   pub no_call : pending_fault_of old.fills ≢ None → new.disk ≡ old.disk

@@ -34,15 +34,15 @@ module _ {D : Type 0} (device : Device D) (e : Effects D) (filled : FilledArchiv
   ran_answered asks None printed report =
       let text = archive_asks_text filled 1 asks in
       ran_later device e OfMemory (printing asks) (printing_plan (archive_opened 0 filled) text)
-      (ran_printed device e (archive_opened 0 filled) text None refl refl printed report disk)
+      (ran_printed device e (archive_opened 0 filled) text None refl refl (refl, refl) printed report disk)
   ran_answered asks (Some WriteFault) printed report =
       let text = archive_asks_text filled 1 asks in
       ran_later device e OfMemory (printing asks) (printing_plan (archive_opened 0 filled) text)
-      (ran_printed device e (archive_opened 0 filled) text (Some WriteFault) refl refl printed report disk)
+      (ran_printed device e (archive_opened 0 filled) text (Some WriteFault) refl refl (refl, refl) printed report disk)
   ran_answered asks (Some OutOfMemory) printed report = record {
     way = Interrupted (printing asks) OfMemory;
     allows = inl refl;
-    did = record { report = report; printed = printed.1.some; output = record { counted = printed.1.no_fault }; disk = disk };
+    did = record { report = report; printed = printed.1.some; output = record { counted = printed.1.no_fault }; disk = disk; log = tt; pending = tt };
   }
   ran_answered asks (Some other) printed report = absurd printed
 
@@ -53,7 +53,7 @@ module _ {D : Type 0} (device : Device D) (e : Effects D) (filled : FilledArchiv
   ran_replied sheet None (inl refused) report = absurd refused.0
   ran_replied sheet (Some refusal) (inl refused) report =
       ran_refused (archive_opened 0 filled) archive device e (answers_plan filled) sheet refusal refused.0
-      (record { report = report; printed = rw refused.1 (no_text e.output.written); output = record { counted = rw refused.1 refl }; disk = disk })
+      (record { report = report; printed = rw refused.1 (no_text e.output.written); output = record { counted = rw refused.1 refl }; disk = disk; log = tt; pending = tt })
   ran_replied sheet refusal (inr reply) report =
       ran_then device e (asks_check_plan (archive_opened 0 filled) archive sheet) (answers_plan filled) reply.0
       (checked (archive_opened 0 filled) archive sheet reply.0 reply.1) (ran_answered reply.0 refusal reply.2 report)

@@ -47,6 +47,8 @@ module _ {D : Type 0} (device : Device D) (e : Effects D) (filled : FilledArchiv
       printed = did.printed;
       output = did.output;
       disk = did.disk;
+      log = did.log;
+      pending = did.pending;
     };
   }
   ran_refused_text refusal (inr is) did = record { way = Stopped (archive_opened 1 filled) (Some refusal); allows = inr (Err refusal, is, refl); did = did }
@@ -56,14 +58,14 @@ module _ {D : Type 0} (device : Device D) (e : Effects D) (filled : FilledArchiv
       Ran device (stepwise_printing_plan (archive_opened 1 filled) answers) e
   ran_text answers None printed report =
       ran_later device e OfMemory (record (archive_opened 1 filled) { text = answers; is_whole = false }) (printing_plan (archive_opened 1 filled) answers)
-      (ran_printed device e (archive_opened 1 filled) answers None refl refl printed report disk)
+      (ran_printed device e (archive_opened 1 filled) answers None refl refl (refl, refl) printed report disk)
   ran_text answers (Some WriteFault) printed report =
       ran_later device e OfMemory (record (archive_opened 1 filled) { text = answers; is_whole = false }) (printing_plan (archive_opened 1 filled) answers)
-      (ran_printed device e (archive_opened 1 filled) answers (Some WriteFault) refl refl printed report disk)
+      (ran_printed device e (archive_opened 1 filled) answers (Some WriteFault) refl refl (refl, refl) printed report disk)
   ran_text answers (Some OutOfMemory) printed report = record {
     way = Interrupted (record (archive_opened 1 filled) { text = answers; is_whole = false }) OfMemory;
     allows = inl refl;
-    did = record { report = report; printed = printed.some; output = record { counted = printed.no_fault }; disk = disk };
+    did = record { report = report; printed = printed.some; output = record { counted = printed.no_fault }; disk = disk; log = tt; pending = tt };
   }
   ran_text answers (Some other) printed report = absurd printed
 
@@ -71,7 +73,7 @@ module _ {D : Type 0} (device : Device D) (e : Effects D) (filled : FilledArchiv
   pub ran_reply : (refusal : Option Refusal) → IsTextReply archive text refusal e.output e.output' → e.report ≡ read_only refusal (length archive.history) → Ran device (text_plan text filled) e
   ran_reply None (inl refused) report = absurd refused.0
   ran_reply (Some refusal) (inl refused) report =
-      ran_refused_text refusal refused.0 (record { report = report; printed = rw refused.1 (no_text e.output.written); output = record { counted = rw refused.1 refl }; disk = disk })
+      ran_refused_text refusal refused.0 (record { report = report; printed = rw refused.1 (no_text e.output.written); output = record { counted = rw refused.1 refl }; disk = disk; log = tt; pending = tt })
   ran_reply refusal (inr reply) report =
       let ran = ran_text (statements_text archive reply.0) refusal reply.2 report in
       record { way = ran.way; allows = inr (Ok reply.0, reply.1, ran.allows); did = ran.did }

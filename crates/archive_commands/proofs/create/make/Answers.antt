@@ -20,6 +20,8 @@ returns-in_default g c = λ sources. record {
     printed = no_text (g.K.Sink.state c.args.sink.now).written;
     output = record { counted = refl };
     disk = refl;
+    log = tt;
+    pending = tt;
   };
 }
 
@@ -53,4 +55,4 @@ returns g c = λ sources.
     ) in
     subst (λ (d : g.row.D.Denot). Ran device (new_archive_plan sources device c.args.disk c.args.head) (effects_of c.args.disk d output output' report)) (sym c.into_disk.ensures.disk)
     (ran_made sources device went c.args.head m.none
-    (ran_printed device went (made sources c.args.head) (create_line c.args.head) refusal refl refl text c.read_only.ensures disk))
+    (ran_printed device went (made sources c.args.head) (create_line c.args.head) refusal refl refl (refl, refl) text c.read_only.ensures disk))

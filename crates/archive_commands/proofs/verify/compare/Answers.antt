@@ -17,4 +17,4 @@ returns-in-Ok-clause-reply g c =
     })
 
 pub returns-in-Err-clause-reply : goal.returns-in-Err-clause-reply
-returns-in-Err-clause-reply g c = inr (check_refused (filled_of c.args.store.now) c.in-Err.refusal c.in-Err.ensures.refused, refl)
+returns-in-Err-clause-reply g c = inr (check_refused g.D.Disk.device c.args.store.now _ c.in-Err.refusal c.in-Err.ensures.refused c.in-Err.ensures.same, refl)

@@ -1,4 +1,4 @@
-use Rattle.std.proofs.Common.{◌≡◌, ◌∙◌, ℕ, ◌++◌, Some, length, refl, sym, ap, subst}
+use Rattle.std.proofs.Common.{◌≡◌, ◌∙◌, inl, ℕ, ◌++◌, Some, length, refl, sym, ap, subst, arith}
 use Rattle.std.specs.Prelude.{IsTrue, codes, decimal}
 use Rattle.history_items.specs.Fills.{pending_fault_of}
 use Rattle.history_items.specs.Items.{rows_in}
@@ -12,7 +12,7 @@ use Rattle.load_session.specs.Filling.{AllLateFilled, IsFillingRefusal, filling_
 use Rattle.command_runs.specs.FillingPlan.{IsRecordCount}
 use Rattle.archive_commands.specs.Recover.{recover_line}
 use Rattle.command_runs.specs.Report.{read_only}
-use Rattle.command_runs.proofs.FilledDisks.{failed_disk, filled_disk, idle_done, late_as_filled, unfailed_disk}
+use Rattle.command_runs.proofs.FilledDisks.{failed_disk, filled_disk, idle_done, late_as_filled, log_near, unfailed_disk}
 use Rattle.command_runs.proofs.ReadOnly.{none_failed, still_opened, unchanged_by}
 use Rattle.archive_commands.proofs.Recovered.{ran_recovered, ran_unrecovered}
 use Rattle.command_runs.proofs.During.{IsOpened, opened_store}
@@ -48,7 +48,7 @@ returns-in-Ok g c = λ disk new on heals after.
     let opened : IsTrue device.is_transparent → IsOpened device disk s = λ known. opened_store device disk s (on.opened.filled known) on.reads on.opened.opening on.crash in
     let no_fault = faults_in-done s.fills on.opened.fills in
     let outcome =
-    filled_disk device disk s s mid new opened on.counts.faults refl refl refl refl left heals after.images after.faults after.kept no_fault on.opened.no_fault on.opened.no_failed_write
+    filled_disk device disk s s mid new opened on.counts.faults refl refl refl (λ known i. inl refl) left heals after.images after.faults after.kept no_fault on.opened.no_fault on.opened.no_failed_write
     filled done (λ known. after.bases) in
     let still = still_opened device disk s new on kept as_late (unchanged_by device s mid new no_fault left.unchanged heals) in
     record {
@@ -79,8 +79,10 @@ returns-in-Err g c = λ disk new on heals after.
     record {
       ran =
           ran_unrecovered device went (IsRecordCount device disk) s mid on.opened.records as_late still refl healed (none_failed device s mid on.opened.fills as_late left.unchanged)
-          (unfailed_disk device disk s s mid new opened on.counts.faults refl refl refl refl left heals after.images after.faults after.kept no_fault on.opened.no_fault on.opened.no_failed_write)
-          (failed_disk device disk s s mid new opened on.counts.faults refl refl refl refl left heals after.images after.faults after.kept no_fault on.opened.no_fault on.opened.no_failed_write)
+          (unfailed_disk device disk s s mid new opened on.counts.faults refl refl refl (λ known i. inl refl) left heals after.images after.faults after.kept no_fault on.opened.no_fault on.opened.no_failed_write)
+          (failed_disk device disk s s mid new opened on.counts.faults refl refl refl (λ known i. inl refl) left heals after.images after.faults after.kept no_fault on.opened.no_fault on.opened.no_failed_write)
+          (λ unfailed reaches. log_near device disk s s mid new opened on.counts.faults refl refl refl (λ known i. inl refl) left heals after.images after.faults after.kept no_fault on.opened.no_fault on.opened.no_failed_write
+          0 after.records unfailed (omega (arith, reaches)))
           refusal refused is;
       used = tt;
     }
