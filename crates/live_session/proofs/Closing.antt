@@ -1,13 +1,16 @@
 -- A session whose archive is closed.
-use Rattle.std.proofs.Common.{◌≡◌, ◌⊎◌, inl, inr, ℕ, List, [], length, map, None, Contains, refl, sym, ap, ◌∙◌, subst, arith}
+use Rattle.std.proofs.Common.{◌≡◌, ◌⊎◌, inl, inr, ℕ, List, [], ◌∷◌, length, map, fold, Bool, true, false, Option, None, if◌then◌else◌, Contains, refl, sym, ap, ◌∙◌, subst, arith}
 use mathlib.Core.List.{IsPrefix}
 use Rattle.arch_disk.specs.Disk.{Device}
 use Rattle.outer_traits.specs.States.{SourceState}
 use Rattle.intervals.specs.declared.interval.Interval.{Interval}
 use Rattle.history_items.specs.declared.fills.Fill.{Fill}
 use Rattle.history_items.specs.declared.items.Item.{Item}
-use Rattle.history_items.specs.Fills.{in_flight}
+use Rattle.history_items.specs.declared.fills.Fill.TheVariants.{Begun, Done, Freed, Fault}
+use Rattle.history_items.specs.Fills.{flight_after, in_flight, is_same}
 use Rattle.interval_fills.specs.Steps.{all_freed}
+use Rattle.std.specs.List.{AllByRecursion}
+use Rattle.store_fills.specs.Faults.{IsDone}
 use Rattle.turn_cell.specs.declared.view.SeenList.{SeenList}
 use Rattle.turn_cell.specs.Lists.{first_seen}
 use Rattle.turn_cell.specs.Pass.{PassView}
@@ -73,8 +76,8 @@ module _ {D S : Type 0} (device : Device D) (state : S → SourceState) (first c
           (p.0, p.1, subst (λ (x : PassView Item Fill (HeldStore D)). Contains x.fills.places place) (sym p.2) has)
 
   -- no job was run
-  pub untouched : now ≡ old → NothingCame device first closed
-  untouched same =
+  pub untouched : now ≡ old → ((interval : Interval) → in_flight interval closed.fills ≡ None) → NothingCame device first closed
+  untouched same idle =
       let seen : now.history ≡ first_seen first.history = ap (λ (p : PassView Item Fill (HeldStore D)). p.history) same ∙ history in
       let noted : now.fills ≡ first_seen first.fills = ap (λ (p : PassView Item Fill (HeldStore D)). p.fills) same ∙ fills in
       let begins : IsPrefix first.history closed.history = subst (λ (l : List Item). IsPrefix l closed.history) (ap (λ (s : SeenList Item). s.seen) seen) end.begins in
@@ -83,8 +86,25 @@ module _ {D S : Type 0} (device : Device D) (state : S → SourceState) (first c
         goes = goes;
         history = whole_prefix first.history closed.history begins (end.added ∙ ap (λ (s : SeenList Item). s.added) seen);
         fills = inr (end.settled ∙ ap all_freed (whole_prefix first.fills end.last fills_begin (end.fills_added ∙ ap (λ (s : SeenList Fill). s.added) noted)));
+        idle = λ done. idle;
       }
+
+-- where each item is a fill, none is in flight
+idle_from : (j : Interval) (fills : List Fill) → AllByRecursion IsDone fills → (o : Option ℕ) → o ≡ None → fold (flight_after j) o fills ≡ None
+idle_from j [] all o none = none
+idle_from j (Begun i b ∷ fills) all o none = absurd all.0
+idle_from j (Done i b ∷ fills) all o none = idle_from j fills all.1 (if is_same j i then None else o) (go (is_same j i))
+  where
+    go : (t : Bool) → (if t then None else o) ≡ None
+    go true = refl
+    go false = none
+idle_from j (Freed i ∷ fills) all o none = absurd all.0
+idle_from j (Fault count wrote unacknowledged ∷ fills) all o none = absurd all.0
+
+idle_done : (fills : List Fill) → AllByRecursion IsDone fills → (j : Interval) → in_flight j fills ≡ None
+idle_done fills all j = idle_from j fills all None refl
 
 -- the store that was given back as it was
 pub given_back : {D : Type 0} (device : Device D) (first now : StoreView D) → now ≡ first → NothingCame device first now
-given_back device first now same = subst (NothingCame device first) (sym same) (record { goes = goes_start device first; history = refl; fills = inl refl })
+given_back device first now same =
+    subst (NothingCame device first) (sym same) (record { goes = goes_start device first; history = refl; fills = inl refl; idle = λ done interval. idle_done first.fills done interval })

@@ -1,54 +1,49 @@
--- The fills that came in a session.
-use Rattle.std.proofs.Common.{◌≡◌, ◌⊎◌, inl, inr, ℕ, zero, suc, ◌<◌, List, [], ◌∷◌, ◌++◌, length, take, true, Contains, Option, Some, None, sym, ap, ◌∙◌, subst, arith}
-use Rattle.std.specs.Prelude.{slice_get}
+-- The fills that came in a session, and a fault that did.
+use Rattle.std.proofs.Common.{◌≡◌, ◌⊎◌, inl, inr, ℕ, zero, suc, ◌≤◌, List, [], ◌∷◌, ◌++◌, length, take, true, false, Contains, Option, Some, None, Result, Ok, refl, sym, ap, ◌∙◌, subst, arith}
+use Rattle.std.specs.Prelude.{slice_get, IfNone, IfSome}
 use Rattle.std.specs.List.{AllByRecursion}
+use Rattle.std.specs.Result.{result_err}
 use mathlib.Core.List.{IsPrefix}
 use Rattle.arch_disk.specs.Disk.{Device}
 use Rattle.arch_types.specs.declared.row.Row.{Row}
+use Rattle.arch_types.specs.Dump.{IsDump}
 use Rattle.outer_traits.specs.States.{SourceState}
 use Rattle.intervals.specs.declared.interval.Interval.{Interval}
 use Rattle.refusals.specs.declared.refusal.Refusal.{Refusal}
 use Rattle.refusals.specs.declared.refusal.Refusal.TheVariants.{DiskFault}
-use Rattle.history_items.specs.declared.fills.Fill.{Fill}
+use Rattle.refusals.specs.declared.refusal.Which.TheVariants.{DumpOctets}
+use Rattle.refusals.specs.Limits.{limit_of}
+use Rattle.history_items.specs.declared.fills.Addition.{Addition}
 use Rattle.history_items.specs.declared.fills.Addition.TheVariants.{Rows}
+use Rattle.history_items.specs.declared.fills.Fill.{Fill}
 use Rattle.history_items.specs.declared.fills.Fill.TheVariants.{Done, Fault}
-use Rattle.history_items.specs.Fills.{rows_of_faults}
 use Rattle.history_items.specs.declared.items.Item.{Item}
+use Rattle.store_fills.specs.Faults.{is_fault}
 use Rattle.turn_cell.specs.Pass.{PassView}
 use Rattle.archive_store.specs.StoreView.{StoreView}
 use Rattle.live_archive.specs.declared.held.HeldStore.{HeldStore}
 use Rattle.live_archive.proofs.Going.{goes_settled, prefix_trans}
-use Rattle.live_fills.specs.Filler.{IsFillNote}
+use Rattle.live_fills.specs.Filler.{AreWorksDone, FillsAlone, IsFillNote, IsNoBatchFault, IsOfFill}
+use Rattle.live_fills.specs.Laws.{WereLate}
 use Rattle.live_fills.specs.LiveTarget.{WasLate}
+use Rattle.live_fills.proofs.Calm.{IsCalmAt, works_note_no_fault}
 use Rattle.live_fills.proofs.Late.{settling_adds_none}
 use Rattle.live_fills.proofs.Notes.{note_stays}
+use Rattle.load_session.specs.declared.session.DumpSummary.{DumpSummary}
 use Rattle.load_session.specs.Receiving.{Receiving}
 use Rattle.load_session.specs.Session.{IsBetweenBatches, SessionResult, next_fresh_rows}
 use Rattle.load_jobs.specs.declared.ending.LinkEnd.{LinkEnd}
-use Rattle.load_jobs.specs.Ends.{IsReadAndSent, IsUnread}
+use Rattle.load_jobs.specs.declared.ending.LinkEnd.TheVariants.{Whole, Rest, Refused}
+use Rattle.load_jobs.specs.Ends.{IsEndOf, IsReadAndSent, IsUnread, refusal_of_end}
 use Rattle.load_jobs.specs.Links.{HasNoted}
 use Rattle.live_session.specs.declared.order.JobEnd.{JobEnd}
 use Rattle.live_session.specs.declared.order.JobEnd.TheVariants as Ended
 use Rattle.live_session.specs.declared.order.Order.{Order}
 use Rattle.live_session.specs.declared.order.Order.TheVariants as Ordered
 use Rattle.live_session.specs.Jobs.{CameOf, EachCame, Given, JobPass, received_by}
-use Rattle.live_session.specs.Laws.{FillsWereLate, IsBatchFault, RowsNotedAreOfBatches}
-use Rattle.live_session.specs.Session.{BeganWith, EndedWithin}
+use Rattle.live_session.specs.Session.{BeganWith, EndedWithin, IsSessionOver}
+use Rattle.live_session.proofs.Lists.{below, same_at, stands_on}
 use Rattle.live_session.proofs.Works.{none_there}
-
--- an item that stands in a list stands in each that goes on from it
-stands_on : {X : Type 0} (xs ys : List X) (place : ℕ) (x : X) → IsPrefix xs ys → slice_get xs place ≡ Some x → slice_get ys place ≡ Some x
-stands_on {X = X} xs ys place x (more, is) at = subst (λ (l : List X). slice_get l place ≡ Some x) is (longer xs place at)
-  where
-    longer : (xs : List X) (place : ℕ) → slice_get xs place ≡ Some x → slice_get (xs ++ more) place ≡ Some x
-    longer [] place at = absurd cc
-    longer (y ∷ xs) zero at = at
-    longer (y ∷ xs) (suc place) at = longer xs place at
-
-below : {X : Type 0} (xs : List X) (place : ℕ) (x : X) → slice_get xs place ≡ Some x → place < length xs
-below [] place x at = absurd cc
-below (y ∷ xs) zero x at = omega arith
-below (y ∷ xs) (suc place) x at = let deep = below xs place x at in omega (arith, deep)
 
 -- a fill stands at the place
 abbrev IsDoneAt : List Fill → ℕ → Interval → ℕ → Type 0
@@ -58,21 +53,55 @@ only_one : (x : ℕ) (place : ℕ) → Contains (x ∷ []) place → place ≡ x
 only_one x place (zero, low, e) = sym e
 only_one x place (suc k, low, e) = absurd (omega (arith, low))
 
-module _ {T : Type 0} (r : Receiving) (old new : PassView Item Fill T) (fills : List Fill) (place : ℕ) (interval : Interval) (base : ℕ) (later : IsPrefix new.fills.seen fills) (none : old.fills.places ≡ [])
-    (has : Contains new.fills.places place) (there : IsDoneAt fills place interval base) where
-  -- what a link notes is a fault
-  noted_no_fill : (s : SessionResult) (refusal : Option Refusal) → HasNoted r s old new refusal → ⊥
-  noted_no_fill s None noted = none_there new.fills.places place (noted ∙ none) has
-  noted_no_fill s (Some DiskFault) noted =
-      let one = only_one noted.0 place (subst (λ (l : List ℕ). Contains l place) (noted.1 ∙ ap (λ (l : List ℕ). l ++ noted.0 ∷ []) none) has) in
-      let fault = stands_on new.fills.seen fills noted.0 _ later noted.2.1 in
-      let fill = subst (λ (n : ℕ). IsDoneAt fills n interval base) one there in
-      absurd (cc (fill, fault))
-  noted_no_fill s (Some other) noted = none_there new.fills.places place (noted ∙ none) has
+-- ---- what a link notes
 
-  link_no_fill : {D : Type 0} (first : StoreView D) (left : Option (List ℕ)) (end : LinkEnd) (put : List Row) → IsReadAndSent first r left put old new end ⊎ IsUnread first r left put old new end → ⊥
-  link_no_fill first left end put (inl read) = noted_no_fill read.sent.came_to read.sent.came_to.refusal read.sent.noted
-  link_no_fill first left end put (inr unread) = none_there new.fills.places place (ap (λ (p : PassView Item Fill T). p.fills.places) unread.same ∙ none) has
+-- the fault of the batch in hand of a dump, over the history that was seen
+pub record IsBatchOf (r : Receiving) (left : Option (List ℕ)) (seen : List Item) (item : Fill) : Type 0 where
+  pub dump : List ℕ
+  pub whole : IfSome left (λ octets. octets ≡ dump)
+  pub short : length dump ≤ limit_of DumpOctets
+  pub came_to : SessionResult
+  pub parts : IsDump dump came_to.packets came_to.rest
+  pub between : IsBetweenBatches came_to.place came_to.packets
+  pub reached : came_to.reached ≡ seen
+  pub count : ℕ
+  pub is : item ≡ Fault count true (Rows (next_fresh_rows r came_to))
+
+module _ {T : Type 0} (r : Receiving) (left : Option (List ℕ)) (old new : PassView Item Fill T) (fills : List Fill) (place : ℕ) (item : Fill) (later : IsPrefix new.fills.seen fills) (none : old.fills.places ≡ [])
+    (has : Contains new.fills.places place) (there : slice_get fills place ≡ Some item) where
+  -- where it noted nothing, there is no such place
+  nothing_noted : new.fills.places ≡ old.fills.places → ⊥
+  nothing_noted noted = none_there new.fills.places place (noted ∙ none) has
+
+  -- where the disk failed, the item is the fault of the batch in hand
+  noted_item : (s : SessionResult) (refusal : Option Refusal) → HasNoted r s old new refusal → (refusal ≡ Some DiskFault) × ((count : ℕ) × (item ≡ Fault count true (Rows (next_fresh_rows r s))))
+  noted_item s None noted = absurd (nothing_noted noted)
+  noted_item s (Some DiskFault) noted =
+      let one = only_one noted.0 place (subst (λ (l : List ℕ). Contains l place) (noted.1 ∙ ap (λ (l : List ℕ). l ++ noted.0 ∷ []) none) has) in
+      let fault = stands_on new.fills.seen fills noted.0 (Fault noted.2.0 true (Rows (next_fresh_rows r s))) later noted.2.1 in
+      (refl, (noted.2.0, same_at fills noted.0 (Fault noted.2.0 true (Rows (next_fresh_rows r s))) item fault (subst (λ (n : ℕ). slice_get fills n ≡ Some item) one there)))
+  noted_item s (Some other) noted = absurd (nothing_noted noted)
+
+  refused_end : (answer : Result DumpSummary Refusal) (end : LinkEnd) → IsEndOf answer end → result_err answer ≡ Some DiskFault → refusal_of_end end ≡ None → ⊥
+  refused_end answer (Whole summary) ended is none = absurd (let e : result_err (Ok summary) ≡ Some DiskFault = ap result_err (sym ended.0) ∙ is in cc e)
+  refused_end answer (Rest at kind) ended is none = absurd (cc none)
+  refused_end answer (Refused refusal) ended is none = absurd (cc none)
+  refused_end answer other ended is none = absurd ended
+
+  module _ {D : Type 0} (first : StoreView D) (end : LinkEnd) (put : List Row) where
+    pub link_batch : IsReadAndSent first r left put old new end ⊎ IsUnread first r left put old new end → IsBatchOf r left new.history.seen item
+    link_batch (inl read) =
+        let s = read.sent.came_to in
+        let noted = noted_item s s.refusal read.sent.noted in
+        record { dump = read.dump; whole = read.whole; short = read.short; came_to = s; parts = read.sent.parts; between = read.sent.between; reached = read.sent.reached; count = noted.1.0; is = noted.1.1 }
+    link_batch (inr unread) = absurd (nothing_noted (ap (λ (p : PassView Item Fill T). p.fills.places) unread.same))
+
+    -- it is refused then
+    pub link_refused : IsReadAndSent first r left put old new end ⊎ IsUnread first r left put old new end → refusal_of_end end ≡ None → ⊥
+    link_refused (inl read) calm =
+        let s = read.sent.came_to in
+        refused_end read.answer end read.ended (sym read.sent.answer_is ∙ (noted_item s s.refusal read.sent.noted).0) calm
+    link_refused (inr unread) calm = nothing_noted (ap (λ (p : PassView Item Fill T). p.fills.places) unread.same)
 
 -- of what is old or a note, and where nothing is old
 is_note : {D T : Type 0} (first : StoreView D) (old new : PassView Item Fill T) (place : ℕ) → old.fills.places ≡ [] → Contains old.fills.places place ⊎ IsFillNote first new.history.seen new.fills.seen place
@@ -80,99 +109,90 @@ is_note : {D T : Type 0} (first : StoreView D) (old new : PassView Item Fill T) 
 is_note first old new place none (inl before) = absurd (none_there old.fills.places place none before)
 is_note first old new place none (inr note) = note
 
+-- ---- jobs
+
+-- the refusal of a job
+abbrev pub refusal_of_job : {S : Type 0} → JobEnd S → Option Refusal
+refusal_of_job (Ended.Link number back end) = refusal_of_end end
+refusal_of_job (Ended.Reader answers refusal) = refusal
+refusal_of_job (Ended.Filler refusal) = refusal
+
 module _ {D S : Type 0} (device : Device D) (state : S → SourceState) (first : StoreView D) (g : Given) where
   -- a fill at a place of a job's pass is a filler's
   of_filler : (p : JobPass (HeldStore D)) (order : Order S) (end : JobEnd S) (fills : List Fill) (place : ℕ) (interval : Interval) (base : ℕ) → p.began.fills.places ≡ []
       → IsPrefix p.ended.fills.seen fills → CameOf device state first g p.began p.ended order end → Contains p.ended.fills.places place → IsDoneAt fills place interval base
       → IsFillNote first p.ended.history.seen p.ended.fills.seen place
   of_filler p (Ordered.Link link source wake) (Ended.Link number back end) fills place interval base none later came has there =
-      absurd (link_no_fill (received_by g link p.began) p.began p.ended fills place interval base later none has there first (state source).left end came.0.put came.0.dump)
+      let batch = link_batch (received_by g link p.began) (state source).left p.began p.ended fills place (Done interval base) later none has there first end came.0.put came.0.dump in
+      absurd (let is = batch.is in cc is)
   of_filler p (Ordered.Reader before) (Ended.Reader answers refusal) fills place interval base none later came has there = absurd (none_there p.ended.fills.places place (came.0.put_none.1 ∙ none) has)
   of_filler p (Ordered.Filler wakes) (Ended.Filler refusal) fills place interval base none later came has there = is_note first p.began p.ended place none (came.0.noted place has)
   of_filler p order end fills place interval base none later came has there = absurd came
 
-  -- what came of the job that a pass is of
+  -- the job that a pass is of
+  pub record IsJobOf (history : List Item) (last : List Fill) (orders : List (Order S)) (ends : List (JobEnd S)) (p : JobPass (HeldStore D)) : Type 0 where
+    pub number : ℕ
+    pub order : Order S
+    pub end : JobEnd S
+    pub ordered : slice_get orders number ≡ Some order
+    pub ended : slice_get ends number ≡ Some end
+    pub came : CameOf device state first g p.began p.ended order end
+    pub began : BeganWith first p
+    pub within : EndedWithin history last p
+
   pub of_pass : (history : List Item) (last : List Fill) (passes : List (JobPass (HeldStore D))) (orders : List (Order S)) (ends : List (JobEnd S)) → EachCame device state first g passes orders ends
-      → AllByRecursion (BeganWith first) passes → AllByRecursion (EndedWithin history last) passes → (q : JobPass (HeldStore D)) → Contains passes q
-      → (order : Order S) × (end : JobEnd S) × CameOf device state first g q.began q.ended order end × BeganWith first q × EndedWithin history last q
+      → AllByRecursion (BeganWith first) passes → AllByRecursion (EndedWithin history last) passes → (q : JobPass (HeldStore D)) → Contains passes q → IsJobOf history last orders ends q
   of_pass history last [] orders ends each began within q (k, low, e) = absurd (omega (arith, low))
   of_pass history last (p ∷ passes) [] ends each began within q inside = absurd each
   of_pass history last (p ∷ passes) (order ∷ orders) [] each began within q inside = absurd each
   of_pass history last (p ∷ passes) (order ∷ orders) (end ∷ ends) each began within q (zero, low, e) =
-      subst (λ (x : JobPass (HeldStore D)). (o : Order S) × (d : JobEnd S) × CameOf device state first g x.began x.ended o d × BeganWith first x × EndedWithin history last x) e (order, end, each.0, began.0, within.0)
-  of_pass history last (p ∷ passes) (order ∷ orders) (end ∷ ends) each began within q (suc k, low, e) = of_pass history last passes orders ends each.1 began.1 within.1 q (k, omega (arith, low), e)
+      subst (IsJobOf history last (order ∷ orders) (end ∷ ends)) e (record { number = 0; order = order; end = end; ordered = refl; ended = refl; came = each.0; began = began.0; within = within.0 })
+  of_pass history last (p ∷ passes) (order ∷ orders) (end ∷ ends) each began within q (suc k, low, e) =
+      let job = of_pass history last passes orders ends each.1 began.1 within.1 q (k, omega (arith, low), e) in
+      record { number = suc job.number; order = job.order; end = job.end; ordered = job.ordered; ended = job.ended; came = job.came; began = job.began; within = job.within }
+
+  -- ---- a fault by a failed write
+
+  module _ (p : JobPass (HeldStore D)) (history : List Item) (last : List Fill) (began : BeganWith first p) (within : EndedWithin history last p) (place count : ℕ) (addition : Addition) (has : Contains p.ended.fills.places place)
+      (there : slice_get last place ≡ Some (Fault count true addition)) where
+    -- is a refused job's
+    pub fault_refuses : (order : Order S) (end : JobEnd S) → CameOf device state first g p.began p.ended order end → refusal_of_job end ≡ None → ⊥
+    fault_refuses (Ordered.Link link source wake) (Ended.Link number back end) came calm =
+        link_refused (received_by g link p.began) (state source).left p.began p.ended last place (Fault count true addition) within.1 began.none.1 has there first end came.0.put came.0.dump calm
+    fault_refuses (Ordered.Reader before) (Ended.Reader answers refusal) came calm = none_there p.ended.fills.places place (came.0.put_none.1 ∙ began.none.1) has
+    fault_refuses (Ordered.Filler wakes) (Ended.Filler refusal) came calm = go (works_note_no_fault device first p.began p.ended (subst (λ (o : Option Refusal). IfNone o (AreWorksDone device first p.began p.ended)) calm came.1) place has)
+      where
+        go : Contains p.began.fills.places place ⊎ IsCalmAt p.ended.fills.seen place → ⊥
+        go (inl before) = none_there p.began.fills.places place began.none.1 before
+        go (inr (item, at, calm_item)) =
+            let same = same_at last place item (Fault count true addition) (stands_on p.ended.fills.seen last place item within.1 at) there in
+            absurd (let e : is_fault (Fault count true addition) ≡ false = ap is_fault same ∙ calm_item in cc e)
+    fault_refuses order end came calm = absurd came
+
+    -- a filler's is that of a fill
+    pub filler_fault : FillsAlone first p.began p.ended → IsOfFill addition
+    filler_fault alone =
+        let note = is_note first p.began p.ended place began.none.1 (alone.noted place has) in
+        of_note note.item (same_at last place note.item (Fault count true addition) (stands_on p.ended.fills.seen last place note.item within.1 note.there) there) note.of_fill
+      where
+        of_note : (item : Fill) → Fault count true addition ≡ item → IsNoBatchFault item → IsOfFill addition
+        of_note item same is = subst IsNoBatchFault (sym same) is
+
+-- ---- the fills
 
 -- the item of a note is the fill that stands there
 late_by : {D : Type 0} (first : StoreView D) (history : List Item) (fills : List Fill) (place : ℕ) (interval : Interval) (base : ℕ) → IsFillNote first history fills place → IsDoneAt fills place interval base
     → WasLate first.exponent first.fills history (take place fills) interval
-late_by first history fills place interval base note there =
-    let here = note.there in
-    let same : note.item ≡ Done interval base = cc (here, there) in
-    note.late interval base same
-
--- ---- the rows of faults
-
--- one item alone stands at a place
-same_item : (fills : List Fill) (place : ℕ) (a b : Fill) → slice_get fills place ≡ Some a → slice_get fills place ≡ Some b → b ≡ a
-same_item fills place a b here there = cc (here, there)
-
-module _ {T : Type 0} (g : Given) (link : ℕ) (old new : PassView Item Fill T) (history : List Item) (fills : List Fill) (place : ℕ) (item : Fill) (seen : IsPrefix new.history.seen history)
-    (later : IsPrefix new.fills.seen fills) (none : old.fills.places ≡ []) (has : Contains new.fills.places place) (there : slice_get fills place ≡ Some item) where
-  abbrev By : Receiving
-  By = received_by g link old
-
-  noted_batch : (s : SessionResult) (refusal : Option Refusal) → s.reached ≡ new.history.seen → IsBetweenBatches s.place s.packets → HasNoted By s old new refusal → IsBatchFault g old.history.seen history item
-  noted_batch s None is between noted = absurd (none_there new.fills.places place (noted ∙ none) has)
-  noted_batch s (Some DiskFault) is between noted =
-      let one = only_one noted.0 place (subst (λ (l : List ℕ). Contains l place) (noted.1 ∙ ap (λ (l : List ℕ). l ++ noted.0 ∷ []) none) has) in
-      let fault = stands_on new.fills.seen fills noted.0 _ later noted.2.1 in
-      record {
-        link = link;
-        came_to = s;
-        reached = subst (λ (l : List Item). IsPrefix l history) (sym is) seen;
-        between = between;
-        count = noted.2.0;
-        is = same_item fills noted.0 (Fault noted.2.0 true (Rows (next_fresh_rows By s))) item fault (subst (λ (n : ℕ). slice_get fills n ≡ Some item) one there);
-      }
-  noted_batch s (Some other) is between noted = absurd (none_there new.fills.places place (noted ∙ none) has)
-
-  link_batch : {D : Type 0} (first : StoreView D) (left : Option (List ℕ)) (end : LinkEnd) (put : List Row) → IsReadAndSent first By left put old new end ⊎ IsUnread first By left put old new end → IsBatchFault g old.history.seen history item
-  link_batch first left end put (inl read) = noted_batch read.sent.came_to read.sent.came_to.refusal read.sent.reached read.sent.between read.sent.noted
-  link_batch first left end put (inr unread) = absurd (none_there new.fills.places place (ap (λ (p : PassView Item Fill T). p.fills.places) unread.same ∙ none) has)
-
--- a note holds no rows
-note_holds_none : {D : Type 0} (first : StoreView D) (history : List Item) (fills : List Fill) (place : ℕ) (item : Fill) → IsFillNote first history fills place → slice_get fills place ≡ Some item → rows_of_faults (item ∷ []) ≡ []
-note_holds_none first history fills place item note there =
-    let same = same_item fills place note.item item note.there there in
-    ap (λ (x : Fill). rows_of_faults (x ∷ [])) same ∙ note.no_rows
-
-module _ {D S : Type 0} (device : Device D) (state : S → SourceState) (first : StoreView D) (g : Given) where
-  of_job : (p : JobPass (HeldStore D)) (order : Order S) (end : JobEnd S) (history : List Item) (fills : List Fill) (place : ℕ) (item : Fill) → BeganWith first p → EndedWithin history fills p
-      → CameOf device state first g p.began p.ended order end → Contains p.ended.fills.places place → slice_get fills place ≡ Some item
-      → IsBatchFault g first.history history item ⊎ (rows_of_faults (item ∷ []) ≡ [])
-  of_job p (Ordered.Link link source wake) (Ended.Link number back end) history fills place item began within came has there =
-      inl (subst (λ (h : List Item). IsBatchFault g h history item) began.history
-      (link_batch g link p.began p.ended history fills place item within.0 within.1 began.none.1 has there first (state source).left end came.0.put came.0.dump))
-  of_job p (Ordered.Reader before) (Ended.Reader answers refusal) history fills place item began within came has there = absurd (none_there p.ended.fills.places place (came.0.put_none.1 ∙ began.none.1) has)
-  of_job p (Ordered.Filler wakes) (Ended.Filler refusal) history fills place item began within came has there =
-      let note = is_note first p.began p.ended place began.none.1 (came.0.noted place has) in
-      inr (note_holds_none first history fills place item (note_stays first p.ended.history.seen history p.ended.fills.seen fills place within.0 within.1 note) there)
-  of_job p order end history fills place item began within came has there = absurd came
+late_by first history fills place interval base note there = note.late interval base (sym (same_at fills place note.item (Done interval base) note.there there))
 
 module _ {D S : Type 0} (device : Device D) (state : S → SourceState) where
-  pub fills_were_late : FillsWereLate device state
+  pub fills_were_late : (first closed : StoreView D) (g : Given) (orders : List (Order S)) (ends : List (JobEnd S)) → IsSessionOver device state first closed g orders ends → WereLate first closed
   fills_were_late first closed g orders ends over place interval base since there =
       let settled : IsPrefix over.last closed.fills = subst (IsPrefix over.last) (sym over.settled) (goes_settled device (record first { fills = over.last })).appends.fills in
       let kept : IsDoneAt over.last place interval base = settling_adds_none over.last place interval base (subst (λ (l : List Fill). IsDoneAt l place interval base) over.settled there) in
       let found = over.fills_placed place since (below over.last place (Done interval base) kept) in
       let pass = found.0 in
       let job = of_pass device state first g closed.history over.last over.passes orders ends over.each over.began over.within pass found.1 in
-      let later = prefix_trans pass.ended.fills.seen over.last closed.fills job.4.1 settled in
-      let note = of_filler device state first g pass job.0 job.1 closed.fills place interval base job.3.none.1 later job.2 found.2 there in
-      late_by first closed.history closed.fills place interval base (note_stays first pass.ended.history.seen closed.history pass.ended.fills.seen closed.fills place job.4.0 later note) there
-
-  pub rows_noted_are_of_batches : RowsNotedAreOfBatches device state
-  rows_noted_are_of_batches first closed g orders ends over place item since there =
-      let found = over.fills_placed place since (below over.last place item there) in
-      let job = of_pass device state first g closed.history over.last over.passes orders ends over.each over.began over.within found.0 found.1 in
-      of_job device state first g found.0 job.0 job.1 closed.history over.last place item job.3 job.4 job.2 found.2 there
+      let later = prefix_trans pass.ended.fills.seen over.last closed.fills job.within.1 settled in
+      let note = of_filler device state first g pass job.order job.end closed.fills place interval base job.began.none.1 later job.came found.2 there in
+      late_by first closed.history closed.fills place interval base (note_stays first pass.ended.history.seen closed.history pass.ended.fills.seen closed.fills place job.within.0 later note) there

@@ -4,5 +4,15 @@ pub mod Making
 pub mod Coming
 pub mod Closing
 pub mod Works
+pub mod Failing
 pub mod Loads
 pub mod Filled
+pub mod Adding
+pub mod Ordered
+pub mod ByKind
+pub mod Dealt
+pub mod Answered
+pub mod Counts
+pub mod Outcomes
+pub mod Came
+pub mod NotRun

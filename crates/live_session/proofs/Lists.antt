@@ -1,5 +1,6 @@
 -- Lists that grow at their ends, and their members.
-use Rattle.std.proofs.Common.{◌≡◌, zero, suc, List, [], ◌∷◌, ◌++◌, length, map, Contains, Result, Ok, Err, IfOk, IfErr, refl, sym, ap, ◌∙◌, subst, arith, append_assoc, append-nil, length-append}
+use Rattle.std.proofs.Common.{◌≡◌, ℕ, zero, suc, ◌<◌, ◌≤◌, List, [], ◌∷◌, ◌++◌, length, map, filter, Bool, true, false, cond, Contains, Some, Result, Ok, Err, IfOk, IfErr, refl, sym, ap, ◌∙◌, subst, arith, append_assoc, append-nil, length-append}
+use Rattle.std.specs.Prelude.{slice_get}
 use Rattle.std.specs.List.{AllByRecursion}
 use mathlib.Core.List.{IsPrefix}
 
@@ -89,3 +90,61 @@ taken_all {A = A} f now rest whole none before = sym (append-nil now) ∙ (ap (�
 pub either_way : {X E : Type 0} (result : Result X E) (P : X → Type 0) (Q : E → Type 0) (A : Type 0) → ((x : X) → P x → A) → ((e : E) → Q e → A) → IfOk result P → IfErr result Q → A
 either_way (Ok x) P Q A f g p q = f x p
 either_way (Err e) P Q A f g p q = g e q
+
+-- ---- places
+
+-- an item that stands in a list stands in each that goes on from it
+pub stands_on : {X : Type 0} (xs ys : List X) (place : ℕ) (x : X) → IsPrefix xs ys → slice_get xs place ≡ Some x → slice_get ys place ≡ Some x
+stands_on {X = X} xs ys place x (more, is) at = subst (λ (l : List X). slice_get l place ≡ Some x) is (longer xs place at)
+  where
+    longer : (xs : List X) (place : ℕ) → slice_get xs place ≡ Some x → slice_get (xs ++ more) place ≡ Some x
+    longer [] place at = absurd cc
+    longer (y ∷ xs) zero at = at
+    longer (y ∷ xs) (suc place) at = longer xs place at
+
+pub below : {X : Type 0} (xs : List X) (place : ℕ) (x : X) → slice_get xs place ≡ Some x → place < length xs
+below [] place x at = absurd cc
+below (y ∷ xs) zero x at = omega arith
+below (y ∷ xs) (suc place) x at = let deep = below xs place x at in omega (arith, deep)
+
+-- what stands in a list at a place where nothing of its beginning is stands behind that
+pub at_prefix : {X : Type 0} (xs ys : List X) (place : ℕ) (x : X) → IsPrefix xs ys → slice_get ys place ≡ Some x → (slice_get xs place ≡ Some x → ⊥) → length xs ≤ place
+at_prefix {X = X} xs ys place x (more, is) at not = go xs place (subst (λ (l : List X). slice_get l place ≡ Some x) (sym is) at) not
+  where
+    go : (xs : List X) (place : ℕ) → slice_get (xs ++ more) place ≡ Some x → (slice_get xs place ≡ Some x → ⊥) → length xs ≤ place
+    go [] place at not = omega arith
+    go (y ∷ xs) zero at not = absurd (not at)
+    go (y ∷ xs) (suc place) at not = let deep = go xs place at not in omega (arith, deep)
+
+pub same_at : {X : Type 0} (xs : List X) (place : ℕ) (a b : X) → slice_get xs place ≡ Some a → slice_get xs place ≡ Some b → b ≡ a
+same_at xs place a b here there = cc (here, there)
+
+-- one of a list stands at its place
+pub contains_at : {X : Type 0} (xs : List X) (x : X) → Contains xs x → (place : ℕ) × (slice_get xs place ≡ Some x)
+contains_at [] x (k, low, e) = absurd (omega (arith, low))
+contains_at (y ∷ xs) x (zero, low, e) = (0, ap Some e)
+contains_at (y ∷ xs) x (suc k, low, e) = let at = contains_at xs x (k, omega (arith, low), e) in (suc at.0, at.1)
+
+pub all_at : {X : Type 0} (P : X → Type 0) (xs : List X) (place : ℕ) (x : X) → AllByRecursion P xs → slice_get xs place ≡ Some x → P x
+all_at P [] place x all at = absurd cc
+all_at P (y ∷ xs) zero x all at = let same : y ≡ x = cc at in subst P same all.0
+all_at P (y ∷ xs) (suc place) x all at = all_at P xs place x all.1 at
+
+-- ---- parts
+
+pub all_append : {X : Type 0} (P : X → Type 0) (xs ys : List X) → AllByRecursion P xs → AllByRecursion P ys → AllByRecursion P (xs ++ ys)
+all_append P [] ys a b = b
+all_append P (x ∷ xs) ys a b = (a.0, all_append P xs ys a.1 b)
+
+pub all_weaker : {X : Type 0} (P Q : X → Type 0) (xs : List X) → ((x : X) → P x → Q x) → AllByRecursion P xs → AllByRecursion Q xs
+all_weaker P Q [] gives all = tt
+all_weaker P Q (x ∷ xs) gives all = (gives x all.0, all_weaker P Q xs gives all.1)
+
+-- all pass
+pub filter_all : {X : Type 0} (p : X → Bool) (xs : List X) → AllByRecursion (λ x. p x ≡ true) xs → filter p xs ≡ xs
+filter_all p [] all = refl
+filter_all {X = X} p (x ∷ xs) all = go (p x) all.0 (filter_all p xs all.1)
+  where
+    go : (b : Bool) → b ≡ true → filter p xs ≡ xs → cond b (x ∷ filter p xs) (filter p xs) ≡ x ∷ xs
+    go true e rest = ap (λ (l : List X). x ∷ l) rest
+    go false e rest = absurd (cc e)

@@ -1,43 +1,64 @@
--- What a session comes to.
-use Rattle.std.proofs.Common.{◌≡◌, ◌⊎◌, inl, inr, ℕ, ◌≤◌, ◌==◌, List, [], ◌∷◌, length, take, drop, Bool, true, false, Contains, Option, Some, None, Result, Ok, refl, sym, ap, ◌∙◌, subst, arith}
-use Rattle.std.specs.Prelude.{filter, slice_get, nat_lt, IfOk, IfSome, if◌then◌else◌}
+-- What came of each job, said of the archive at the session's end.
+use Rattle.std.proofs.Common.{◌≡◌, ◌⊎◌, inl, inr, ℕ, suc, ◌+◌, ◌≤◌, ◌==◌, List, [], ◌∷◌, ◌++◌, length, take, drop, Bool, true, false, Contains, Option, Some, None, Result, Ok, refl, sym, ap, ◌∙◌, subst, arith, eq-eqb, length-append}
+use Rattle.std.specs.Prelude.{filter, slice_get, nat_lt, IfOk, IfSome, IsSome, if◌then◌else◌}
 use Rattle.std.specs.List.{AllByRecursion}
 use Rattle.std.specs.Result.{result_err}
+use Rattle.std.proofs.Math.Seq.{drop-append_seam}
 use mathlib.Core.List.{IsPrefix}
 use Rattle.arch_disk.specs.Disk.{Device}
 use Rattle.arch_types.specs.declared.row.Row.{Row}
+use Rattle.arch_types.specs.History.{IsHistory}
 use Rattle.outer_traits.specs.States.{SourceState}
 use Rattle.refusals.specs.declared.refusal.Refusal.{Refusal}
+use Rattle.refusals.specs.declared.refusal.Refusal.TheVariants.{DiskFault, Limit, NeedsReopen, OutOfMemory}
+use Rattle.refusals.specs.declared.refusal.Which.{Which}
+use Rattle.refusals.specs.declared.refusal.Which.TheVariants.{DumpOctets, Records}
+use Rattle.refusals.specs.Limits.{limit_of}
+use Rattle.history_items.specs.declared.fills.Addition.{Addition}
+use Rattle.history_items.specs.declared.fills.Addition.TheVariants.{Rows}
 use Rattle.history_items.specs.declared.fills.Fill.{Fill}
+use Rattle.history_items.specs.declared.fills.Fill.TheVariants.{Fault}
 use Rattle.history_items.specs.declared.items.Item.{Item}
-use Rattle.history_items.specs.Items.{row_item, rows_in}
+use Rattle.history_items.specs.Fills.{pending_fault_of}
+use Rattle.history_items.specs.Items.{after_rows, items_of, rows_in}
+use Rattle.history_items.proofs.ItemLists.{rows_of_rows}
 use Rattle.jobs.specs.Ends.{EachDid}
-use Rattle.shared_history.specs.Turns.{ArePlaced, HasPut, LinkWork}
-use Rattle.shared_history.proofs.Own.{each_row_is_of_a_link, rows_of_a_link}
-use Rattle.shared_history.proofs.Sending.{sent_stays}
+use Rattle.shared_history.specs.Turns.{HasPut, LinkWork, RiseFrom, StandAt}
+use Rattle.shared_history.proofs.Sending.{one_link_ingests, sent_stays}
 use Rattle.space_packet.specs.declared.dump.Why.TheVariants as why
 use Rattle.space_packet.specs.Rest.{why_of}
 use Rattle.turn_cell.specs.Pass.{PassView}
+use Rattle.archive_history.specs.declared.row_limit.RowLimit.{RowLimit}
+use Rattle.archive_history.specs.declared.row_limit.RowLimit.TheVariants as of_rows
+use Rattle.archive_store.specs.declared.head.Head.{Head}
+use Rattle.archive_store.specs.Limits.{IsLimit, limit_of_history}
 use Rattle.archive_store.specs.StoreView.{StoreView}
 use Rattle.live_archive.specs.declared.held.HeldStore.{HeldStore}
+use Rattle.live_archive.specs.Answers.{WhereSound}
+use Rattle.live_archive.specs.GoesOn.{dones}
+use Rattle.live_archive.proofs.Going.{dones-append, prefix_length, prefix_trans}
 use Rattle.load_session.specs.declared.session.DumpSummary.{DumpSummary}
 use Rattle.load_session.specs.Receiving.{Receiving, receiving, rows_received}
-use Rattle.load_session.specs.Session.{IsSummary}
+use Rattle.load_session.specs.Session.{IsSummary, next_fresh_rows, next_rows}
 use Rattle.load_jobs.specs.declared.ending.LinkEnd.{LinkEnd}
-use Rattle.load_jobs.specs.declared.ending.LinkEnd.TheVariants.{Whole, Rest, Refused}
-use Rattle.load_jobs.specs.Ends.{IsEndOf, IsReadAndSent, IsReadingEnd, IsUnread, kind_of_rest}
-use Rattle.load_jobs.specs.Links.{IsDumpSent, IsSendingEnd, work_of}
+use Rattle.load_jobs.specs.declared.ending.LinkEnd.TheVariants.{Whole, Rest, Unread, TooLong, Refused}
+use Rattle.load_jobs.specs.Ends.{IsEndOf, IsLinkRun, IsReadAndSent, IsReadingEnd, IsUnread, kind_of_rest, refusal_of_end}
+use Rattle.load_jobs.specs.Links.{HasNoted, IsDumpSent, IsRecordedIn, IsSendingEnd, work_of}
+use Rattle.retrieval.specs.declared.found_asks.FoundAsk.{FoundAsk}
+use Rattle.live_asks.specs.declared.answered.AskAnswer.{AskAnswer}
 use Rattle.live_asks.specs.LiveAsks.{AreAnswered, every_fourth}
 use Rattle.live_asks.proofs.Each.{are_answered_later}
+use Rattle.live_fills.specs.Filler.{FillsAlone, IsFillNote, IsFillerRefusal, IsNoBatchFault, IsOfFill, IsRefusalOf}
 use Rattle.live_session.specs.declared.order.JobEnd.{JobEnd}
 use Rattle.live_session.specs.declared.order.JobEnd.TheVariants as Ended
 use Rattle.live_session.specs.declared.order.Order.{Order}
 use Rattle.live_session.specs.declared.order.Order.TheVariants as Ordered
-use Rattle.live_session.specs.Jobs.{EachCame, Given, JobPass, received_by}
-use Rattle.live_session.specs.Laws.{CameTo, IsLinkOf, IsSentInto, IsSentTo, ItemsAreOfLinks, JobsComeTo, LinksApart}
-use Rattle.live_session.specs.Session.{BeganWith, EndedWithin, IsSessionOver}
-use Rattle.live_session.proofs.Lists.{later_contains}
-use Rattle.live_session.proofs.Works.{all_put, placed_by, work_is_of_link, works_differ, works_of}
+use Rattle.live_session.specs.Jobs.{EachCame, Given, IsSourceRead, JobPass, received_by}
+use Rattle.live_session.specs.Links.{IsSentCause, IsSentInto, IsSentTo, LinkLoads}
+use Rattle.live_session.specs.Outcome.{IsOtherRefusal, IsSeenIn}
+use Rattle.live_session.specs.Session.{BeganWith, EndedWithin}
+use Rattle.live_session.proofs.Lists.{below, filter_all, later_contains, same_at, stands_on, whole_prefix}
+use Rattle.live_session.proofs.Works.{none_there, works_of}
 
 -- ---- a link
 
@@ -50,102 +71,254 @@ no_rest : (rest : List ℕ) → kind_of_rest (why_of rest) ≡ None → rest ≡
 no_rest [] none = refl
 no_rest (octet ∷ more) none = absurd (some_kind (nat_lt octet 32) none)
 
-module _ {D T : Type 0} (first : StoreView D) (dump : List ℕ) (r : Receiving) (put : List Row) (old new : PassView Item Fill T) (answer : Result DumpSummary Refusal) (sent : IsDumpSent first dump r put old new answer) where
-  -- where the sending was refused by nothing, all packets were sent, and this is what the dump had
-  all_sent : (summary : DumpSummary) → answer ≡ Ok summary → (sent.came_to.place ≡ length sent.came_to.packets) × IsSummary dump r sent.came_to summary
-  all_sent summary is = (
-    subst (IsSendingEnd first r sent.came_to new) (sent.answer_is ∙ ap result_err is) sent.cause,
-    subst (λ (a : Result DumpSummary Refusal). IfOk a (IsSummary dump r sent.came_to)) is sent.summary,
-  )
+-- so many stand behind the first places
+rises_within : {X : Type 0} (low : ℕ) (seen : List X) (places : List ℕ) (xs : List X) → low ≤ length seen → RiseFrom low places → StandAt seen places xs → low + length xs ≤ length seen
+rises_within low seen [] [] within rising stand = omega (arith, within)
+rises_within low seen [] (x ∷ xs) within rising stand = absurd stand
+rises_within low seen (p ∷ places) [] within rising stand = absurd stand
+rises_within low seen (p ∷ places) (x ∷ xs) within rising stand =
+    let here = below seen p x stand.0 in
+    let from = rising.0 in
+    let more = rises_within (suc p) seen places xs (omega (arith, here)) rising.1 stand.1 in
+    omega (arith, from, more)
 
-  sent_to : (end : LinkEnd) → IsEndOf answer end → IsSentTo dump r sent.came_to end
-  sent_to (Whole summary) (is, none) =
-      let all = all_sent summary is in
-      (all.0, no_rest sent.came_to.rest (ap kind_of_rest (sym all.1.why) ∙ none), all.1)
-  sent_to (Rest at kind) (summary, is, at_is, some) =
-      let all = all_sent summary is in
-      (all.0, all.1.rest ∙ ap (λ (n : ℕ). drop n dump) at_is, ap kind_of_rest (sym all.1.why) ∙ some)
-  sent_to (Refused refusal) is = sent.answer_is ∙ ap result_err is
-  sent_to other ended = absurd ended
+-- the limit of records is none of rows
+not_of_rows : (limit : RowLimit) → Records ≡ limit_of_history limit → ⊥
+not_of_rows of_rows.Rows e = absurd (cc e)
+not_of_rows of_rows.HistoryOctets e = absurd (cc e)
+not_of_rows of_rows.IntervalRows e = absurd (cc e)
 
-  -- said of a later history
-  sent_into : (history : List Item) (left : Option (List ℕ)) (end : LinkEnd) → IsPrefix new.history.seen history → IfSome left (λ octets. octets ≡ dump) → IsEndOf answer end → IsSentInto history r left put end
-  sent_into history left end later whole ended = record {
-    dump = dump;
-    whole = whole;
-    came_to = sent.came_to;
-    parts = sent.parts;
-    within = sent.within;
-    between = sent.between;
-    reached = subst (λ (l : List Item). IsPrefix l history) (sym sent.reached) later;
-    sent = sent_stays (rows_received r (take sent.came_to.place sent.came_to.packets)) put new.history.seen history later sent.sent;
-    sent_to = sent_to end ended;
-  }
+records_full : (exponent records : ℕ) (items : List Item) → IsLimit exponent Records records items → limit_of Records ≤ records
+records_full exponent records items (inl rows) = absurd (not_of_rows rows.0 rows.1)
+records_full exponent records items (inr full) = full.2
 
-module _ {D T : Type 0} (first : StoreView D) (r : Receiving) (left : Option (List ℕ)) (put : List Row) (old new : PassView Item Fill T) (end : LinkEnd) (history : List Item) (later : IsPrefix new.history.seen history) where
-  sent_or_unread : IsReadAndSent first r left put old new end ⊎ IsUnread first r left put old new end → IsSentInto history r left put end ⊎ (IsReadingEnd left end × (put ≡ []))
-  sent_or_unread (inl read) = inl (sent_into first read.dump r put old new read.answer read.sent history left end later read.whole read.ended)
-  sent_or_unread (inr unread) = inr (unread.reading, unread.nothing)
+module _ {D : Type 0} (first closed : StoreView D) (last : List Fill) (recorded : first.records + dones closed.fills ≤ closed.records + dones first.fills) (settled_on : IsPrefix last closed.fills) where
+  -- the log that a job found full has as many records or more
+  still_full : (seen : List Item) (fills : List Fill) → IsPrefix seen closed.history → IsPrefix fills last → limit_of Records + length first.history + dones first.fills ≤ first.records + length seen + dones fills
+      → limit_of Records + length first.history ≤ closed.records + length closed.history
+  still_full seen fills history noted full =
+      let longer = prefix_length seen closed.history history in
+      let more = prefix_trans fills last closed.fills noted settled_on in
+      let fewer : dones fills ≤ dones closed.fills = (let a = dones-append fills more.0 in let b = ap dones more.1 in omega (arith, a, b)) in
+      omega (arith, full, longer, fewer, recorded)
+
+module _ {D : Type 0} (first closed : StoreView D) (last : List Fill) (failed : Option Addition) (recorded : first.records + dones closed.fills ≤ closed.records + dones first.fills) (settled_on : IsPrefix last closed.fills)
+    (of_fault : (place count : ℕ) (addition : Addition) → slice_get last place ≡ Some (Fault count true addition) → failed ≡ Some addition)
+    (of_pending : (fills : List Fill) (n : ℕ) → IsPrefix fills last → pending_fault_of fills ≡ Some n → IsSome failed)
+    (pending_in : (fills : List Fill) (n : ℕ) → IsPrefix fills last → pending_fault_of fills ≡ Some n → pending_fault_of closed.fills ≡ Some n) where
+  module _ {T : Type 0} (dump : List ℕ) (r : Receiving) (put : List Row) (old new : PassView Item Fill T) (answer : Result DumpSummary Refusal) (sent : IsDumpSent first dump r put old new answer)
+      (later : IsPrefix new.history.seen closed.history) (noted_on : IsPrefix new.fills.seen last) where
+    -- where the sending was refused by nothing, all packets were sent, and this is what the dump had
+    all_sent : (summary : DumpSummary) → answer ≡ Ok summary → (sent.came_to.place ≡ length sent.came_to.packets) × IsSummary dump r sent.came_to summary
+    all_sent summary is = (
+      subst (IsSendingEnd first r sent.came_to new) (sent.answer_is ∙ ap result_err is) sent.cause,
+      subst (λ (a : Result DumpSummary Refusal). IfOk a (IsSummary dump r sent.came_to)) is sent.summary,
+    )
+
+    sent_to : (end : LinkEnd) → IsEndOf answer end → IsSentTo dump r sent.came_to end
+    sent_to (Whole summary) (is, none) =
+        let all = all_sent summary is in
+        (all.0, no_rest sent.came_to.rest (ap kind_of_rest (sym all.1.why) ∙ none), all.1)
+    sent_to (Rest at kind) (summary, is, at_is, some) =
+        let all = all_sent summary is in
+        (all.0, all.1.rest ∙ ap (λ (n : ℕ). drop n dump) at_is, ap kind_of_rest (sym all.1.why) ∙ some)
+    sent_to (Refused refusal) is = sent.answer_is ∙ ap result_err is
+    sent_to other ended = absurd ended
+
+    -- why it was refused
+    sent_cause : (refusal : Option Refusal) → IsSendingEnd first r sent.came_to new refusal → HasNoted r sent.came_to old new refusal → IsSentCause first.exponent failed r sent.came_to refusal
+    sent_cause None ended noted = tt
+    sent_cause (Some (Limit which number)) ended noted = (ended.0, (ended.1.0, ended.1.2))
+    sent_cause (Some (NeedsReopen faults)) ended noted = of_pending new.fills.seen faults noted_on ended
+    sent_cause (Some DiskFault) ended noted =
+        of_fault noted.0 noted.2.0 (Rows (next_fresh_rows r sent.came_to)) (stands_on new.fills.seen last noted.0 (Fault noted.2.0 true (Rows (next_fresh_rows r sent.came_to))) noted_on noted.2.1)
+    sent_cause (Some OutOfMemory) ended noted = tt
+    sent_cause (Some other) ended noted = absurd ended
+
+    -- what the store tells of that
+    seen_cause : (refusal : Refusal) → IsSendingEnd first r sent.came_to new (Some refusal) → IsSeenIn first closed refusal
+    seen_cause (Limit which number) ended = λ is. full (subst (λ (w : Which). IsLimit first.exponent w ended.1.0 (after_rows sent.came_to.reached (next_rows r sent.came_to))) is ended.1.2) ended.1.1
+      where
+        full : IsLimit first.exponent Records ended.1.0 (after_rows sent.came_to.reached (next_rows r sent.came_to)) → IsRecordedIn first new ended.1.0 → limit_of Records + length first.history ≤ closed.records + length closed.history
+        full limit within =
+            let most = records_full first.exponent ended.1.0 (after_rows sent.came_to.reached (next_rows r sent.came_to)) limit in
+            still_full first closed last recorded settled_on new.history.seen new.fills.seen later noted_on (omega (arith, most, within))
+    seen_cause (NeedsReopen faults) ended = pending_in new.fills.seen faults noted_on ended
+    seen_cause other ended = tt
+
+    seen_end : (end : LinkEnd) → IsEndOf answer end → IfSome (refusal_of_end end) (IsSeenIn first closed)
+    seen_end (Whole summary) ended = tt
+    seen_end (Rest at kind) ended = tt
+    seen_end (Refused refusal) is = seen_cause refusal (subst (IsSendingEnd first r sent.came_to new) (sent.answer_is ∙ ap result_err is) sent.cause)
+    seen_end other ended = absurd ended
+
+    -- ---- where each row that came is its own
+
+    module _ (low : length r.history ≤ length new.history.seen) (has_put : HasPut (length r.history) new.history.seen (work_of r.link put new)) (is_history : IsHistory (rows_in closed.history))
+        (own : filter (λ row. row.link == r.link) (rows_in (drop (length r.history) closed.history)) ≡ put) where
+      came_alone : (more : List Row) → closed.history ≡ r.history ++ items_of more → AllByRecursion (λ row. row.link ≡ r.link) more
+          → (sent.came_to.reached ≡ closed.history) × (closed.history ≡ after_rows r.history (rows_received r (take sent.came_to.place sent.came_to.packets)))
+      came_alone more grown all =
+          let behind : rows_in (drop (length r.history) closed.history) ≡ more = ap (λ (l : List Item). rows_in (drop (length r.history) l)) grown ∙ (ap rows_in (drop-append_seam r.history (items_of more)) ∙ rows_of_rows more) in
+          let same : put ≡ more = sym own ∙ (ap (filter (λ row. row.link == r.link)) behind ∙ filter_all (λ (row : Row). row.link == r.link) more (passes more all)) in
+          let whole : closed.history ≡ r.history ++ items_of put = grown ∙ ap (λ (l : List Row). r.history ++ items_of l) (sym same) in
+          let arrived = rows_received r (take sent.came_to.place sent.came_to.packets) in
+          let least = rises_within (length r.history) new.history.seen new.history.places (items_of put) low has_put.rising has_put.stand in
+          let most = prefix_length new.history.seen closed.history later in
+          let long = ap length whole in
+          let parts = length-append r.history (items_of put) in (
+            sent.reached ∙ sym (whole_prefix new.history.seen closed.history later (omega (arith, least, most, long, parts))),
+            one_link_ingests r.history closed.history arrived put is_history whole (sent_stays arrived put new.history.seen closed.history later sent.sent),
+          )
+        where
+          passes : (rows : List Row) → AllByRecursion (λ row. row.link ≡ r.link) rows → AllByRecursion (λ (row : Row). (row.link == r.link) ≡ true) rows
+          passes [] all = tt
+          passes (row ∷ rows) all = (eq-eqb row.link r.link all.0, passes rows all.1)
+
+      -- said of the whole history
+      pub sent_into : (left : Option (List ℕ)) (end : LinkEnd) → IfSome left (λ octets. octets ≡ dump) → length dump ≤ limit_of DumpOctets → IsEndOf answer end → IsSentInto first.exponent failed closed.history r left put end
+      sent_into left end whole short ended = record {
+        dump = dump;
+        whole = whole;
+        short = short;
+        came_to = sent.came_to;
+        parts = sent.parts;
+        within = sent.within;
+        between = sent.between;
+        reached = subst (λ (l : List Item). IsPrefix l closed.history) (sym sent.reached) later;
+        sent = sent_stays (rows_received r (take sent.came_to.place sent.came_to.packets)) put new.history.seen closed.history later sent.sent;
+        sent_to = sent_to end ended;
+        cause = sent_cause sent.came_to.refusal sent.cause sent.noted;
+        alone = came_alone;
+      }
+
+  module _ {T : Type 0} (r : Receiving) (left : Option (List ℕ)) (put : List Row) (old new : PassView Item Fill T) (end : LinkEnd) (later : IsPrefix new.history.seen closed.history) (noted_on : IsPrefix new.fills.seen last) where
+    module _ (low : length r.history ≤ length new.history.seen) (has_put : HasPut (length r.history) new.history.seen (work_of r.link put new)) (is_history : IsHistory (rows_in closed.history))
+        (own : filter (λ row. row.link == r.link) (rows_in (drop (length r.history) closed.history)) ≡ put) where
+      sent_or_unread : IsReadAndSent first r left put old new end ⊎ IsUnread first r left put old new end → IsSentInto first.exponent failed closed.history r left put end ⊎ (IsReadingEnd left end × (put ≡ []))
+      sent_or_unread (inl read) = inl (sent_into read.dump r put old new read.answer read.sent later noted_on low has_put is_history own left end read.whole read.short read.ended)
+      sent_or_unread (inr unread) = inr (unread.reading, unread.nothing)
+
+      pub link_loads : IsReadAndSent first r left put old new end ⊎ IsUnread first r left put old new end → LinkLoads first.exponent failed closed.history r left end
+      link_loads dump = record { put = put; own = own; dump = sent_or_unread dump }
+
+    unread_seen : (end : LinkEnd) → IsReadingEnd left end → IfSome (refusal_of_end end) (IsSeenIn first closed)
+    unread_seen Unread reading = tt
+    unread_seen TooLong reading = λ is. absurd (cc is)
+    unread_seen (Refused refusal) reading = subst (IsSeenIn first closed) (sym reading) tt
+    unread_seen other reading = absurd reading
+
+    pub link_seen : IsReadAndSent first r left put old new end ⊎ IsUnread first r left put old new end → IfSome (refusal_of_end end) (IsSeenIn first closed)
+    link_seen (inl read) = seen_end read.dump r put old new read.answer read.sent later noted_on end read.ended
+    link_seen (inr unread) = unread_seen end unread.reading
+
+  -- ---- a filler
+
+  module _ {T : Type 0} (old new : PassView Item Fill T) (alone : FillsAlone first old new) (none : old.fills.places ≡ []) (later : IsPrefix new.history.seen closed.history) (noted_on : IsPrefix new.fills.seen last) where
+    -- a fault at a place of its own is that of a fill
+    fill_fault : (place count : ℕ) (addition : Addition) → Contains new.fills.places place → slice_get new.fills.seen place ≡ Some (Fault count true addition) → IsOfFill addition
+    fill_fault place count addition has there = go (alone.noted place has)
+      where
+        go : Contains old.fills.places place ⊎ IsFillNote first new.history.seen new.fills.seen place → IsOfFill addition
+        go (inl before) = absurd (none_there old.fills.places place none before)
+        go (inr note) = subst IsNoBatchFault (sym (same_at new.fills.seen place note.item (Fault count true addition) note.there there)) note.of_fill
+
+    filler_cause : (refusal : Refusal) → IsFillerRefusal first new.fills.places new.history.seen new.fills.seen refusal → IsOtherRefusal failed (Some refusal)
+    filler_cause OutOfMemory is = tt
+    filler_cause (NeedsReopen faults) is = of_pending new.fills.seen faults noted_on is
+    filler_cause (Limit which number) is = (is.0, is.1)
+    filler_cause DiskFault is = (
+      is.addition,
+      of_fault is.place is.count is.addition (stands_on new.fills.seen last is.place (Fault is.count true is.addition) noted_on is.there),
+      fill_fault is.place is.count is.addition is.noted is.there,
+    )
+    filler_cause other is = absurd is
+
+    filler_seen : (refusal : Refusal) → IsFillerRefusal first new.fills.places new.history.seen new.fills.seen refusal → IsSeenIn first closed refusal
+    filler_seen (Limit which number) is = λ same. still_full first closed last recorded settled_on new.history.seen new.fills.seen later noted_on is.2
+    filler_seen (NeedsReopen faults) is = pending_in new.fills.seen faults noted_on is
+    filler_seen other is = tt
+
+    pub filler_came : (refusal : Option Refusal) → IfSome refusal (IsRefusalOf first new) → IsOtherRefusal failed refusal × IfSome refusal (IsSeenIn first closed)
+    filler_came None is = (tt, tt)
+    filler_came (Some refusal) is = (filler_cause refusal is, filler_seen refusal is)
+
+-- ---- a reader
+
+-- it is refused for want of memory alone
+reader_refusal : (Where : Type 0 → Type 0) (head : Head) (old seen : List Item) (asks : List FoundAsk) (answers : List AskAnswer) (refusal : Option Refusal) → AreAnswered Where head old seen asks answers refusal
+    → IfSome refusal (λ (e : Refusal). e ≡ OutOfMemory)
+reader_refusal Where head old seen [] [] None are = tt
+reader_refusal Where head old seen [] [] (Some refusal) are = absurd are
+reader_refusal Where head old seen [] (answer ∷ answers) refusal are = absurd are
+reader_refusal Where head old seen (ask ∷ asks) [] None are = absurd are
+reader_refusal Where head old seen (ask ∷ asks) [] (Some refusal) are = are
+reader_refusal Where head old seen (ask ∷ asks) (answer ∷ answers) refusal are = reader_refusal Where head are.0.over seen asks answers refusal are.1
+
+reader_came : {D : Type 0} (first closed : StoreView D) (failed : Option Addition) (refusal : Option Refusal) → IfSome refusal (λ (e : Refusal). e ≡ OutOfMemory) → IsOtherRefusal failed refusal × IfSome refusal (IsSeenIn first closed)
+reader_came first closed failed None is = (tt, tt)
+reader_came first closed failed (Some refusal) is = (subst (λ (e : Refusal). IsOtherRefusal failed (Some e)) (sym is) tt, subst (IsSeenIn first closed) (sym is) tt)
 
 -- ---- all jobs
 
-module _ {D S : Type 0} (device : Device D) (state : S → SourceState) (first closed : StoreView D) (g : Given) where
-  abbrev Owns : List LinkWork → Type 0
+module _ {D S : Type 0} (device : Device D) (state : S → SourceState) (first closed : StoreView D) (g : Given) (failed : Option Addition) where
+  -- this came of a job: of a link's rows and source, of a reader's answers, of what refused it, and what the store tells of that
+  abbrev pub CameTo : Order S → JobEnd S → Type 0
+  CameTo (Ordered.Link link source wake) (Ended.Link number back end) =
+      LinkLoads first.exponent failed closed.history (receiving g.head first.history g.route link g.moment) (state source).left end
+      × IsSourceRead end (state source) (state back) × IfSome (refusal_of_end end) (IsSeenIn first closed)
+  CameTo (Ordered.Reader before) (Ended.Reader answers refusal) =
+      AreAnswered (WhereSound device first) first.head first.history closed.history (every_fourth before g.asks) answers refusal
+      × IsOtherRefusal failed refusal × IfSome refusal (IsSeenIn first closed)
+  CameTo (Ordered.Filler wakes) (Ended.Filler refusal) = IsOtherRefusal failed refusal × IfSome refusal (IsSeenIn first closed)
+  CameTo order end = ⊥
+
+  abbrev pub Owns : List LinkWork → Type 0
   Owns works = (work : LinkWork) → Contains works work → filter (λ row. row.link == work.link) (rows_in (drop (length first.history) closed.history)) ≡ work.rows
 
-  each_comes : (fills : List Fill) (passes : List (JobPass (HeldStore D))) (orders : List (Order S)) (ends : List (JobEnd S)) (each : EachCame device state first g passes orders ends)
-      → AllByRecursion (BeganWith first) passes → AllByRecursion (EndedWithin closed.history fills) passes → Owns (works_of device state first g passes orders ends each)
-      → EachDid (CameTo device state first closed g) orders ends
-  each_comes fills [] [] [] each began within own = tt
-  each_comes fills [] [] (end ∷ ends) each began within own = absurd each
-  each_comes fills [] (order ∷ orders) ends each began within own = absurd each
-  each_comes fills (p ∷ passes) [] ends each began within own = absurd each
-  each_comes fills (p ∷ passes) (order ∷ orders) [] each began within own = absurd each
-  each_comes fills (p ∷ passes) (Ordered.Link link source wake ∷ orders) (Ended.Link number back end ∷ ends) each began within own =
-      let run = each.0.0 in
-      let work = work_of link run.put p.ended in
-      let left = (state source).left in (
-        record {
-          put = run.put;
-          own = own work (0, omega arith, refl);
-          dump = subst (λ (h : List Item). IsSentInto closed.history (receiving g.head h g.route link g.moment) left run.put end ⊎ (IsReadingEnd left end × (run.put ≡ []))) began.0.history
-              (sent_or_unread first (received_by g link p.began) left run.put p.began p.ended end closed.history within.0.0 run.dump);
-        },
-        each_comes fills passes orders ends each.1 began.1 within.1 (λ w inside. own w (later_contains work (works_of device state first g passes orders ends each.1) w inside)),
-      )
-  each_comes fills (p ∷ passes) (Ordered.Reader before ∷ orders) (Ended.Reader answers refusal ∷ ends) each began within own = (
-    are_answered_later device first first.history p.ended.history.seen closed.history (every_fourth before g.asks) answers refusal within.0.0
-        (subst (λ (h : List Item). AreAnswered device first h p.ended.history.seen (every_fourth before g.asks) answers refusal) began.0.history each.0.1),
-    each_comes fills passes orders ends each.1 began.1 within.1 own,
-  )
-  each_comes fills (p ∷ passes) (Ordered.Filler wakes ∷ orders) (Ended.Filler refusal ∷ ends) each began within own = (tt, each_comes fills passes orders ends each.1 began.1 within.1 own)
-  each_comes fills (p ∷ passes) (order ∷ orders) (end ∷ ends) each began within own = absurd each.0
+  module _ (last : List Fill) (recorded : first.records + dones closed.fills ≤ closed.records + dones first.fills) (settled_on : IsPrefix last closed.fills)
+      (of_fault : (place count : ℕ) (addition : Addition) → slice_get last place ≡ Some (Fault count true addition) → failed ≡ Some addition)
+      (of_pending : (fills : List Fill) (n : ℕ) → IsPrefix fills last → pending_fault_of fills ≡ Some n → IsSome failed)
+      (pending_in : (fills : List Fill) (n : ℕ) → IsPrefix fills last → pending_fault_of fills ≡ Some n → pending_fault_of closed.fills ≡ Some n) (is_history : IsHistory (rows_in closed.history)) where
+    link_came : (p : JobPass (HeldStore D)) (link : ℕ) (source : S) (end : LinkEnd) → BeganWith first p → EndedWithin closed.history last p → (run : IsLinkRun first (received_by g link p.began) (state source).left p.began p.ended end)
+        → filter (λ row. row.link == link) (rows_in (drop (length first.history) closed.history)) ≡ run.put
+        → LinkLoads first.exponent failed closed.history (receiving g.head first.history g.route link g.moment) (state source).left end × IfSome (refusal_of_end end) (IsSeenIn first closed)
+    link_came p link source end began within run own =
+        let left = (state source).left in
+        let r = received_by g link p.began in
+        let same = began.history in
+        let low = prefix_length p.began.history.seen p.ended.history.seen run.added.begins.0 in (
+          subst (λ (h : List Item). LinkLoads first.exponent failed closed.history (receiving g.head h g.route link g.moment) left end) same
+              (link_loads first closed last failed recorded settled_on of_fault of_pending pending_in r left run.put p.began p.ended end within.0 within.1 low run.added.has_put is_history
+              (subst (λ (h : List Item). filter (λ row. row.link == link) (rows_in (drop (length h) closed.history)) ≡ run.put) (sym same) own) run.dump),
+          link_seen first closed last failed recorded settled_on of_fault of_pending pending_in r left run.put p.began p.ended end within.0 within.1 run.dump,
+        )
 
-  module _ (orders : List (Order S)) (ends : List (JobEnd S)) (over : IsSessionOver device state first closed g orders ends) where
-    abbrev works : List LinkWork
-    works = works_of device state first g over.passes orders ends over.each
-
-    put_all : AllByRecursion (HasPut (length first.history) closed.history) works
-    put_all = all_put device state first g closed.history over.last over.passes orders ends over.each over.began over.within
-
-    placed_all : ArePlaced (length first.history) closed.history works
-    placed_all place low high = let p = over.placed place low high in placed_by device state first g over.passes orders ends over.each over.began p.0 p.1 place p.2
-
-    item_of_link : (place : ℕ) (item : Item) → length first.history ≤ place → slice_get closed.history place ≡ Some item → (row : Row) × (item ≡ row_item row) × ((order : Order S) × Contains orders order × IsLinkOf row.link order)
-    item_of_link place item low at =
-        let found = each_row_is_of_a_link (length first.history) closed.history works put_all placed_all place item low at in
-        let order = work_is_of_link device state first g over.passes orders ends over.each found.0 found.1 in
-        let row = found.2 in
-        (row.0, row.1, (order.0, order.1, subst (λ (n : ℕ). IsLinkOf n order.0) (sym row.2) order.2))
-
-    comes_to : LinksApart orders → EachDid (CameTo device state first closed g) orders ends
-    comes_to apart =
-        each_comes over.last over.passes orders ends over.each over.began over.within
-        (rows_of_a_link (length first.history) closed.history works put_all placed_all (works_differ device state first g over.passes orders ends over.each apart))
-
-module _ {D S : Type 0} (device : Device D) (state : S → SourceState) where
-  pub items_are_of_links : ItemsAreOfLinks device state
-  items_are_of_links first closed g orders ends over place item low at = item_of_link device state first closed g orders ends over place item low at
-
-  pub jobs_come_to : JobsComeTo device state
-  jobs_come_to first closed g orders ends over apart = comes_to device state first closed g orders ends over apart
+    pub each_comes : (passes : List (JobPass (HeldStore D))) (orders : List (Order S)) (ends : List (JobEnd S)) (each : EachCame device state first g passes orders ends)
+        → AllByRecursion (BeganWith first) passes → AllByRecursion (EndedWithin closed.history last) passes → Owns (works_of device state first g passes orders ends each)
+        → EachDid CameTo orders ends
+    each_comes [] [] [] each began within own = tt
+    each_comes [] [] (end ∷ ends) each began within own = absurd each
+    each_comes [] (order ∷ orders) ends each began within own = absurd each
+    each_comes (p ∷ passes) [] ends each began within own = absurd each
+    each_comes (p ∷ passes) (order ∷ orders) [] each began within own = absurd each
+    each_comes (p ∷ passes) (Ordered.Link link source wake ∷ orders) (Ended.Link number back end ∷ ends) each began within own =
+        let run = each.0.0 in
+        let work = work_of link run.put p.ended in
+        let came = link_came p link source end began.0 within.0 run (own work (0, omega arith, refl)) in (
+          (came.0, each.0.1, came.1),
+          each_comes passes orders ends each.1 began.1 within.1 (λ w inside. own w (later_contains work (works_of device state first g passes orders ends each.1) w inside)),
+        )
+    each_comes (p ∷ passes) (Ordered.Reader before ∷ orders) (Ended.Reader answers refusal ∷ ends) each began within own =
+        let asks = every_fourth before g.asks in
+        let are = are_answered_later (WhereSound device first) first.head first.history p.ended.history.seen closed.history asks answers refusal within.0.0
+        (subst (λ (h : List Item). AreAnswered (WhereSound device first) first.head h p.ended.history.seen asks answers refusal) began.0.history each.0.1) in
+        let why = reader_came first closed failed refusal (reader_refusal (WhereSound device first) first.head first.history closed.history asks answers refusal are) in (
+          (are, why.0, why.1),
+          each_comes passes orders ends each.1 began.1 within.1 own,
+        )
+    each_comes (p ∷ passes) (Ordered.Filler wakes ∷ orders) (Ended.Filler refusal ∷ ends) each began within own = (
+      filler_came first closed last failed recorded settled_on of_fault of_pending pending_in p.began p.ended each.0.0 began.0.none.1 within.0.0 within.0.1 refusal each.0.2,
+      each_comes passes orders ends each.1 began.1 within.1 own,
+    )
+    each_comes (p ∷ passes) (order ∷ orders) (end ∷ ends) each began within own = absurd each.0

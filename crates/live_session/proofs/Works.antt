@@ -14,9 +14,19 @@ use Rattle.live_session.specs.declared.order.JobEnd.TheVariants as Ended
 use Rattle.live_session.specs.declared.order.Order.{Order}
 use Rattle.live_session.specs.declared.order.Order.TheVariants as Ordered
 use Rattle.live_session.specs.Jobs.{EachCame, Given, JobPass}
-use Rattle.live_session.specs.Laws.{IsLinkOf, LinksApart}
 use Rattle.live_session.specs.Session.{BeganWith, EndedWithin}
 use Rattle.live_session.proofs.Lists.{later_contains}
+
+-- a job is the link of a number
+abbrev pub IsLinkOf : {S : Type 0} → ℕ → Order S → Type 0
+IsLinkOf number (Ordered.Link link source wake) = link ≡ number
+IsLinkOf number other = ⊥
+
+-- no two links have one number
+abbrev pub LinksApart : {S : Type 0} → List (Order S) → Type 0
+LinksApart [] = Unit {0}
+LinksApart (Ordered.Link link source wake ∷ orders) = AllByRecursion (λ order. IsLinkOf link order → ⊥) orders × LinksApart orders
+LinksApart (other ∷ orders) = LinksApart orders
 
 pub none_there : {X : Type 0} (xs : List X) (x : X) → xs ≡ [] → Contains xs x → ⊥
 none_there {X = X} xs x none has = let c : Contains [] x = subst (λ (l : List X). Contains l x) none has in absurd (let low = c.1 in omega (arith, low))

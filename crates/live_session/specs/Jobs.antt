@@ -3,6 +3,7 @@ use Rattle.std.specs.Prelude.{◌≡◌, ℕ, ℤ, ◌≤◌, List, [], ◌∷�
 use Rattle.arch_disk.specs.Disk.{Device}
 use Rattle.refusals.specs.declared.refusal.Which.TheVariants.{Links}
 use Rattle.refusals.specs.Limits.{limit_of}
+use Rattle.outer_traits.specs.Outside.{Stays}
 use Rattle.outer_traits.specs.States.{SourceState}
 use Rattle.text_forms.specs.ClockTime.{IsClockTime}
 use Rattle.field_codec.specs.declared.entry.Entry.TheVariants as entries
@@ -17,6 +18,8 @@ use Rattle.retrieval.specs.declared.found_asks.FoundAsk.{FoundAsk}
 use Rattle.retrieval.specs.FoundAsks.{AreFound}
 use Rattle.stream_graph.specs.declared.statement.RouteStatement.{RouteStatement}
 use Rattle.load_session.specs.Receiving.{IsRouteOver, Receiving, receiving}
+use Rattle.live_archive.specs.Answers.{WhereSound}
+use Rattle.load_jobs.specs.declared.ending.LinkEnd.{LinkEnd}
 use Rattle.load_jobs.specs.Ends.{IsLinkRun, IsReadCounted}
 use Rattle.load_jobs.specs.Links.{CanSend}
 use Rattle.live_asks.specs.LiveAsks.{AreAnswered, OnlySees, every_fourth}
@@ -66,6 +69,13 @@ MayDo first g pass (Ordered.Filler wakes) = Unit {0}
 
 -- ---- what comes of them
 
+-- This became of a link's source, by how the link ended: its count of faults has risen where a read failed, and else is
+-- as before; one that never fails has not.
+abbrev pub IsSourceRead : LinkEnd → SourceState → SourceState → Type 0
+IsSourceRead end old new =
+    (old.faults ≤ new.faults) × IsReadCounted end old.faults new.faults
+    × (old.never_fails → Stays old.faults new.faults)
+
 -- This came of a job, whose pass was so at its beginning and so at its end: a link's dump was read and sent, as its
 -- end tells; a reader's asks were answered, or those before one that wasn't; a filler filled alone, each of its works
 -- to the end, or there is why not.
@@ -73,10 +83,11 @@ abbrev pub CameOf : {D T S : Type 0} → Device D → (S → SourceState) → St
     → PassView Item Fill T → Order S → JobEnd S → Type 0
 CameOf device state first g old new (Ordered.Link link source wake) (Ended.Link number back end) =
     IsLinkRun first (received_by g link old) (state source).left old new end
-    × IsReadCounted end (state source).faults (state back).faults × (number ≡ link)
+    × IsSourceRead end (state source) (state back) × (number ≡ link)
 CameOf device state first g old new (Ordered.Reader before) (Ended.Reader answers refusal) =
     OnlySees old new
-    × AreAnswered device first old.history.seen new.history.seen (every_fourth before g.asks) answers refusal
+    × AreAnswered (WhereSound device first) first.head old.history.seen new.history.seen (every_fourth before g.asks)
+    answers refusal
 CameOf device state first g old new (Ordered.Filler wakes) (Ended.Filler refusal) =
     FillsAlone first old new × IfNone refusal (AreWorksDone device first old new)
     × IfSome refusal (IsRefusalOf first new)

@@ -1,3 +1,7 @@
 pub mod Jobs
+pub mod Orders
 pub mod Session
-pub mod Laws
+pub mod Links
+pub mod Parts
+pub mod Dealing
+pub mod Outcome

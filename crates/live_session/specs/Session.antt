@@ -9,6 +9,7 @@ use Rattle.history_items.specs.declared.fills.Fill.{Fill}
 use Rattle.history_items.specs.declared.items.Item.{Item}
 use Rattle.history_items.specs.Fills.{in_flight}
 use Rattle.interval_fills.specs.Steps.{all_freed}
+use Rattle.store_fills.specs.Faults.{IsDone}
 use Rattle.turn_cell.specs.Pass.{PassView}
 use Rattle.turn_passes.specs.Passes.{HasSeenAsMuch, Joins}
 use Rattle.archive_store.specs.StoreView.{StoreView}
@@ -61,8 +62,9 @@ pub record IsSessionOver {D S : Type 0} (device : Device D) (state : S → Sourc
   pub fills_placed : (place : ℕ) → length first.fills ≤ place → place < length last →
       (pass : JobPass (HeldStore D)) × Contains passes pass × Contains pass.ended.fills.places place
 
--- nothing came to the archive; its flights have ended, or none has
+-- Nothing came to the archive; its flights have ended, or none has. So none is in flight where each item was a fill.
 pub record NothingCame {D : Type 0} (device : Device D) (first now : StoreView D) : Type 0 where
   pub goes : GoesOn device first now
   pub history : now.history ≡ first.history
   pub fills : (now.fills ≡ first.fills) ⊎ (now.fills ≡ all_freed first.fills)
+  pub idle : AllByRecursion IsDone first.fills → (interval : Interval) → in_flight interval now.fills ≡ None

@@ -27,5 +27,5 @@ returns-in-Err-clause-not_begun g c =
     let s = c.args.setting.now in (
       c.in-Err.ensures.back.0,
       untouched g.D.Disk.device g.S.Source.state c.args.live.cell.first.store c.close-store.result (given s.head.now s.graph.now s.moment s.asks.now) c.args.pass c.run_jobs-result.new.pass
-          c.requires.lists.0 c.requires.lists.1 c.close-store.ensures.value c.close-store.ensures.closed c.in-Err.ensures.back.1,
+          c.requires.lists.0 c.requires.lists.1 c.close-store.ensures.value c.close-store.ensures.closed c.in-Err.ensures.back.1 c.close-store.ensures.idle,
     )

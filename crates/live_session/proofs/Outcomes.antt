@@ -1,0 +1,330 @@
+-- What the jobs of a load come to.
+use Rattle.std.proofs.Common.{◌≡◌, ℕ, suc, ◌+◌, ◌<◌, ◌≤◌, List, [], ◌∷◌, ◌++◌, length, drop, min, true, Contains, Option, Some, None, refl, sym, ap, ◌∙◌, subst, arith}
+use Rattle.std.specs.Prelude.{slice_get, option_map, IfSome}
+use Rattle.std.specs.List.{AllByRecursion, filter_map}
+use Rattle.std.proofs.Math.Seq.{drop-append_seam}
+use Rattle.std.proofs.lemmas.List.{length-map}
+use Rattle.std.proofs.lemmas.Option.{slice_get-map}
+use mathlib.Core.List.{IsPrefix}
+use Rattle.arch_disk.specs.Disk.{Device}
+use Rattle.arch_types.specs.declared.row.Row.{Row}
+use Rattle.arch_types.specs.History.{IsHistory}
+use Rattle.outer_traits.specs.States.{SourceState}
+use Rattle.refusals.specs.declared.refusal.Refusal.{Refusal}
+use Rattle.history_items.specs.declared.fills.Addition.{Addition}
+use Rattle.history_items.specs.declared.fills.Addition.TheVariants as additions
+use Rattle.history_items.specs.declared.fills.Addition.TheVariants.{Rows}
+use Rattle.history_items.specs.declared.fills.Fill.TheVariants.{Fault}
+use Rattle.history_items.specs.declared.items.Item.{Item}
+use Rattle.history_items.specs.declared.items.Item.TheVariants as items
+use Rattle.history_items.specs.Items.{after_rows, items_of, row_item, rows_in}
+use Rattle.history_items.specs.Outcomes.{fresh_of}
+use Rattle.shared_history.specs.Turns.{ArePlaced, HasPut, LinkWork}
+use Rattle.shared_history.proofs.Own.{each_row_is_of_a_link, get_drop, rows_of_a_link}
+use Rattle.shared_history.proofs.Sending.{fresh_stays}
+use Rattle.store_fills.specs.Faults.{IsDone, faults_in}
+use Rattle.store_fills.proofs.Faults.{faults_in-done}
+use Rattle.archive_store.specs.declared.head.Head.{Head}
+use Rattle.archive_store.specs.StoreView.{StoreView}
+use Rattle.live_archive.specs.declared.held.HeldStore.{HeldStore}
+use Rattle.live_archive.specs.Answers.{WhereSound}
+use Rattle.live_archive.specs.GoesOn.{AreNewTo}
+use Rattle.live_fills.specs.Filler.{IsOfFill}
+use Rattle.load_session.specs.Receiving.{receiving}
+use Rattle.load_session.specs.Session.{SessionResult, next_fresh_rows, next_rows}
+use Rattle.load_jobs.specs.declared.ending.LinkEnd.{LinkEnd}
+use Rattle.load_jobs.specs.Ends.{refusal_of_end}
+use Rattle.live_asks.specs.declared.answered.AskAnswer.{AskAnswer}
+use Rattle.live_asks.specs.LiveAsks.{AreAnswered, every_fourth}
+use Rattle.live_session.specs.declared.order.JobEnd.{JobEnd}
+use Rattle.live_session.specs.declared.order.JobEnd.TheVariants as Ended
+use Rattle.live_session.specs.declared.order.Order.{Order}
+use Rattle.live_session.specs.declared.order.Order.TheVariants as Ordered
+use Rattle.live_session.specs.Dealing.{AreEvery, HaveAsMany, answers_at}
+use Rattle.live_session.specs.Jobs.{CameOf, Given, JobPass, received_by}
+use Rattle.live_session.specs.Links.{IsBatchInHand}
+use Rattle.live_session.specs.Orders.{AreOrdersFor}
+use Rattle.live_session.specs.Outcome.{HasFailed, HasLoaded, IsFailedAddition, IsJobsOutcome, IsOtherRefusal, IsSeenIn, JobsOutcome, lefts_of, told_of, told_of_link, told_of_others}
+use Rattle.live_session.specs.Parts.{answers_in, end_in, other_in}
+use Rattle.live_session.specs.Session.{BeganWith, EndedWithin, IsSessionOver}
+use Rattle.live_session.proofs.Answered.{all_answered, have_as_many}
+use Rattle.live_session.proofs.Failing.{failed_addition, fault_there, of_fault, of_pending, pending_in, settled_on}
+use Rattle.live_session.proofs.Filled.{IsBatchOf, IsJobOf, fault_refuses, filler_fault, fills_were_late, link_batch, of_pass, refusal_of_job}
+use Rattle.live_session.proofs.ByKind.{AreEnds, ends_of_load}
+use Rattle.live_session.proofs.Lists.{all_at, all_weaker, below, contains_at}
+use Rattle.live_session.proofs.Loads.{each_comes}
+use Rattle.live_session.proofs.Ordered.{link_there, links_apart}
+use Rattle.live_session.proofs.Works.{IsLinkOf, all_put, none_there, placed_by, work_is_of_link, works_differ, works_of}
+
+-- ---- rows that came
+
+-- items that are rows, of each of which this is so
+rows_all : (P : Row → Type 0) (xs : List Item) → ((i : ℕ) (item : Item) → slice_get xs i ≡ Some item → (row : Row) × (item ≡ row_item row) × P row) → (xs ≡ items_of (rows_in xs)) × AllByRecursion P (rows_in xs)
+rows_all P [] each = (refl, tt)
+rows_all P (items.Mdb database ∷ xs) each = let is = (each 0 (items.Mdb database) refl).1 in absurd (cc is)
+rows_all P (items.Row row ∷ xs) each =
+    let here = each 0 (items.Row row) refl in
+    let is = here.1 in
+    let same : here.0 ≡ row = cc is in
+    let rest = rows_all P xs (λ i item at. each (suc i) item at) in
+    (ap (λ (l : List Item). items.Row row ∷ l) rest.0, (subst P same here.2, rest.1))
+
+-- ---- what is told
+
+others_unrefused : (others : List (Option Refusal)) → told_of_others others ≡ None → AllByRecursion (λ refusal. refusal ≡ None) others
+others_unrefused [] none = tt
+others_unrefused (None ∷ others) none = (refl, others_unrefused others none)
+others_unrefused (Some refusal ∷ others) none = absurd (cc none)
+
+-- nothing is told where no job was refused
+pub unrefused : (link : ℕ) (ends : List LinkEnd) (others : List (Option Refusal)) → told_of link ends others ≡ None
+    → AllByRecursion (λ end. refusal_of_end end ≡ None) ends × AllByRecursion (λ refusal. refusal ≡ None) others
+unrefused link [] others none = (tt, others_unrefused others none)
+unrefused link (end ∷ ends) others none = go (refusal_of_end end) refl (λ later. unrefused (suc link) ends others later) none
+  where
+    go : (o : Option Refusal) → refusal_of_end end ≡ o
+        → (told_of (suc link) ends others ≡ None → AllByRecursion (λ end. refusal_of_end end ≡ None) ends × AllByRecursion (λ refusal. refusal ≡ None) others) → told_of_link link end o (told_of (suc link) ends others) ≡ None
+        → AllByRecursion (λ end. refusal_of_end end ≡ None) (end ∷ ends) × AllByRecursion (λ refusal. refusal ≡ None) others
+    go None is later none = let rest = later none in ((is, rest.0), rest.1)
+    go (Some refusal) is later none = absurd (cc none)
+
+-- what is known of each refusal is of the one that is told
+others_told : (P : Refusal → Type 0) (others : List (Option Refusal)) → AllByRecursion (λ refusal. IfSome refusal P) others → IfSome (told_of_others others) (λ t. P t.refusal)
+others_told P [] all = tt
+others_told P (None ∷ others) all = others_told P others all.1
+others_told P (Some refusal ∷ others) all = all.0
+
+told_known : (P : Refusal → Type 0) (link : ℕ) (ends : List LinkEnd) (others : List (Option Refusal)) → AllByRecursion (λ end. IfSome (refusal_of_end end) P) ends → AllByRecursion (λ refusal. IfSome refusal P) others
+    → IfSome (told_of link ends others) (λ t. P t.refusal)
+told_known P link [] others all more = others_told P others more
+told_known P link (end ∷ ends) others all more = go (refusal_of_end end) all.0 (told_known P (suc link) ends others all.1 more)
+  where
+    go : (o : Option Refusal) → IfSome o P → IfSome (told_of (suc link) ends others) (λ t. P t.refusal) → IfSome (told_of_link link end o (told_of (suc link) ends others)) (λ t. P t.refusal)
+    go None p rest = rest
+    go (Some refusal) p rest = p
+
+-- of each job, by its parts
+jobs_unrefused : {S : Type 0} (ends : List (JobEnd S)) → AllByRecursion (λ end. refusal_of_end end ≡ None) (filter_map end_in ends) → AllByRecursion (λ refusal. refusal ≡ None) (filter_map other_in ends)
+    → AllByRecursion (λ end. refusal_of_job end ≡ None) ends
+jobs_unrefused [] links others = tt
+jobs_unrefused (Ended.Link number back end ∷ ends) links others = (links.0, jobs_unrefused ends links.1 others)
+jobs_unrefused (Ended.Reader answers refusal ∷ ends) links others = (others.0, jobs_unrefused ends links others.1)
+jobs_unrefused (Ended.Filler refusal ∷ ends) links others = (others.0, jobs_unrefused ends links others.1)
+
+-- ---- a write that failed
+
+of_fill_failed : (low reached : List Item) (g : Given) (link : ℕ) (lefts : List (Option (List ℕ))) (addition : Addition) → IsOfFill addition → IsFailedAddition low reached g link lefts addition
+of_fill_failed low reached g link lefts (Rows rows) is = absurd is
+of_fill_failed low reached g link lefts additions.Nothing is = is
+of_fill_failed low reached g link lefts (additions.Fill interval base) is = is
+
+module _ {D S : Type 0} (device : Device D) (state : S → SourceState) (first closed : StoreView D) (g : Given) (orders : List (Order S)) (ends : List (JobEnd S)) (over : IsSessionOver device state first closed g orders ends)
+    (link : ℕ) (sources : List S) (readers fillers : ℕ) (are : AreOrdersFor link sources readers fillers orders) (done : AllByRecursion IsDone first.fills) (is_history : IsHistory (rows_in closed.history)) where
+  none_failed : faults_in first.fills ≡ []
+  none_failed = faults_in-done first.fills done
+
+  on : IsPrefix over.last closed.fills
+  on = settled_on device first closed over.last none_failed over.goes over.settled
+
+  -- what a failed write was to add
+  pub what_failed : (failed : Option Addition) × HasFailed device first closed failed
+  what_failed = failed_addition device first closed over.last none_failed over.goes over.settled
+
+  abbrev works : List LinkWork
+  works = works_of device state first g over.passes orders ends over.each
+
+  put_all : AllByRecursion (HasPut (length first.history) closed.history) works
+  put_all = all_put device state first g closed.history over.last over.passes orders ends over.each over.began over.within
+
+  placed_all : ArePlaced (length first.history) closed.history works
+  placed_all place low high = let p = over.placed place low high in placed_by device state first g over.passes orders ends over.each over.began p.0 p.1 place p.2
+
+  -- ---- the rows
+
+  abbrev OfLinks : Row → Type 0
+  OfLinks row = (link ≤ row.link) × (row.link < link + length (lefts_of state sources))
+
+  of_order : (number : ℕ) (order : Order S) → Contains orders order → IsLinkOf number order → (link ≤ number) × (number < link + length (lefts_of state sources))
+  of_order number order inside is =
+      let at = contains_at orders order inside in
+      let there = link_there link sources readers fillers orders are at.0 number order at.1 is in
+      let low = below sources at.0 there.source there.there in
+      let many = length-map sources (λ (source : S). (state source).left) in
+      let numbered = there.number_is in
+      (omega (arith, numbered), omega (arith, numbered, low, many))
+
+  came_row : (i : ℕ) (item : Item) → slice_get (drop (length first.history) closed.history) i ≡ Some item → (row : Row) × (item ≡ row_item row) × OfLinks row
+  came_row i item at =
+      let found = each_row_is_of_a_link (length first.history) closed.history works put_all placed_all (length first.history + i) item (omega arith) (sym (get_drop (length first.history) closed.history i) ∙ at) in
+      let order = work_is_of_link device state first g over.passes orders ends over.each found.0 found.1 in
+      let row = found.2 in
+      (row.0, row.1, of_order row.0.link order.0 order.1 (subst (λ (n : ℕ). IsLinkOf n order.0) (sym row.2) order.2))
+
+  abbrev pub came_rows : List Row
+  came_rows = rows_in (drop (length first.history) closed.history)
+
+  pub all_of_links : AllByRecursion OfLinks came_rows
+  all_of_links = (rows_all OfLinks (drop (length first.history) closed.history) came_row).1
+
+  pub grown : closed.history ≡ first.history ++ items_of came_rows
+  grown =
+      let begins = over.goes.appends.history in
+      let rest : drop (length first.history) closed.history ≡ begins.0 = ap (drop (length first.history)) (sym begins.1) ∙ drop-append_seam first.history begins.0 in
+      sym begins.1 ∙ ap (λ (l : List Item). first.history ++ l) (sym rest ∙ (rows_all OfLinks (drop (length first.history) closed.history) came_row).0)
+
+  module _ (failed : Option Addition) (has : HasFailed device first closed failed) where
+    abbrev lefts : List (Option (List ℕ))
+    lefts = lefts_of state sources
+
+    -- ---- what came of each job
+
+    pub parts : AreEnds device state first closed g failed link sources readers ends
+    parts =
+        ends_of_load device state first closed g failed link sources readers fillers orders ends are
+        (each_comes device state first closed g failed over.last over.goes.recorded on
+        (of_fault device first closed over.last none_failed over.goes over.settled failed has) (of_pending device first closed over.last none_failed over.goes over.settled failed has)
+        (pending_in device first closed over.last none_failed over.goes over.settled) is_history over.passes orders ends over.each over.began over.within
+        (rows_of_a_link (length first.history) closed.history works put_all placed_all (works_differ device state first g over.passes orders ends over.each (links_apart link sources readers fillers orders are))))
+
+    -- ---- a write that failed
+
+    -- the job whose pass has its fault
+    record IsAtFault (addition : Addition) : Type 0 where
+      pub place : ℕ
+      pub count : ℕ
+      pub there : slice_get over.last place ≡ Some (Fault count true addition)
+      pub pass : JobPass (HeldStore D)
+      pub has_place : Contains pass.ended.fills.places place
+      pub job : IsJobOf device state first g closed.history over.last orders ends pass
+
+    at_fault : (addition : Addition) → failed ≡ Some addition → IsAtFault addition
+    at_fault addition is =
+        let at = fault_there device first closed over.last none_failed over.goes over.settled failed has addition is in
+        let found = over.fills_placed at.0 at.2 (below over.last at.0 (Fault at.1 true addition) at.3) in
+        record {
+          place = at.0;
+          count = at.1;
+          there = at.3;
+          pass = found.0;
+          has_place = found.2;
+          job = of_pass device state first g closed.history over.last over.passes orders ends over.each over.began over.within found.0 found.1;
+        }
+
+    pub told_so : told_of link (filter_map end_in ends) (filter_map other_in ends) ≡ None → failed ≡ None
+    told_so none = go failed refl
+      where
+        go : (o : Option Addition) → failed ≡ o → failed ≡ None
+        go None is = is
+        go (Some addition) is =
+            let at = at_fault addition is in
+            let job = at.job in
+            let calm = unrefused link (filter_map end_in ends) (filter_map other_in ends) none in
+            absurd (fault_refuses device state first g at.pass closed.history over.last job.began job.within at.place at.count addition at.has_place at.there job.order job.end job.came
+            (all_at (λ end. refusal_of_job end ≡ None) ends job.number job.end (jobs_unrefused ends calm.0 calm.1) job.ended))
+
+    -- its rows are all new to the history
+    still_new : (addition : Addition) → failed ≡ Some addition → AreNewTo closed.history addition
+    still_new addition is = go failed has is
+      where
+        go : (o : Option Addition) → HasFailed device first closed o → o ≡ Some addition → AreNewTo closed.history addition
+        go None unfailed e = absurd (cc e)
+        go (Some a) (one, same) e = let b : a ≡ addition = cc e in subst (AreNewTo closed.history) (same ∙ b) one.new_to
+
+    -- the rows of a batch, whichever history the link began with
+    abbrev batch_rows_of : List Item → ℕ → SessionResult → List Row
+    batch_rows_of began n s = next_rows (receiving g.head began g.route n g.moment) s
+
+    batch_in_hand : (addition : Addition) → AreNewTo closed.history addition → (began seen : List Item) (n k count : ℕ) (source : S) → IsPrefix seen closed.history → began ≡ first.history
+        → n ≡ link + k → slice_get sources k ≡ Some source → IsBatchOf (receiving g.head began g.route n g.moment) (state source).left seen (Fault count true addition)
+        → IsFailedAddition first.history closed.history g link lefts addition
+    batch_in_hand addition new began seen n k count source within same numbered there batch =
+        let s = batch.came_to in
+        let rows = next_fresh_rows (receiving g.head began g.route n g.moment) s in
+        let is : addition ≡ Rows rows = (let e = batch.is in cc e) in
+        let new_rows : after_rows closed.history rows ≡ closed.history ++ items_of rows = subst (AreNewTo closed.history) is new in
+        let reached : IsPrefix s.reached closed.history = subst (λ (l : List Item). IsPrefix l closed.history) (sym batch.reached) within in
+        let stays = fresh_stays s.reached closed.history (batch_rows_of began n s) reached new_rows in
+        let moved : fresh_of closed.history (batch_rows_of began n s) ≡ fresh_of closed.history (batch_rows_of first.history (link + k) s) =
+        ap (λ (h : List Item). fresh_of closed.history (batch_rows_of h n s)) same ∙ ap (λ (m : ℕ). fresh_of closed.history (batch_rows_of first.history m s)) numbered in
+        let hand : IsBatchInHand first.history closed.history g link lefts rows = record {
+          place = k;
+          left = (state source).left;
+          of_link = slice_get-map (λ (x : S). (state x).left) sources k ∙ ap (option_map (λ (x : S). (state x).left)) there;
+          dump = batch.dump;
+          whole = batch.whole;
+          short = batch.short;
+          came_to = record s { reached = closed.history };
+          parts = batch.parts;
+          between = batch.between;
+          reached_is = refl;
+          rows_are = sym stays ∙ moved;
+        } in
+        subst (IsFailedAddition first.history closed.history g link lefts) (sym is) hand
+
+    failed_by : (addition : Addition) → AreNewTo closed.history addition → (p : JobPass (HeldStore D)) (place count k : ℕ) → Contains p.ended.fills.places place → slice_get over.last place ≡ Some (Fault count true addition)
+        → BeganWith first p → EndedWithin closed.history over.last p → (order : Order S) (end : JobEnd S) → slice_get orders k ≡ Some order → CameOf device state first g p.began p.ended order end
+        → IsFailedAddition first.history closed.history g link lefts addition
+    failed_by addition new p place count k has_place there began within (Ordered.Link n source wake) (Ended.Link number back end) ordered came =
+        let batch = link_batch (received_by g n p.began) (state source).left p.began p.ended over.last place (Fault count true addition) within.1 began.none.1 has_place there first end came.0.put came.0.dump in
+        let linked = link_there link sources readers fillers orders are k n (Ordered.Link n source wake) ordered refl in
+        let of_source : source ≡ linked.source = linked.of_order in
+        batch_in_hand addition new p.began.history.seen p.ended.history.seen n k count linked.source within.0 began.history linked.number_is linked.there
+        (subst (λ (x : S). IsBatchOf (receiving g.head p.began.history.seen g.route n g.moment) (state x).left p.ended.history.seen (Fault count true addition)) of_source batch)
+    failed_by addition new p place count k has_place there began within (Ordered.Reader before) (Ended.Reader answers refusal) ordered came =
+        absurd (none_there p.ended.fills.places place (came.0.put_none.1 ∙ began.none.1) has_place)
+    failed_by addition new p place count k has_place there began within (Ordered.Filler wakes) (Ended.Filler refusal) ordered came =
+        of_fill_failed first.history closed.history g link lefts addition (filler_fault device state first g p closed.history over.last began within place count addition has_place there came.0)
+    failed_by addition new p place count k has_place there began within order end ordered came = absurd came
+
+    pub failed_so : IfSome failed (IsFailedAddition first.history closed.history g link lefts)
+    failed_so = go failed refl
+      where
+        go : (o : Option Addition) → failed ≡ o → IfSome o (IsFailedAddition first.history closed.history g link lefts)
+        go None is = tt
+        go (Some addition) is =
+            let at = at_fault addition is in
+            let job = at.job in
+            failed_by addition (still_new addition is) at.pass at.place at.count job.number at.has_place at.there job.began job.within job.order job.end job.ordered job.came
+
+    -- ---- the whole
+
+    module _ (of_archive : g.head ≡ first.head) (many_readers : readers ≡ min 4 (length g.asks)) (answers : List AskAnswer)
+        (dealt : HaveAsMany g.asks (answers_at 0 (filter_map answers_in ends)) (answers_at 1 (filter_map answers_in ends)) (answers_at 2 (filter_map answers_in ends)) (answers_at 3 (filter_map answers_in ends))
+        → AreEvery answers (answers_at 0 (filter_map answers_in ends)) (answers_at 1 (filter_map answers_in ends)) (answers_at 2 (filter_map answers_in ends)) (answers_at 3 (filter_map answers_in ends))) where
+      abbrev pub came_to : JobsOutcome
+      came_to = record { reached = closed.history; ends = filter_map end_in ends; answers = answers; others = filter_map other_in ends; failed = failed }
+
+      answered : told_of link came_to.ends came_to.others ≡ None → (before : ℕ) → before < 4
+          → AreAnswered (WhereSound device first) g.head first.history closed.history (every_fourth before g.asks) (every_fourth before answers) None
+      answered none =
+          let calm = (unrefused link came_to.ends came_to.others none).1 in
+          let lists = filter_map answers_in ends in
+          let each : (k : ℕ) → k < min 4 (length g.asks) → AreAnswered (WhereSound device first) g.head first.history closed.history (every_fourth k g.asks) (answers_at k lists) None =
+          λ k low. subst (λ (h : Head). AreAnswered (WhereSound device first) h first.history closed.history (every_fourth k g.asks) (answers_at k lists) None) (sym of_archive)
+          (parts.answered calm k (omega (arith, low, many_readers))) in
+          let many : length lists ≡ min 4 (length g.asks) = parts.many ∙ many_readers in
+          all_answered (WhereSound device first) g.head first.history closed.history g.asks lists many each answers
+          (dealt (have_as_many (WhereSound device first) g.head first.history closed.history g.asks lists many each))
+
+      pub outcome : IsJobsOutcome (WhereSound device first) first.exponent first.history g link lefts came_to
+      outcome = record {
+        more = came_rows;
+        grown = grown;
+        of_links = all_of_links;
+        links = parts.loaded;
+        answered = answered;
+        others = all_weaker (λ refusal. IsOtherRefusal failed refusal × IfSome refusal (IsSeenIn first closed)) (IsOtherRefusal failed) came_to.others (λ refusal said. said.0) parts.said;
+        told_so = told_so;
+        failed = failed_so;
+      }
+
+      pub loaded : HasLoaded device first closed link came_to
+      loaded = record {
+        goes = over.goes;
+        idle = over.idle;
+        late = fills_were_late device state first closed g orders ends over;
+        history = refl;
+        failed = has;
+        refused = told_known (IsSeenIn first closed) link came_to.ends came_to.others parts.seen
+            (all_weaker (λ refusal. IsOtherRefusal failed refusal × IfSome refusal (IsSeenIn first closed)) (λ refusal. IfSome refusal (IsSeenIn first closed)) came_to.others (λ refusal said. said.1) parts.said);
+      }

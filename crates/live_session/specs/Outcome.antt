@@ -1,0 +1,168 @@
+-- What the jobs of a load come to.
+use Rattle.std.specs.Prelude.{◌≡◌, ℕ, suc, ◌+◌, ◌^◌, ◌<◌, ◌≤◌, List, [], ◌∷◌, ◌++◌, length, map, Option, Some, None, IfSome, IsSome, if◌then◌else◌}
+use Rattle.std.specs.List.{AllByRecursion}
+use Rattle.arch_disk.specs.Disk.{Device}
+use Rattle.arch_types.specs.declared.row.Row.{Row}
+use Rattle.intervals.specs.declared.interval.Interval.{Interval}
+use Rattle.outer_traits.specs.States.{SourceState}
+use Rattle.refusals.specs.declared.refusal.Refusal.{Refusal}
+use Rattle.refusals.specs.declared.refusal.Refusal.TheVariants.{DiskFault, Limit, NeedsReopen, OutOfMemory}
+use Rattle.refusals.specs.declared.refusal.Which.TheVariants.{Records}
+use Rattle.refusals.specs.Limits.{limit_of}
+use Rattle.history_items.specs.declared.fills.Addition.{Addition}
+use Rattle.history_items.specs.declared.fills.Addition.TheVariants.{Rows}
+use Rattle.history_items.specs.declared.items.Item.{Item}
+use Rattle.history_items.specs.Fills.{in_flight, pending_fault_of}
+use Rattle.history_items.specs.Items.{items_of}
+use Rattle.archive_store.specs.StoreView.{StoreView}
+use Rattle.live_archive.specs.Answers.{WhereSound}
+use Rattle.live_archive.specs.GoesOn.{GoesOn, NoneFailed, OneFailed}
+use Rattle.live_asks.specs.declared.answered.AskAnswer.{AskAnswer}
+use Rattle.live_asks.specs.LiveAsks.{AreAnswered, every_fourth}
+use Rattle.live_fills.specs.Filler.{IsOfFill}
+use Rattle.live_fills.specs.Laws.{WereLate}
+use Rattle.load_jobs.specs.declared.ending.LinkEnd.{LinkEnd}
+use Rattle.load_jobs.specs.declared.ending.LinkEnd.TheVariants.{Whole}
+use Rattle.load_jobs.specs.Ends.{is_of_dump, refusal_of_end}
+use Rattle.live_session.specs.declared.told.DumpCounts.{DumpCounts}
+use Rattle.live_session.specs.declared.told.Told.{Told}
+use Rattle.live_session.specs.Jobs.{Given, IsSourceRead}
+use Rattle.live_session.specs.Links.{AreLinksLoaded, IsBatchInHand}
+
+-- What the jobs of a load came to: the history that was reached; how each link ended, in the order of the links; the
+-- answers to the asks, in their order; why each reader and each filler was refused, if it was, in the jobs' order; and
+-- what a failed write was to add, if one failed.
+pub record JobsOutcome : Type 0 where
+  pub reached : List Item
+  pub ends : List LinkEnd
+  pub answers : List AskAnswer
+  pub others : List (Option Refusal)
+  pub failed : Option Addition
+
+-- ---- what is told of it
+
+-- a refusal is told, with the link where its dump is what is wrong
+abbrev pub told : Refusal → Option ℕ → Told
+told refusal link = record { refusal = refusal; link = link }
+
+-- the refusal of the first of readers and fillers that was refused
+abbrev pub told_of_others : List (Option Refusal) → Option Told
+told_of_others [] = None
+told_of_others (None ∷ others) = told_of_others others
+told_of_others (Some refusal ∷ others) = Some (told refusal None)
+
+-- what is told of a link of this number by its refusal, and else what is told of those behind it
+abbrev pub told_of_link : ℕ → LinkEnd → Option Refusal → Option Told → Option Told
+told_of_link link end None next = next
+told_of_link link end (Some refusal) next = Some (told refusal (if is_of_dump end then Some link else None))
+
+-- That of the first job that was refused, by its number: links come first, whose numbers rise from this one.
+abbrev pub told_of : ℕ → List LinkEnd → List (Option Refusal) → Option Told
+told_of link [] others = told_of_others others
+told_of link (end ∷ ends) others = told_of_link link end (refusal_of_end end) (told_of (suc link) ends others)
+
+-- what the whole dumps of links had together
+abbrev pub counts_with : LinkEnd → DumpCounts → DumpCounts
+counts_with (Whole summary) counts = record {
+  packets = summary.packets + counts.packets;
+  idle = summary.idle + counts.idle;
+  routed = summary.routed + counts.routed;
+}
+counts_with other counts = counts
+
+abbrev pub counts_of : List LinkEnd → DumpCounts
+counts_of [] = record { packets = 0; idle = 0; routed = 0 }
+counts_of (end ∷ ends) = counts_with end (counts_of ends)
+
+-- a whole dump has no more packets and rows than the octets of one let it have
+abbrev pub HasFewCounts : LinkEnd → Type 0
+HasFewCounts (Whole summary) = (summary.packets < 2 ^ 32) × (summary.idle < 2 ^ 32) × (summary.routed < 2 ^ 40)
+HasFewCounts other = Unit {0}
+
+-- ---- what may come of jobs
+
+-- Why a reader or a filler was refused, where this is what a failed write was to add: memory was wanting; a write had
+-- failed; a record more passes the limit; or the disk failed at a fill.
+abbrev pub IsOtherRefusal : Option Addition → Option Refusal → Type 0
+IsOtherRefusal failed None = Unit {0}
+IsOtherRefusal failed (Some OutOfMemory) = Unit {0}
+IsOtherRefusal failed (Some (NeedsReopen faults)) = IsSome failed
+IsOtherRefusal failed (Some (Limit which number)) = (which ≡ Records) × (number ≡ limit_of Records)
+IsOtherRefusal failed (Some DiskFault) = (addition : Addition) × (failed ≡ Some addition) × IsOfFill addition
+IsOtherRefusal failed (Some other) = ⊥
+
+-- What a failed write was to add: the batch in hand of one of the links, or a fill.
+abbrev pub IsFailedAddition : List Item → List Item → Given → ℕ → List (Option (List ℕ)) → Addition → Type 0
+IsFailedAddition low reached g link lefts (Rows rows) = IsBatchInHand low reached g link lefts rows
+IsFailedAddition low reached g link lefts other = IsOfFill other
+
+-- What the jobs of links from this number on, by what is left of their dumps, may come to behind a history, over
+-- intervals of this exponent; what an answer says of cells holds where `Where` says so.
+pub record IsJobsOutcome (Where : Type 0 → Type 0) (exponent : ℕ) (low : List Item) (g : Given) (link : ℕ)
+    (lefts : List (Option (List ℕ))) (c : JobsOutcome) : Type 0 where
+  -- rows came, each by one of the links
+  pub more : List Row
+  pub grown : c.reached ≡ low ++ items_of more
+  pub of_links : AllByRecursion (λ row. (link ≤ row.link) × (row.link < link + length lefts)) more
+  pub links : AreLinksLoaded exponent c.failed low c.reached g link lefts c.ends
+  -- where nothing was refused each ask is answered: every fourth over histories that go on from each other
+  pub answered : told_of link c.ends c.others ≡ None → (before : ℕ) → before < 4 →
+      AreAnswered Where g.head low c.reached (every_fourth before g.asks) (every_fourth before c.answers) None
+  pub others : AllByRecursion (IsOtherRefusal c.failed) c.others
+  -- a write that failed is told, and nothing came behind it
+  pub told_so : told_of link c.ends c.others ≡ None → c.failed ≡ None
+  pub failed : IfSome c.failed (IsFailedAddition low c.reached g link lefts)
+
+-- ---- the store behind it
+
+-- no write failed, or one did that was to add this
+abbrev pub HasFailed : {D : Type 0} → Device D → StoreView D → StoreView D → Option Addition → Type 0
+HasFailed device first closed None = NoneFailed device first closed
+HasFailed device first closed (Some addition) = (one : OneFailed device first closed) × (one.addition ≡ addition)
+
+-- what the store tells of a refusal: the log has no place for a record more, if the rows that came since are counted
+-- too; the failed write that was met is pending
+abbrev pub IsSeenIn : {D : Type 0} → StoreView D → StoreView D → Refusal → Type 0
+IsSeenIn first closed (Limit which number) =
+    which ≡ Records → limit_of Records + length first.history ≤ closed.records + length closed.history
+IsSeenIn first closed (NeedsReopen faults) = pending_fault_of closed.fills ≡ Some faults
+IsSeenIn first closed other = Unit {0}
+
+-- A store goes on from a first one, and has what the jobs of a load came to. No fill is in flight, and each that came
+-- since was of a late interval.
+pub record HasLoaded {D : Type 0} (device : Device D) (first closed : StoreView D) (link : ℕ) (c : JobsOutcome)
+    : Type 0 where
+  pub goes : GoesOn device first closed
+  pub idle : (interval : Interval) → in_flight interval closed.fills ≡ None
+  pub late : WereLate first closed
+  pub history : closed.history ≡ c.reached
+  pub failed : HasFailed device first closed c.failed
+  pub refused : IfSome (told_of link c.ends c.others) (λ told. IsSeenIn first closed told.refusal)
+
+-- ---- the whole
+
+-- this became of each source, in the links' order
+abbrev pub AreSourcesRead : {S : Type 0} → (S → SourceState) → List LinkEnd → List S → List S → Type 0
+AreSourcesRead state [] [] [] = Unit {0}
+AreSourcesRead state (end ∷ ends) (old ∷ olds) (new ∷ news) =
+    IsSourceRead end (state old) (state new) × AreSourcesRead state ends olds news
+AreSourcesRead state ends olds news = ⊥
+
+-- what is left of the dumps of sources
+abbrev pub lefts_of : {S : Type 0} → (S → SourceState) → List S → List (Option (List ℕ))
+lefts_of state sources = map (λ source. (state source).left) sources
+
+-- The jobs of a load by these sources were run over a store, or there was no memory for them, which is told as the
+-- refusal of each link. They came to something of which this is told, with these answers; where nothing was refused
+-- these are the counts of the dumps, and no more rows came than their packets are.
+pub record CameToLoad {D S : Type 0} (device : Device D) (state : S → SourceState) (first closed : StoreView D)
+    (g : Given) (link : ℕ) (olds news : List S) (said : Option Told) (counts : DumpCounts) (answers : List AskAnswer)
+    : Type 0 where
+  pub came_to : JobsOutcome
+  pub outcome : IsJobsOutcome (WhereSound device first) first.exponent first.history g link (lefts_of state olds) came_to
+  pub loaded : HasLoaded device first closed link came_to
+  pub sources : AreSourcesRead state came_to.ends olds news
+  pub said_is : said ≡ told_of link came_to.ends came_to.others
+  pub counts_are : said ≡ None → counts ≡ counts_of came_to.ends
+  pub no_more : said ≡ None → length came_to.reached ≤ length first.history + counts.routed
+  pub answers_are : answers ≡ came_to.answers
