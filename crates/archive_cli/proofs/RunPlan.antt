@@ -47,7 +47,7 @@ module _ {D : Type 0} (device : Device D) (e : Effects D) (files : Option Files)
     ran = record {
       way = Stopped (nothing_done 0) (Some Usage);
       allows = inr (None, sym none, refl);
-      did = record { report = report; printed = rw silent (no_text e.output.written); output = record { counted = rw silent refl }; disk = same };
+      did = record { report = report; printed = rw silent (no_text e.output.written); output = record { counted = rw silent refl }; disk = same; log = tt; pending = tt };
     };
     inputs = inputs_unused state;
   }
@@ -55,7 +55,7 @@ module _ {D : Type 0} (device : Device D) (e : Effects D) (files : Option Files)
     ran = record {
       way = Interrupted (nothing_done 0) OfMemory;
       allows = inl refl;
-      did = record { report = report; printed = rw silent (no_text e.output.written); output = record { counted = rw silent refl }; disk = same };
+      did = record { report = report; printed = rw silent (no_text e.output.written); output = record { counted = rw silent refl }; disk = same; log = tt; pending = tt };
     };
     inputs = inputs_unused state;
   }

@@ -60,7 +60,7 @@ module _ {D : Type 0} (device : Device D) (e : Effects D) {X : Type 0} (plan : â
         ran = record {
           way = Stopped (with_sources 1 s) refusal;
           allows = allowed (Stopped s refusal) allows;
-          did = record { report = did.report; printed = did.printed; output = did.output; disk = did.disk };
+          did = record { report = did.report; printed = did.printed; output = did.output; disk = did.disk; log = did.log; pending = did.pending };
         };
         inputs = used_inputs_then a m b 1 s.sources (s.failed OfInputs) read.used used;
       }
@@ -68,7 +68,7 @@ module _ {D : Type 0} (device : Device D) (e : Effects D) {X : Type 0} (plan : â
         ran = record {
           way = Interrupted (with_sources 1 s) fault;
           allows = allowed (Interrupted s fault) allows;
-          did = record { report = did.report; printed = did.printed; output = did.output; disk = did.disk };
+          did = record { report = did.report; printed = did.printed; output = did.output; disk = did.disk; log = did.log; pending = did.pending };
         };
         inputs = used_inputs_then a m b 1 s.sources (failed_at (Interrupted s fault) OfInputs) read.used used;
       }
@@ -136,6 +136,8 @@ module _ (s : Progress) (archive : Archive) where
         printed = did.printed;
         output = did.output;
         disk = did.disk;
+        log = did.log;
+        pending = did.pending;
       };
     }
   ]

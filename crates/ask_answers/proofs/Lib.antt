@@ -1,1 +1,2 @@
 pub mod AskSheets
+pub mod KeptTexts

@@ -21,6 +21,7 @@ use refusals::Refusal;
 use retrieval::answer::answer_request;
 use retrieval::answer_text::print_found;
 use retrieval::found_asks::{FoundAsk, FoundAsks, find_asks};
+use retrieval::print_faults::print_fault_of;
 use retrieval::replay::print_replay;
 use std::alloc::Global;
 use std::sync::ledger::Ledger;
@@ -105,7 +106,8 @@ fn print_values<D: Disk, K: Sink, L: Ledger>(
     ensures same { store.new ≡ store.old }
     ensures steps { steps.new ≤ steps.old + steps_of_ask store.old (FoundAsk.Values found.now) }
 {
-    let answer = answer_request(alloc, store, found, steps)?;
-    print_found(k, found, &answer, line_buffer, sink)?;
-    Ok(())
+    match answer_request(alloc, store, found, steps) {
+        Ok(answer) => Ok(print_found(k, found, &answer, line_buffer, sink)?),
+        Err(fault) => Err(print_fault_of(fault)),
+    }
 }

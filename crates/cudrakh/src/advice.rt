@@ -19,7 +19,7 @@ const FORMS: &str = "\
     cudrakh scan DUMP\n\
     cudrakh values PARAMETERS CALIBRATIONS CONTAINERS DUMP NAME\n\
     cudrakh create PARAMETERS CALIBRATIONS CONTAINERS [SCRIPT]\n\
-    cudrakh load [--route FILE] [--ask FILE] [--link N] DUMP\n\
+    cudrakh load [--route FILE] [--ask FILE] [--fillers N] [--link N] DUMP..\n\
     cudrakh query --sql FILE\n\
     cudrakh query --ask FILE\n\
     cudrakh recover\n\

@@ -16,24 +16,27 @@ use archive_cli::run::run;
 use outer_real::{
     ArchiveLock, RealClock, RealDisk, RealInputs, RealSink, StandardStreams, keep_freed_memory,
 };
+use outer_traits::gate::OpenGate;
 use refusals::Refusal;
 use std::env::{self, VarError};
 use std::io::{ErrorKind, IsTerminal};
 use std::process::ExitCode;
+use std::sync::Wait;
+use std::thread::Threads;
 
 fn main(rt: HostRuntime) -> ExitCode {
     let Ok(streams) = StandardStreams::hold(&rt) else {
         return refused(&rt, &Refusal::ReadFault);
     };
     keep_freed_memory(rt.alloc());
-    let status = run_command(&rt);
+    let status = run_command(&rt, &rt);
     // only now, when all is printed
     drop(streams);
     status
 }
 
-/// Runs the command of the words, and says on standard error why it was refused. The archive's files are closed by then.
-fn run_command(rt: &HostRuntime) -> ExitCode {
+/// Runs the command of the words, and says on standard error why it was refused. The archive's files are closed by then. A load starts threads, and may wait.
+fn run_command<R: Threads + Wait + Sync>(rt: &HostRuntime, threads: &R) -> ExitCode {
     let words = match words_of(rt) {
         Ok(words) => words,
         Err(refusal) => return refused(rt, &refusal),
@@ -48,12 +51,14 @@ fn run_command(rt: &HostRuntime) -> ExitCode {
         disk,
         report,
     } = run(
+        threads,
         rt.alloc(),
         words.as_slice(),
         RealDisk::new(rt.alloc(), rt, folder, Some(&lock)),
         &mut RealInputs::new(rt),
         &mut RealSink::new(rt, &lock),
         &mut RealClock::new(rt),
+        &OpenGate,
     );
     let disk_state = if disk.is_busy() {
         DiskState::Busy

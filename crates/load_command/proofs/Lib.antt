@@ -1,8 +1,8 @@
+pub mod Dumps
 pub mod FoundBehind
+pub mod JobRuns
 pub mod LoadPlan
 pub mod LoadReports
-pub mod NotLoaded
+pub mod ReadyLoads
 pub mod RoutePlan
 pub mod RouteTables
-pub mod Sessions
-pub mod SourceCounts

@@ -1,350 +1,257 @@
 -- How the plan of `load` goes.
-use Rattle.std.proofs.Common.{◌≡◌, ◌≤◌, ◌<◌, ◌∙◌, ◌⊎◌, inl, inr, ℕ, ℤ, Bool, true, false, List, [], ◌∷◌, length, Option, Some, None, refl, sym, ap, subst, arith}
-use Rattle.std.specs.Prelude.{Err, IfSome, IsSome, IsSomeAnd, IsTrue, Result, Ok}
-use Rattle.std.specs.FinMap.{get}
+use Rattle.std.proofs.Common.{◌≡◌, ◌∙◌, ◌⊎◌, inl, inr, ℕ, ℤ, Bool, true, false, List, [], ◌∷◌, length, Option, Some, None, refl, sym, ap, subst}
+use Rattle.std.specs.Prelude.{Err, IsSome, IsTrue, Result, Ok}
+use Rattle.std.specs.List.{list_any}
 use Rattle.arch_disk.specs.Disk.{Device}
 use Rattle.asks.specs.declared.ask.Ask.{Ask}
 use Rattle.refusals.specs.declared.refusal.Refusal.{Refusal}
 use Rattle.refusals.specs.declared.refusal.Refusal.TheVariants as refused
-use Rattle.refusals.specs.declared.refusal.Which.TheVariants.{DumpOctets}
 use Rattle.archive_store.specs.Entries.{Archive, FilledArchive}
-use Rattle.outer_traits.specs.declared.fault.OpenFault.{OpenFault}
-use Rattle.outer_traits.specs.declared.fault.OpenFault.TheVariants.{Missing, Failed, OutOfMemory}
-use Rattle.outer_traits.specs.Outside.{Files, IsLeftAtFirst, OpeningCounted, Stays}
-use Rattle.outer_traits.specs.Whole.{IsInput, IsThere}
-use Rattle.command_plans.specs.Plan.{FailedCalls, OfMemory, OfInputs, OfOutput, OfDisk, no_failed_calls, with_failed_call, CommandPlan, Way, Stopped, Interrupted, Allows, EachEnd, IsDetermined, interruption_refusal}
-use Rattle.command_plans.proofs.Plans.{cut, determined, end_of, ended, gave}
+use Rattle.history_items.specs.declared.fills.Addition.{Addition}
+use Rattle.outer_traits.specs.Outside.{Files}
+use Rattle.outer_traits.specs.States.{InputsState, SourceState}
+use Rattle.command_plans.specs.Inputs.{AnsweredByPlan}
+use Rattle.command_plans.specs.Ledger.{UsedInputs}
+use Rattle.command_plans.proofs.Ledgers.{inputs_unused}
+use Rattle.command_plans.specs.Plan.{FailedCalls, OfMemory, OfInputs, OfOutput, OfDisk, no_failed_calls, with_failed_call, CommandPlan, Way, Returned, Stopped, Interrupted, Allows, EachEnd, IsDetermined, map_done}
+use Rattle.command_plans.specs.Sources.{AreNewSources, GaveSources, TookSources, UsedSources, WereNotOpened, WereOpened, opening_all_plan}
+use Rattle.command_plans.proofs.Plans.{allows_map_done, cut, determined, determined_map_done, ended, gave}
+use Rattle.command_plans.proofs.Sources.{new_sources_length, opening_all_determined, unused_sources, used_sources}
 use Rattle.command_words.specs.Job.{LoadWords}
-use Rattle.command_plans.specs.Inputs.{InputRead, IsThereAs, OverLimit, WithinLimit, reading_fault}
-use Rattle.command_plans.proofs.Inputs.{reads_determined}
-use Rattle.mdb_sheets.specs.Sheets.{ReadsCounted}
-use Rattle.outer_traits.specs.States.{InputsState, SourceState, GaveOne, ClosedOne}
-use Rattle.command_plans.specs.Ledger.{Counted, UsedInputs}
-use Rattle.command_plans.proofs.Ledgers.{risen_counted}
+use Rattle.command_words.specs.LoadLimits.{links_refusal, load_limit_refusal}
 use Rattle.ask_answers.specs.Asks.{asks_check_plan}
-use Rattle.command_runs.specs.Moment.{IsMomentOf}
-use Rattle.command_runs.specs.ArchiveWork.{RanWith, UsedByWork, opened_plan}
-use Rattle.command_runs.specs.Command.{Progress, EndedAt, HasDiskOutcome, HasEffects, Opened, Effects, Ran, RanOver, archive_opened, archive_sought, failed_at, nothing_done, opening_plan, sources_at}
-use Rattle.command_runs.specs.DumpRest.{ending_of_rest, dump_limit}
-use Rattle.load_command.specs.Load.{IsRecordedBehind, after_dump, after_dump_found, after_link, after_packets, after_route, after_session, archive_load_plan, dump_too_long, history_extended, late_behind, load_plan, load_printing_plan, loading_plan, reading_plan, refused_session_plan, route_plan, routed_load_plan, session_plan}
-use Rattle.command_runs.specs.FillingPlan.{IsRecordCount}
-use Rattle.command_runs.proofs.FillingPlan.{behind_reads, filling_determined, filling_reads}
-use Rattle.load_command.specs.Loading.{IsDumpRefusal, IsNotReceived, IsOpeningFault, IsReady, IsRouteAnswer, IsUnready, LoadAsked, UsedSource, link_refusal, load_asked}
-use Rattle.command_runs.specs.Report.{read_only, unopened}
-use Rattle.script_answers.specs.Scripts.{OrNoMemory}
-use Rattle.load_session.specs.Receiving.{Receiving, receiving}
-use Rattle.load_session.specs.Session.{SessionResult}
-use Rattle.stream_graph.specs.declared.statement.RouteStatement.{RouteStatement}
 use Rattle.ask_answers.proofs.AskSheets.{asked_determined, check_determined, check_refused, checked}
-use Rattle.command_runs.proofs.Commands.{no_text, sought_unasked}
-use Rattle.load_command.proofs.RoutePlan.{route_determined, route_read_determined}
-use Rattle.load_command.proofs.NotLoaded.{OnlyMissing, gives_long, gone, still_there}
-use Rattle.command_runs.proofs.OverInputs.{HasRead}
+use Rattle.command_runs.specs.ArchiveWork.{RanWith, UsedByWork, opened_plan}
+use Rattle.command_runs.specs.Command.{Effects, EndedAt, HasDiskOutcome, HasEffects, Opened, Progress, RanOver, archive_opened, failed_at, nothing_done, opening_plan, sources_at}
+use Rattle.command_runs.specs.FillingPlan.{after_filling, filled_to}
+use Rattle.command_runs.specs.Report.{read_only, unopened}
+use Rattle.command_runs.proofs.Commands.{no_text}
+use Rattle.command_runs.proofs.FillingPlan.{filling_determined}
 use Rattle.command_runs.proofs.Openings.{opens_determined}
+use Rattle.command_runs.proofs.OverInputs.{ran_unread}
+use Rattle.script_answers.specs.Scripts.{OrNoMemory}
+use Rattle.live_session.specs.declared.told.Told.{Told}
+use Rattle.live_session.specs.Outcome.{JobsOutcome, told_of}
+use Rattle.stream_graph.specs.declared.statement.RouteStatement.{RouteStatement}
+use Rattle.load_command.specs.Load.{WhereSoundOn, after_jobs, after_limits, after_links, after_route, archive_load_plan, history_extended, job_refused, jobs_plan, load_plan, load_printing_plan, loading_plan, read_load_plan, route_plan, routed_load_plan}
+use Rattle.load_command.specs.Loading.{HaveUsedSources, IsReady, IsRouteAnswer, IsUnready, LoadAsked, is_unread, load_asked}
+use Rattle.load_command.proofs.RoutePlan.{route_determined, route_read_determined}
 
--- ---- the inputs
+-- ---- the jobs
 
--- a source was given, and closed again
-pub closed_again : (a m b : InputsState) → m.files ≡ a.files → b.files ≡ m.files → GaveOne a m → ClosedOne m b → (a.never_fails → b.never_fails × (b.faults ≡ a.faults)) → (failed : Bool)
-    → Counted failed a.faults b.faults → UsedInputs a b 1 failed
-closed_again a m b first next gave closed reliable failed counted = record {
-  files = next ∙ first;
-  closed = λ few. let opened = gave.0 in let back = closed.0 in omega (arith, few, opened, back);
-  gave = closed.1 ∙ gave.1;
-  counted = counted;
-  reliable = reliable;
-}
+-- so many sources were given, and whether a read failed
+abbrev pub HasUsed : ℕ → Bool → Way Progress ⊥ → Type 0
+HasUsed dumps failed way = (sources_at way ≡ dumps) × (failed_at way OfInputs ≡ failed)
 
--- ---- the ends of a session
+-- at each end, by what the jobs came to
+module _ (dumps : ℕ) (filled : FilledArchive) (c : JobsOutcome) where
+  abbrev Used : Way Progress ⊥ → Type 0
+  Used = HasUsed dumps (list_any is_unread c.ends)
 
--- one source was given, and no call of the inputs failed
-pub session_after : (Began : ℕ → Type 0) (filled : FilledArchive) (r : Receiving) (asks : List Ask) (dump : List ℕ) → EachEnd (HasRead 1) (session_plan Began filled r asks dump)
-session_after Began filled r asks dump = λ s h. each s s.refusal
-  where
-    printing : (asks : List Ask) (s : SessionResult) → EachEnd (HasRead 1) (load_printing_plan filled r asks s)
-    printing [] s = ((refl, refl), (refl, refl))
-    printing (ask ∷ asks) s = ((refl, refl), ((refl, refl), (refl, refl)))
+  printing_used : (asks : List Ask) → EachEnd Used (load_printing_plan dumps filled asks c)
+  printing_used [] = ((refl, refl), (refl, refl))
+  printing_used (ask ∷ asks) = ((refl, refl), ((refl, refl), (refl, refl)))
 
-    told : (link : Option ℕ) (s : SessionResult) (refusal : Refusal) → EachEnd (HasRead 1) (refused_session_plan Began filled link s refusal)
-    told link s refusal =
-        behind_reads (IsRecordedBehind Began filled.plain.history s.reached) filled s.reached (length (late_behind filled s)) 1 (history_extended filled link s) refusal (refl, refl)
+  pub jobs_used : (asks : List Ask) (told : Option Told) (failed : Option Addition) → EachEnd Used (after_jobs dumps filled asks c told failed)
+  jobs_used asks None failed = ((refl, refl), ((refl, refl), λ full is. each full))
+    where
+      each : (full : Bool) → EachEnd Used (after_filling (history_extended dumps filled None c) (load_printing_plan dumps filled asks c) full)
+      each true = (refl, refl)
+      each false = printing_used asks
+  jobs_used asks (Some told) None = λ end is. each end
+    where
+      each : (end : Option Refusal) → Used (Stopped (filled_to filled c.reached (job_refused dumps filled c told) end) (Some told.refusal))
+      each None = (refl, refl)
+      each (Some refused.DiskFault) = (refl, refl)
+      each (Some other) = (refl, refl)
+  jobs_used asks (Some told) (Some addition) = (refl, refl)
 
-    whole : (s : SessionResult) (rest : Option Refusal) → EachEnd (HasRead 1) (after_packets Began filled r asks s rest)
-    whole s None =
-        filling_reads (IsRecordedBehind Began filled.plain.history s.reached) filled s.reached (length (late_behind filled s)) (history_extended filled None s)
-        (load_printing_plan filled r asks s) 1 (refl, refl) (printing asks s)
-    whole s (Some refusal) = told (Some r.link) s refusal
+-- ---- dumps that were opened, loaded into an archive that was
 
-    each : (s : SessionResult) (refusal : Option Refusal) → EachEnd (HasRead 1) (after_session Began filled r asks dump s refusal)
-    each s None = whole s (ending_of_rest dump s.rest)
-    each s (Some refused.DiskFault) = (refl, refl)
-    each s (Some other) = told None s other
-
--- ---- a dump that was opened, loaded into an archive that was
-
-module _ {D : Type 0} (device : Device D) (e : Effects D) (Began : ℕ → Type 0) (files : Option Files) (next : Option ℤ) (words : LoadWords) (text : Option (List ℕ)) (sheet : Result (List Ask) Refusal) (filled : FilledArchive)
-    (first last : SourceState) (reliable : first.never_fails → Stays first.faults last.faults) where
+module _ {D : Type 0} (device : Device D) (e : Effects D) (Where : Type 0 → Type 0) (files : Option Files) (next : Option ℤ) (words : LoadWords) (text : Option (List ℕ)) (sheet : Result (List Ask) Refusal) (filled : FilledArchive)
+    {S : Type 0} (state : S → SourceState) (olds : List S) (as_many : length words.dumps ≡ length olds) where
   abbrev loading : CommandPlan Progress ⊥
-  loading = loading_plan Began files next words text sheet filled
+  loading = loading_plan Where files next words text sheet filled
 
   abbrev archive : Archive
   archive = filled.plain
 
+  abbrev opened : Progress
+  opened = archive_opened (length words.dumps) filled
+
   abbrev asked : LoadAsked
-  asked = load_asked text sheet words.link
+  asked = load_asked words text sheet
 
-  abbrev Loaded : Type 0
-  Loaded = RanWith device loading e (UsedSource first last)
+  abbrev Loaded : List S → Type 0
+  Loaded news = RanWith device loading e (HaveUsedSources state olds news)
 
-  -- the asks of a sheet that the archive can answer are checked, and the dump is read
-  routes_on : (route : List RouteStatement) → link_refusal words.link ≡ None → IsRouteAnswer archive text (Ok route) → (way : Way Progress ⊥)
-      → Allows (after_route Began files next words sheet filled route) way → Allows loading way
+  -- the asks of a sheet that the archive can answer are checked, and the jobs run
+  routes_on : (route : List RouteStatement) → links_refusal words ≡ None → IsRouteAnswer archive text (Ok route) → (way : Way Progress ⊥)
+      → Allows (after_route Where files next words sheet filled route) way → Allows loading way
   routes_on route near is way goes =
-      (None, sym near, gave (route_plan (archive_opened 1 filled) archive text) (after_route Began files next words sheet filled) route way (inr (Ok route, is, refl)) goes)
+      (None, sym near, gave (route_plan opened archive text) (after_route Where files next words sheet filled) route way (inr (Ok route, is, refl)) goes)
 
-  reads_on : (route : List RouteStatement) (asks : List Ask) → IsReady archive asked route asks → (way : Way Progress ⊥)
-      → Allows (reading_plan Began files next words filled route asks) way → Allows loading way
-  reads_on route asks ready way goes =
-      let s = archive_opened 1 filled in
-      routes_on route ready.0 ready.1 way (gave (asks_check_plan s archive sheet) (reading_plan Began files next words filled route) asks way (checked s archive sheet asks ready.2) goes)
+  pub load_run : (route : List RouteStatement) (asks : List Ask) → IsReady archive asked route asks → (news : List S)
+      → RanWith device (jobs_plan Where files next words filled route asks) e (HaveUsedSources state olds news) → Loaded news
+  load_run route asks ready news went = record {
+    ran = record {
+      way = went.ran.way;
+      allows = routes_on route ready.0 ready.1 went.ran.way
+          (gave (asks_check_plan opened archive sheet) (jobs_plan Where files next words filled route) asks went.ran.way (checked opened archive sheet asks ready.2) went.ran.allows);
+      did = went.ran.did;
+    };
+    used = went.used;
+  }
 
-  abbrev reports : Refusal → Option ℕ → Type 0
-  reports refusal link = e.report ≡ record (read_only (Some refusal) (length archive.history)) { link = link }
+  -- ---- nothing was run, and the archive was left as it was
 
-  named : (refusal : Refusal) (link other : Option ℕ) → link ≡ other → reports refusal link → reports refusal other
-  named refusal link other is report = report ∙ ap (λ (l : Option ℕ). record (read_only (Some refusal) (length archive.history)) { link = l }) is
+  module _ (silent : e.output' ≡ e.output) (disk : HasDiskOutcome device e.disk e.disk' false (Opened filled)) where
+    unused : (way : Way Progress ⊥) → sources_at way ≡ length words.dumps → failed_at way OfInputs ≡ false → HaveUsedSources state olds olds way
+    unused way given failed = record { given = given ∙ as_many; used = subst (UsedSources state olds olds) (sym failed) (unused_sources state olds) }
 
-  -- ---- nothing was ingested: the archive was left as it was, and the report may name the link
+    left : (refusal : Refusal) (failed : FailedCalls) → failed OfOutput ≡ false → failed OfDisk ≡ false → e.report ≡ read_only (Some refusal) (length archive.history) → EndedAt device e opened (Some refusal) failed
+    left refusal failed no_output no_disk report =
+        record { report = report; printed = rw silent (no_text e.output.written); output = record { counted = rw (silent, no_output) refl }; disk = rw no_disk disk; log = tt; pending = tt }
 
-  module _ (silent : e.output' ≡ e.output) (disk : HasDiskOutcome device e.disk e.disk' false (Opened filled)) (later : first.faults ≤ last.faults) where
-    abbrev unloaded : Option ℕ → Progress
-    unloaded link = record (archive_opened 1 filled) { report = record (read_only None (length archive.history)) { link = link } }
-
-    left : (link : Option ℕ) (refusal : Refusal) (failed : FailedCalls) → failed OfOutput ≡ false → failed OfDisk ≡ false → reports refusal link
-        → EndedAt device e (unloaded link) (Some refusal) failed
-    left link refusal failed no_output no_disk report =
-        record { report = report; printed = rw silent (no_text e.output.written); output = record { counted = rw (silent, no_output) refl }; disk = rw no_disk disk }
-
-    stopped : (link : Option ℕ) (refusal : Refusal) → reports refusal link → Stays first.faults last.faults → Allows loading (Stopped (unloaded link) (Some refusal)) → Loaded
-    stopped link refusal report still goes = record {
-      ran = record { way = Stopped (unloaded link) (Some refusal); allows = goes; did = left link refusal no_failed_calls refl refl report };
-      used = record { one = refl; counted = still; reliable = reliable };
+    stopped : (refusal : Refusal) → e.report ≡ read_only (Some refusal) (length archive.history) → Allows loading (Stopped opened (Some refusal)) → Loaded olds
+    stopped refusal report goes = record {
+      ran = record { way = Stopped opened (Some refusal); allows = goes; did = left refusal no_failed_calls refl refl report };
+      used = unused (Stopped opened (Some refusal)) refl refl;
     }
 
-    cut_short : (failed : Bool) → reports (interruption_refusal (reading_fault failed)) None → Counted failed first.faults last.faults
-        → Allows loading (Interrupted (archive_opened 1 filled) (reading_fault failed)) → Loaded
-    cut_short true report counted goes = record {
-      ran = record { way = Interrupted (archive_opened 1 filled) OfInputs; allows = goes; did = left None refused.ReadFault (with_failed_call OfInputs no_failed_calls) refl refl report };
-      used = record { one = refl; counted = counted; reliable = reliable };
-    }
-    cut_short false report counted goes = record {
-      ran = record { way = Interrupted (archive_opened 1 filled) OfMemory; allows = goes; did = left None refused.OutOfMemory (with_failed_call OfMemory no_failed_calls) refl refl report };
-      used = record { one = refl; counted = counted; reliable = reliable };
+    without_memory : (refusal : Refusal) → refusal ≡ refused.OutOfMemory → e.report ≡ read_only (Some refusal) (length archive.history) → Allows loading (Interrupted opened OfMemory) → Loaded olds
+    without_memory refusal is report goes = record {
+      ran = record {
+        way = Interrupted opened OfMemory;
+        allows = goes;
+        did = left refused.OutOfMemory (with_failed_call OfMemory no_failed_calls) refl refl (report ∙ ap (λ (r : Refusal). read_only (Some r) (length archive.history)) is);
+      };
+      used = unused (Interrupted opened OfMemory) refl refl;
     }
 
-    -- the route was refused
-    load_unrouted : (refusal : Refusal) → link_refusal words.link ≡ None → OrNoMemory (IsRouteAnswer archive text) (Err refusal) → reports refusal None → Stays first.faults last.faults → Loaded
-    load_unrouted refusal near (inl memory) report still =
-        let s = archive_opened 1 filled in
-        cut_short false (subst (λ (r : Refusal). reports r None) memory report) still
-        (None, sym near, cut (route_plan s archive text) (after_route Began files next words sheet filled) s OfMemory (inl refl))
-    load_unrouted refusal near (inr is) report still =
-        let s = archive_opened 1 filled in
-        stopped None refusal report still
-        (None, sym near, ended (route_plan s archive text) (after_route Began files next words sheet filled) s (Some refusal) (inr (Err refusal, is, refl)))
-
-    -- the link was, or the route, or the sheet of asks
-    load_unready : (refusal : Refusal) → IsUnready archive asked refusal → reports refusal None → Stays first.faults last.faults → Loaded
-    load_unready refusal (inl far) report still = stopped None refusal report still (Some refusal, sym far, refl)
-    load_unready refusal (inr (inl near)) report still = load_unrouted refusal near.0 near.1 report still
-    load_unready refusal (inr (inr near)) report still =
-        let s = archive_opened 1 filled in
-        let route = near.1.0 in
-        let f = reading_plan Began files next words filled route in
-        elim (check_refused s archive sheet refusal near.1.2) [
-          | inl ending ↦ stopped None refusal report still
-              (routes_on route near.0 near.1.1 (Stopped s (Some refusal)) (ended (asks_check_plan s archive sheet) f s (Some refusal) ending))
-          | inr memory ↦ cut_short false (subst (λ (r : Refusal). reports r None) memory.0 report) still
-              (routes_on route near.0 near.1.1 (Interrupted s OfMemory) (cut (asks_check_plan s archive sheet) f s OfMemory memory.1))
+    -- a link was refused, or the route, or the sheet of asks
+    pub load_unready : (refusal : Refusal) → IsUnready archive asked refusal → e.report ≡ read_only (Some refusal) (length archive.history) → Loaded olds
+    load_unready refusal (inl far) report = stopped refusal report (Some refusal, sym far, refl)
+    load_unready refusal (inr (near, inl (inl memory))) report =
+        without_memory refusal memory report (None, sym near, cut (route_plan opened archive text) (after_route Where files next words sheet filled) opened OfMemory (inl refl))
+    load_unready refusal (inr (near, inl (inr is))) report =
+        stopped refusal report (None, sym near, ended (route_plan opened archive text) (after_route Where files next words sheet filled) opened (Some refusal) (inr (Err refusal, is, refl)))
+    load_unready refusal (inr (near, inr asks_are)) report =
+        let route = asks_are.0 in
+        let f = jobs_plan Where files next words filled route in
+        elim (check_refused opened archive sheet refusal asks_are.2) [
+          | inl ending ↦ stopped refusal report
+              (routes_on route near asks_are.1 (Stopped opened (Some refusal)) (ended (asks_check_plan opened archive sheet) f opened (Some refusal) ending))
+          | inr memory ↦ without_memory refusal memory.0 report
+              (routes_on route near asks_are.1 (Interrupted opened OfMemory) (cut (asks_check_plan opened archive sheet) f opened OfMemory memory.1))
         ]
-
-    module _ (gives : IsLeftAtFirst files words.dump first.left) where
-      -- the dump wasn't read
-      load_unread : (refusal : Refusal) (link : Option ℕ) (route : List RouteStatement) (asks : List Ask) → IsReady archive asked route asks → IsDumpRefusal first.left words.link refusal link
-          → ReadsCounted (Some refusal) first.faults last.faults → reports refusal link → Loaded
-      load_unread (refused.Limit DumpOctets most) link route asks ready u counted report =
-          let limit = refused.Limit DumpOctets dump_limit in
-          let is : refused.Limit DumpOctets most ≡ limit = ap (λ (n : ℕ). refused.Limit DumpOctets n) u.0 in
-          let long = subst (λ (n : ℕ). IfSome files (λ all. IsSomeAnd (get all words.dump) (λ octets. n < length octets))) u.0 (gives_long files words.dump first.left most gives u.2) in
-          stopped (Some words.link) limit (named limit link (Some words.link) u.1 (subst (λ (r : Refusal). reports r link) is report)) counted
-          (reads_on route asks ready (Stopped (dump_too_long words.link filled) (Some limit)) (inr (inr (OverLimit, long, refl))))
-      load_unread refused.ReadFault link route asks ready u counted report =
-          cut_short true (named refused.ReadFault link None u report) (risen_counted first.faults last.faults later counted)
-          (reads_on route asks ready (Interrupted (archive_opened 1 filled) OfInputs) (inr (inl refl)))
-      load_unread refused.OutOfMemory link route asks ready u counted report =
-          cut_short false (named refused.OutOfMemory link None u report) counted (reads_on route asks ready (Interrupted (archive_opened 1 filled) OfMemory) (inl refl))
-      load_unread other link route asks ready u counted report = absurd u
-
-      pub load_not_received : (refusal : Refusal) (link : Option ℕ) → IsNotReceived archive asked first last refusal link → reports refusal link → Loaded
-      load_not_received refusal link (inl unready) report = load_unready refusal unready.0 (named refusal link None unready.1 report) unready.2
-      load_not_received refusal link (inr unread) report = load_unread refusal link unread.0 unread.1 unread.2 unread.3 unread.4 report
-
-  -- ---- the packets of the dump were ingested, so far
-
-  pub load_received : (dump : List ℕ) (moment : ℤ) (route : List RouteStatement) (asks : List Ask) → IsReady archive asked route asks → IsInput files words.dump dump
-      → length dump ≤ dump_limit → IsMomentOf next moment → Stays first.faults last.faults
-      → Ran device (session_plan Began filled (receiving archive.head archive.history route words.link moment) asks dump) e → Loaded
-  load_received dump moment route asks ready input short clock still went =
-      let r : Receiving = receiving archive.head archive.history route words.link moment in
-      let each = end_of (HasRead 1) (session_plan Began filled r asks dump) went.way (session_after Began filled r asks dump) went.allows in
-      record {
-        ran = record {
-          way = went.way;
-          allows = reads_on route asks ready went.way (inr (inr (WithinLimit dump, (dump, input, short, refl), (moment, clock, went.allows))));
-          did = went.did;
-        };
-        used = record { one = each.0; counted = rw each.1 still; reliable = reliable };
-      }
 
 -- ---- the whole load
 
 module _ {D : Type 0} (device : Device D) (e : Effects D) (files : Option Files) (next : Option ℤ) (words : LoadWords) (text : Option (List ℕ)) (sheet : Result (List Ask) Refusal) (a b : InputsState) where
+  abbrev opens : CommandPlan ℕ (Unit {0})
+  opens = opening_all_plan files words.dumps 0
+
+  abbrev behind : CommandPlan Progress ⊥
+  behind = opened_plan (length words.dumps) device e.disk (λ records. loading_plan (WhereSoundOn device e.disk) files next words text sheet)
+
   abbrev plan : CommandPlan Progress ⊥
   plan = archive_load_plan device e.disk files next words text sheet
 
-  -- there was no memory for what names the dump
-  no_room : UsedInputs a b 0 false → e.report ≡ unopened (Some refused.OutOfMemory) → e.disk' ≡ e.disk → e.output' ≡ e.output → RanOver device plan e a b
-  no_room used report same silent = record {
-    ran = record {
-      way = Interrupted (nothing_done 0) OfMemory;
-      allows = inl refl;
-      did = record { report = report; printed = rw silent (no_text e.output.written); output = record { counted = rw silent refl }; disk = same };
-    };
-    inputs = used;
-  }
-
-  -- it wasn't opened
-  pub ran_unfound : (X : Type 0) (fault : OpenFault) (refusal : Refusal) → IsOpeningFault words.dump fault refusal → OnlyMissing X files words.dump fault
-      → ((failed : Bool) → Counted failed a.faults b.faults → UsedInputs a b 0 failed) → a.faults ≤ b.faults → OpeningCounted {X = X} (Err fault) a.faults b.faults
+  -- the dumps weren't opened
+  pub ran_unopened_dumps : (refusal : Refusal) → AnsweredByPlan {X = Unit {0}} (length words.dumps) (opening_all_plan files words.dumps) (Err refusal) a b
       → e.report ≡ unopened (Some refusal) → e.disk' ≡ e.disk → e.output' ≡ e.output → RanOver device plan e a b
-  ran_unfound X Missing refusal (inl is) missing used later counted report same silent = record {
-    ran = record {
-      way = Stopped (nothing_done 0) (Some (refused.Missing words.dump));
-      allows = inr (false, gone X files words.dump missing, refl);
-      did = record {
-        report = report ∙ ap (λ (r : Refusal). unopened (Some r)) is;
-        printed = rw silent (no_text e.output.written);
-        output = record { counted = rw silent refl };
-        disk = same;
+  ran_unopened_dumps refusal read report same silent =
+      ran_unread device e (opening_all_plan files words.dumps) (λ (done : Unit {0}). behind) a b (length words.dumps) refusal read report same silent
+
+  -- they were: sources were given, the jobs took them, and they were closed again
+  module _ {S : Type 0} (state : S → SourceState) (firsts lasts : List S) (m : InputsState) (allows : (before : ℕ) → Allows (opening_all_plan files words.dumps before) (Returned tt)) (given : GaveSources a m (length words.dumps))
+      (are_new : AreNewSources state a words.dumps firsts) (took : TookSources state lasts m b) where
+    as_many : length firsts ≡ length words.dumps
+    as_many = new_sources_length state a words.dumps firsts are_new
+
+    closed : (failed : Bool) → UsedSources state firsts lasts failed → UsedInputs a b (length words.dumps) failed
+    closed failed used = used_sources state words.dumps firsts lasts failed a m b given are_new used took
+
+    over : (way : Way Progress ⊥) → UsedByWork (length firsts) firsts lasts (HaveUsedSources state firsts lasts) way → UsedInputs a b (sources_at way) (failed_at way OfInputs)
+    over way (inl before) =
+        subst (λ (n : ℕ). UsedInputs a b n (failed_at way OfInputs)) (sym (before.0 ∙ as_many))
+        (closed (failed_at way OfInputs) (subst (λ (l : List S). UsedSources state firsts l (failed_at way OfInputs)) (sym before.2) (subst (UsedSources state firsts firsts) (sym before.1) (unused_sources state firsts))))
+    over way (inr used) = subst (λ (n : ℕ). UsedInputs a b n (failed_at way OfInputs)) (sym (used.given ∙ as_many)) (closed (failed_at way OfInputs) used.used)
+
+    pub ran_loaded : RanWith device (opened_plan (length firsts) device e.disk (λ records. loading_plan (WhereSoundOn device e.disk) files next words text sheet)) e
+        (UsedByWork (length firsts) firsts lasts (HaveUsedSources state firsts lasts)) → RanOver device plan e a b
+    ran_loaded went = record {
+      ran = record {
+        way = went.ran.way;
+        allows = gave (map_done nothing_done opens) (λ (done : Unit {0}). behind) tt went.ran.way (allows_map_done nothing_done opens (Returned tt) (allows 0))
+            (subst (λ (n : ℕ). Allows (opened_plan n device e.disk (λ records. loading_plan (WhereSoundOn device e.disk) files next words text sheet)) went.ran.way) as_many went.ran.allows);
+        did = went.ran.did;
       };
-    };
-    inputs = used false counted;
-  }
-  ran_unfound X Missing refusal (inr is) missing used later counted report same silent = no_room (used false counted) (report ∙ ap (λ (r : Refusal). unopened (Some r)) is) same silent
-  ran_unfound X Failed refusal is missing used later counted report same silent = record {
-    ran = record {
-      way = Interrupted (nothing_done 0) OfInputs;
-      allows = inr (true, still_there X files words.dump missing, inl refl);
-      did = record {
-        report = report ∙ ap (λ (r : Refusal). unopened (Some r)) is;
-        printed = rw silent (no_text e.output.written);
-        output = record { counted = rw silent refl };
-        disk = same;
-      };
-    };
-    inputs = used true (risen_counted a.faults b.faults later counted);
-  }
-  ran_unfound X OutOfMemory refusal is missing used later counted report same silent = no_room (used false counted) (report ∙ ap (λ (r : Refusal). unopened (Some r)) is) same silent
-
-  -- ---- once it was: a source was given, a work took it, and it was closed again
-
-  module _ (there : IsThere files words.dump) {Source : Type 0} (state : Source → SourceState) (first last : Source)
-      (closed : (failed : Bool) → Counted failed (state first).faults (state last).faults → ((state first).never_fails → Stays (state first).faults (state last).faults) → UsedInputs a b 1 failed) where
-    abbrev opened : CommandPlan Progress ⊥
-    opened = opened_plan 1 device e.disk (λ Began. loading_plan Began files next words text sheet)
-
-    abbrev Used : Way Progress ⊥ → Type 0
-    Used way = UsedSource (state first) (state last) way
-
-    used_source : (way : Way Progress ⊥) → UsedByWork 1 first last Used way → Used way
-    used_source way (inl before) =
-        let same : (state last).faults ≡ (state first).faults = ap (λ (source : Source). (state source).faults) before.2 in
-        record { one = before.0; counted = rw before.1 same; reliable = λ never. same }
-    used_source way (inr used) = used
-
-    -- where there was no memory for its line the archive was looked for all the same, as far as the plan tells
-    loaded : (way : Way Progress ⊥) → Allows opened way → HasEffects device e way → Used way → RanOver device plan e a b
-    loaded way (inl none) did used =
-        let ended : EndedAt device e (nothing_done 1) (Some refused.OutOfMemory) (with_failed_call OfMemory no_failed_calls) = subst (HasEffects device e) none did in
-        let still : Counted false (state first).faults (state last).faults = subst (λ (w : Way Progress ⊥). Counted (failed_at w OfInputs) (state first).faults (state last).faults) none used.counted in
-        record {
-          ran = record {
-            way = Interrupted (archive_sought 1) OfMemory;
-            allows = inr (true, there, inr (inl refl));
-            did = record { report = ended.report; printed = ended.printed; output = ended.output; disk = sought_unasked device e.disk e.disk' ended.disk };
-          };
-          inputs = closed false still used.reliable;
-        }
-    loaded way (inr goes) did used = record {
-      ran = record { way = way; allows = inr (true, there, inr goes); did = did };
-      inputs = subst (λ (n : ℕ). UsedInputs a b n (failed_at way OfInputs)) (sym used.one) (closed (failed_at way OfInputs) used.counted used.reliable);
+      inputs = over went.ran.way went.used;
     }
 
-    pub ran_loaded : RanWith device opened e (UsedByWork 1 first last Used) → RanOver device plan e a b
-    ran_loaded went = loaded went.ran.way went.ran.allows went.ran.did (used_source went.ran.way went.used)
+-- ---- too many dumps or fillers
+
+module _ {D : Type 0} (device : Device D) (e : Effects D) (files : Option Files) (next : Option ℤ) (words : LoadWords) (a b : InputsState) where
+  pub ran_limited : (refusal : Refusal) → load_limit_refusal words ≡ Some refusal → e.report ≡ unopened (Some refusal) → e.disk' ≡ e.disk → e.output' ≡ e.output
+      → RanOver device (load_plan device e.disk files next words) e a a
+  unfolding load_plan
+  ran_limited refusal is report same silent = record {
+    ran = record {
+      way = Stopped (nothing_done 0) (Some refusal);
+      allows = (Some refusal, sym is, refl);
+      did = record { report = report; printed = rw silent (no_text e.output.written); output = record { counted = rw silent refl }; disk = same; log = tt; pending = tt };
+    };
+    inputs = inputs_unused a;
+  }
+
+  pub ran_unlimited : load_limit_refusal words ≡ None → RanOver device (read_load_plan device e.disk files next words) e a b → RanOver device (load_plan device e.disk files next words) e a b
+  unfolding load_plan
+  ran_unlimited none went = record { ran = record { way = went.ran.way; allows = (None, sym none, went.ran.allows); did = went.ran.did }; inputs = went.inputs }
 
 -- ---- which answer is due
 
-session_determined : (is : ℕ → Type 0) (filled : FilledArchive) (r : Receiving) (asks : List Ask) (dump : List ℕ) → IsDetermined (session_plan is filled r asks dump)
-session_determined is filled r asks dump = λ s h. each s s.refusal
+jobs_determined : (dumps : ℕ) (filled : FilledArchive) (asks : List Ask) (c : JobsOutcome) (told : Option Told) (failed : Option Addition) → IsDetermined (after_jobs dumps filled asks c told failed)
+jobs_determined dumps filled asks c None failed =
+    filling_determined (λ full. Unit {0}) filled c.reached (history_extended dumps filled None c) (load_printing_plan dumps filled asks c) (printing asks)
   where
-    printing : (asks : List Ask) (s : SessionResult) → IsDetermined (load_printing_plan filled r asks s)
-    printing [] s = tt
-    printing (ask ∷ asks) s = tt
+    printing : (asks : List Ask) → IsDetermined (load_printing_plan dumps filled asks c)
+    printing [] = tt
+    printing (ask ∷ asks) = tt
+jobs_determined dumps filled asks c (Some told) None = λ end is. tt
+jobs_determined dumps filled asks c (Some told) (Some addition) = tt
 
-    whole : (s : SessionResult) (rest : Option Refusal) → IsDetermined (after_packets is filled r asks s rest)
-    whole s None =
-        filling_determined (IsRecordedBehind is filled.plain.history s.reached) filled s.reached (length (late_behind filled s)) (history_extended filled None s)
-        (load_printing_plan filled r asks s) (printing asks s)
-    whole s (Some refusal) = λ end h. tt
+module _ (Where : Type 0 → Type 0) (files : Option Files) (next : Option ℤ) (words : LoadWords) (sheet : Result (List Ask) Refusal) (filled : FilledArchive) where
+  routed_determined : (route : List RouteStatement) → IsDetermined (after_route Where files next words sheet filled route)
+  routed_determined route =
+      determined (asks_check_plan (archive_opened (length words.dumps) filled) filled.plain sheet) (jobs_plan Where files next words filled route) (check_determined (archive_opened (length words.dumps) filled) filled.plain sheet)
+      (λ asks g given c came. jobs_determined (length words.dumps) filled asks c (told_of words.link c.ends c.others) c.failed)
 
-    each : (s : SessionResult) (refusal : Option Refusal) → IsDetermined (after_session is filled r asks dump s refusal)
-    each s None = whole s (ending_of_rest dump s.rest)
-    each s (Some refused.DiskFault) = tt
-    each s (Some other) = λ end h. tt
-
-module _ (Began : ℕ → Type 0) (all : Files) (next : Option ℤ) (words : LoadWords) where
-  dump_determined : (filled : FilledArchive) (route : List RouteStatement) (asks : List Ask) (read : InputRead (List ℕ)) → IsDetermined (after_dump Began next words.link filled route asks read)
-  dump_determined filled route asks OverLimit = tt
-  dump_determined filled route asks (WithinLimit dump) = λ moment h. session_determined Began filled (receiving filled.plain.head filled.plain.history route words.link moment) asks dump
-
-  routed_determined : IsThere (Some all) words.dump → (sheet : Result (List Ask) Refusal) (filled : FilledArchive) (route : List RouteStatement) →
-      IsDetermined (after_route Began (Some all) next words sheet filled route)
-  routed_determined there sheet filled route =
-      determined (asks_check_plan (archive_opened 1 filled) filled.plain sheet) (reading_plan Began (Some all) next words filled route) (check_determined (archive_opened 1 filled) filled.plain sheet)
-      (λ asks. (((reads_determined DumpOctets (λ octets. octets) all words.dump 0).1 true there).0, λ read h. dump_determined filled route asks read))
-
-  loading_determined : IsThere (Some all) words.dump → (text : Option (List ℕ)) (sheet : Result (List Ask) Refusal) (filled : FilledArchive) →
-      IsDetermined (loading_plan Began (Some all) next words text sheet filled)
-  loading_determined there text sheet filled = (λ a b h k. h ∙ sym k, λ found h. each found)
+  loading_determined : (text : Option (List ℕ)) → IsDetermined (loading_plan Where files next words text sheet filled)
+  loading_determined text = (λ a b h k. h ∙ sym k, λ found h. each found)
     where
-      each : (found : Option Refusal) → IsDetermined (after_link Began (Some all) next words text sheet filled found)
+      each : (found : Option Refusal) → IsDetermined (after_links Where files next words text sheet filled found)
       each None =
-          determined (route_plan (archive_opened 1 filled) filled.plain text) (after_route Began (Some all) next words sheet filled) (route_determined (archive_opened 1 filled) filled.plain text)
-          (routed_determined there sheet filled)
+          determined (route_plan (archive_opened (length words.dumps) filled) filled.plain text) (after_route Where files next words sheet filled) (route_determined (archive_opened (length words.dumps) filled) filled.plain text)
+          routed_determined
       each (Some refusal) = tt
 
 pub load_determined : {D : Type 0} (device : Device D) (disk : D) (files : Option Files) (next : Option ℤ) (words : LoadWords) → IsTrue device.is_transparent → IsSome files
     → IsDetermined (load_plan device disk files next words)
 unfolding load_plan
 load_determined device disk None next words known some = absurd (cc (some))
-load_determined device disk (Some all) next words known some =
-    route_read_determined all words.route (routed_load_plan device disk (Some all) next words)
-    (λ text. asked_determined all words.asks (archive_load_plan device disk (Some all) next words text)
-    (λ sheet. ((reads_determined DumpOctets (λ octets. octets) all words.dump 0).0, λ there h. each text sheet there h)))
+load_determined device disk (Some all) next words known some = (λ a b h k. h ∙ sym k, λ found h. each found)
   where
-    each : (text : Option (List ℕ)) (sheet : Result (List Ask) Refusal) (there : Bool) → IsThereAs (Some all) words.dump there →
-        IsDetermined (after_dump_found device disk (Some all) next words text sheet there)
-    each text sheet true h = determined (opening_plan 1 device disk) (loading_plan (IsRecordCount device disk) (Some all) next words text sheet) (opens_determined 1 device disk known)
-        (loading_determined (IsRecordCount device disk) all next words h text sheet)
-    each text sheet false h = tt
+    archived : (text : Option (List ℕ)) (sheet : Result (List Ask) Refusal) → IsDetermined (archive_load_plan device disk (Some all) next words text sheet)
+    archived text sheet =
+        determined (map_done nothing_done (opening_all_plan (Some all) words.dumps 0)) (λ (done : Unit {0}). opened_plan (length words.dumps) device disk (λ records. loading_plan (WhereSoundOn device disk) (Some all) next words text sheet))
+        (determined_map_done nothing_done (opening_all_plan (Some all) words.dumps 0) (opening_all_determined all words.dumps 0))
+        (λ done. determined (opening_plan (length words.dumps) device disk) (loading_plan (WhereSoundOn device disk) (Some all) next words text sheet) (opens_determined (length words.dumps) device disk known)
+        (λ filled. loading_determined (WhereSoundOn device disk) (Some all) next words sheet filled text))
+
+    each : (found : Option Refusal) → IsDetermined (after_limits device disk (Some all) next words found)
+    each None =
+        route_read_determined all words.route (routed_load_plan device disk (Some all) next words)
+        (λ text. asked_determined all words.asks (archive_load_plan device disk (Some all) next words text) (archived text))
+    each (Some refusal) = tt

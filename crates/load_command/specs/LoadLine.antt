@@ -1,14 +1,11 @@
 -- What `load` prints and reports.
 use Rattle.std.specs.Prelude.{◌-◌, ℕ, List, ◌++◌, length, codes, decimal, None}
 use Rattle.asks.specs.declared.ask.Ask.{Ask}
-use Rattle.history_items.specs.declared.items.Item.{Item}
 use Rattle.history_items.specs.Items.{rows_in}
-use Rattle.archive_store.specs.Entries.{filled_archive}
-use Rattle.param_segments.specs.Rows.{SetRow}
-use Rattle.store_fills.specs.Sound.{Fillings}
+use Rattle.archive_store.specs.Entries.{Archive}
 use Rattle.command_runs.specs.declared.report.Report.{Report}
-use Rattle.load_session.specs.Receiving.{Receiving, arrived, rows_received}
-use Rattle.ask_answers.specs.Asks.{archive_asks_text}
+use Rattle.live_session.specs.Outcome.{JobsOutcome, counts_of}
+use Rattle.ask_answers.specs.Kept.{kept_answers_text}
 use Rattle.command_runs.specs.Report.{loaded}
 
 -- the last line of a load: how many packets there were, how many rows are new, were there or are of idle packets, and
@@ -19,23 +16,20 @@ load_line packets new duplicates idle rows =
     ++ (codes " duplicates " ++ decimal duplicates ++ codes " idle " ++ decimal idle)
     ++ (codes " rows " ++ decimal rows ++ codes "\n")
 
--- The line of a load that ingested all packets of its dump. The rows that they are, one for each packet and table, are
--- new or were there.
-abbrev pub line_of_load : Receiving → ℕ → List Item → List (List ℕ) → List ℕ
-line_of_load r before reached packets =
-    let new = length reached - before in
-    load_line (length packets) new (length (rows_received r packets) - new) (length packets - arrived packets)
-    (length (rows_in reached))
+-- The line of a load that ingested all packets of its dumps, behind so many items. The rows that they are, one for each
+-- packet and table, are new or were there.
+abbrev pub line_of_load : ℕ → JobsOutcome → List ℕ
+line_of_load before c =
+    let counts = counts_of c.ends in
+    let new = length c.reached - before in
+    load_line counts.packets new (counts.routed - new) counts.idle (length (rows_in c.reached))
 
--- all that such a load prints: the answers to its asks over the history that it reached and the fills that are there
--- then, and its line
-abbrev pub load_text : Receiving → ℕ → List Ask → Fillings (List SetRow) → ℕ → List Item → List (List ℕ) → List ℕ
-load_text r exponent asks fillings before reached packets =
-    archive_asks_text (filled_archive r.head exponent reached fillings) 1 asks
-    ++ line_of_load r before reached packets
+-- all that such a load prints: the answers that its jobs gave to asks of an archive, and its line
+abbrev pub load_text : Archive → List Ask → JobsOutcome → List ℕ
+load_text archive asks c = kept_answers_text archive 1 asks c.answers ++ line_of_load (length archive.history) c
 
--- the report of a load that ingested all packets of its dump, and printed so
-abbrev pub whole_report : Receiving → ℕ → ℕ → List (List ℕ) → Report
-whole_report r before reached packets =
-    loaded None None before reached (length packets) (length (rows_received r packets) - (reached - before))
-    (length packets - arrived packets)
+-- the report of such a load, whose text was printed
+abbrev pub whole_report : ℕ → JobsOutcome → Report
+whole_report before c =
+    let counts = counts_of c.ends in
+    loaded None None before (length c.reached) counts.packets (counts.routed - (length c.reached - before)) counts.idle

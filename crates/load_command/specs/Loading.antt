@@ -1,40 +1,39 @@
--- The steps of a load: how its asks are checked and its dump is read, and what is told and reported of its session.
-use Rattle.std.specs.Prelude.{◌≡◌, ◌⊎◌, ◌<◌, ◌≤◌, ◌-◌, ℕ, ℤ, List, length, Option, Some, None, IfSome, Result, Ok, Err, nat_lt, if◌then◌else◌}
+-- The steps of a load: how its asks are checked, what its jobs are given, and what is told and reported of them.
+use Rattle.std.specs.Prelude.{◌≡◌, ◌⊎◌, ◌≤◌, ◌-◌, ℕ, ℤ, List, length, map, Bool, true, false, Option, Some, None, Result, Ok, Err}
+use Rattle.std.specs.FinMap.{get}
+use Rattle.std.specs.List.{list_any}
 use Rattle.asks.specs.declared.ask.Ask.{Ask}
 use Rattle.refusals.specs.declared.refusal.Refusal.{Refusal}
-use Rattle.refusals.specs.declared.refusal.Refusal.TheVariants as refused
-use Rattle.refusals.specs.declared.refusal.Which.TheVariants.{DumpOctets, Links}
-use Rattle.refusals.specs.Limits.{limit_of}
-use Rattle.outer_traits.specs.declared.whole.ReadFault.{ReadFault}
-use Rattle.outer_traits.specs.declared.whole.ReadFault.TheVariants as faulted
-use Rattle.outer_traits.specs.Outside.{Files, IsLeftAtFirst, Stays}
+use Rattle.refusals.specs.declared.refusal.Refusal.TheVariants.{Limit, NeedsReopen}
+use Rattle.refusals.specs.declared.refusal.Which.TheVariants.{Records}
+use Rattle.outer_traits.specs.Outside.{Files}
 use Rattle.outer_traits.specs.States.{SourceState}
-use Rattle.archive_store.specs.Entries.{Archive}
-use Rattle.mdb_sheets.specs.Sheets.{ReadsCounted}
+use Rattle.history_items.specs.declared.fills.Addition.{Addition}
+use Rattle.history_items.specs.declared.fills.Addition.TheVariants.{Rows}
+use Rattle.history_items.specs.declared.items.Item.{Item}
+use Rattle.archive_store.specs.Entries.{Archive, FilledArchive}
 use Rattle.ask_answers.specs.Asks.{AreAnswerable, AreRefused}
-use Rattle.text_forms.specs.ClockTime.{IsClockTime}
 use Rattle.command_words.specs.Job.{LoadWords}
-use Rattle.command_plans.specs.Ledger.{Counted}
-use Rattle.command_plans.specs.Plan.{OfInputs, Way}
-use Rattle.command_runs.specs.Command.{Progress, failed_at, sources_at}
+use Rattle.command_words.specs.LoadLimits.{links_refusal}
+use Rattle.command_plans.specs.Plan.{FailedCalls, OfInputs, Way}
+use Rattle.command_plans.specs.Sources.{UsedSources}
+use Rattle.command_runs.specs.Command.{DiskOutcome, ExtensionFailed, FillingFailed, Progress, failed_at, sources_at}
 use Rattle.command_runs.specs.Moment.{IsMomentOf}
 use Rattle.command_runs.specs.declared.report.Report.{Report}
-use Rattle.load_session.specs.declared.session.DumpSummary.{DumpSummary}
-pub use Rattle.command_plans.specs.Reading.{IsOpeningFault}
 use Rattle.command_runs.specs.Report.{loaded}
+use Rattle.live_session.specs.Jobs.{Given}
+use Rattle.live_session.specs.declared.told.Told.{Told}
+use Rattle.load_jobs.specs.declared.ending.LinkEnd.{LinkEnd}
+use Rattle.load_jobs.specs.declared.ending.LinkEnd.TheVariants.{Unread}
+use Rattle.retrieval.specs.FoundAsks.{AreFound, asks_found}
 use Rattle.script_answers.specs.Scripts.{IsScriptAnswer, OrNoMemory}
 use Rattle.script_answers.specs.Statements.{packet_names}
 use Rattle.ssql_types.specs.declared.place.ScriptPlace.TheVariants as ScriptPlace
 use Rattle.ssql_types.specs.declared.statement.TypedStatement.{TypedStatement}
 use Rattle.stream_graph.specs.declared.statement.RouteStatement.{RouteStatement}
 use Rattle.stream_graph.specs.Routes.{every_packet_route, route_statements}
-use Rattle.command_runs.specs.DumpRest.{dump_limit, ending_of}
 
--- ---- before the dump is read
-
--- why there's no link of a number
-abbrev pub link_refusal : ℕ → Option Refusal
-link_refusal link = if nat_lt (limit_of Links) link then Some (refused.Limit Links (limit_of Links)) else None
+-- ---- before the jobs
 
 -- what a script of a route stands for over the tables and the packet names of an archive
 abbrev pub IsRouteScript : Archive → List ℕ → Result (List TypedStatement) Refusal → Type 0
@@ -49,75 +48,88 @@ IsRouteAnswer archive (Some text) (Ok route) =
     (script : List TypedStatement) × IsRouteScript archive text (Ok script) × (route ≡ route_statements script)
 IsRouteAnswer archive (Some text) (Err refusal) = IsRouteScript archive text (Err refusal)
 
--- what a load was asked beside its dump: the text of a route, if there is one, a sheet of asks, and a link
+-- what a load was asked by its words, the text of its route, if there is one, and its sheet of asks
 pub record LoadAsked : Type 0 where
+  pub words : LoadWords
   pub text : Option (List ℕ)
   pub sheet : Result (List Ask) Refusal
-  pub link : ℕ
 
 -- that was asked
-abbrev pub load_asked : Option (List ℕ) → Result (List Ask) Refusal → ℕ → LoadAsked
-load_asked text sheet link = record { text = text; sheet = sheet; link = link }
+abbrev pub load_asked : LoadWords → Option (List ℕ) → Result (List Ask) Refusal → LoadAsked
+load_asked words text sheet = record { words = words; text = text; sheet = sheet }
 
--- the link, the route and the asks are none that is refused
+-- the links, the route and the asks are none that is refused
 abbrev pub IsReady : Archive → LoadAsked → List RouteStatement → List Ask → Type 0
 IsReady archive asked route asks =
-    (link_refusal asked.link ≡ None) × IsRouteAnswer archive asked.text (Ok route)
+    (links_refusal asked.words ≡ None) × IsRouteAnswer archive asked.text (Ok route)
     × AreAnswerable archive asked.sheet asks
 
--- the link is refused, or else the route, or else the sheet of asks
+-- the route is refused, or else the sheet of asks
+abbrev pub IsRouteOrSheetRefused : Archive → Option (List ℕ) → Result (List Ask) Refusal → Refusal → Type 0
+IsRouteOrSheetRefused archive text sheet refusal =
+    OrNoMemory (IsRouteAnswer archive text) (Err refusal)
+    ⊎ ((route : List RouteStatement) × IsRouteAnswer archive text (Ok route) × AreRefused archive sheet refusal)
+
+-- a link is refused, or else one of these
 abbrev pub IsUnready : Archive → LoadAsked → Refusal → Type 0
 IsUnready archive asked refusal =
-    (link_refusal asked.link ≡ Some refusal)
-    ⊎ (((link_refusal asked.link ≡ None) × OrNoMemory (IsRouteAnswer archive asked.text) (Err refusal))
-    ⊎ ((link_refusal asked.link ≡ None)
-    × ((route : List RouteStatement) × IsRouteAnswer archive asked.text (Ok route)
-    × AreRefused archive asked.sheet refusal)))
+    (links_refusal asked.words ≡ Some refusal)
+    ⊎ ((links_refusal asked.words ≡ None) × IsRouteOrSheetRefused archive asked.text asked.sheet refusal)
 
--- ---- the dump
+-- ---- the jobs
 
--- why a dump wasn't read to its end, and the link that is named with it: the dump is too long, a call failed, or there
--- was no memory
-abbrev pub IsDumpRefusal : Option (List ℕ) → ℕ → Refusal → Option ℕ → Type 0
-IsDumpRefusal left number (refused.Limit DumpOctets most) link =
-    (most ≡ dump_limit) × (link ≡ Some number) × IfSome left (λ octets. most < length octets)
-IsDumpRefusal left number refused.ReadFault link = link ≡ None
-IsDumpRefusal left number refused.OutOfMemory link = link ≡ None
-IsDumpRefusal left number other link = ⊥
+-- the octets of a dump, where the inputs are known
+abbrev pub dump_of : Option Files → List ℕ → Option (List ℕ)
+dump_of None name = None
+dump_of (Some all) name = get all name
 
--- Why nothing was ingested: the link, the route or the sheet of asks is refused, and nothing was read of the dump; or
--- the dump wasn't read to its end.
-abbrev pub IsNotReceived : Archive → LoadAsked → SourceState → SourceState → Refusal → Option ℕ → Type 0
-IsNotReceived archive asked old new refusal link =
-    (IsUnready archive asked refusal × (link ≡ None) × Stays old.faults new.faults)
-    ⊎ ((route : List RouteStatement) × (asks : List Ask) × IsReady archive asked route asks
-    × IsDumpRefusal old.left asked.link refusal link
-    × ReadsCounted (Some refusal) old.faults new.faults)
+-- those of dumps
+abbrev pub dumps_of : Option Files → List (List ℕ) → List (Option (List ℕ))
+dumps_of files names = map (dump_of files) names
 
--- the same of a fault of reading
-abbrev pub IsDumpRefusalFor : ReadFault → ℕ → Refusal → Option ℕ → Type 0
-IsDumpRefusalFor faulted.Failed number refusal link = (refusal ≡ refused.ReadFault) × (link ≡ None)
-IsDumpRefusalFor faulted.TooLong number refusal link =
-    (refusal ≡ refused.Limit DumpOctets dump_limit) × (link ≡ Some number)
-IsDumpRefusalFor other number refusal link = (refusal ≡ refused.OutOfMemory) × (link ≡ None)
-
--- A load may begin with a source: that has what the input of the dump's name has, the clock told the moment at which its
--- packets are received, and links are numbered from 1.
-pub record MayLoad (files : Option Files) (next : Option ℤ) (words : LoadWords) (moment : ℤ) (source : SourceState)
+-- the jobs are given the head of an archive, this route, the moment that the clock tells, and these asks, as they were
+-- found in it
+pub record IsGiven (archive : Archive) (next : Option ℤ) (route : List RouteStatement) (asks : List Ask) (g : Given)
     : Type 0 where
-  pub dump : IsLeftAtFirst files words.dump source.left
-  pub told : IsMomentOf next moment
-  pub clock : IsClockTime moment
-  pub link : 1 ≤ words.link
+  pub head : g.head ≡ archive.head
+  pub route_is : g.route ≡ route
+  pub moment : IsMomentOf next g.moment
+  pub found : AreFound archive.head archive.history g.asks
+  pub asked : asks_found g.asks ≡ asks
 
--- what a load did to the one source that was given for it, by the way that it took: it was read from, and failed where
--- the way ended by that
-pub record UsedSource (old new : SourceState) (way : Way Progress ⊥) : Type 0 where
-  pub one : sources_at way ≡ 1
-  pub counted : Counted (failed_at way OfInputs) old.faults new.faults
-  pub reliable : old.never_fails → Stays old.faults new.faults
+-- a read of a link's source failed
+abbrev pub is_unread : LinkEnd → Bool
+is_unread Unread = true
+is_unread other = false
 
--- ---- the session
+-- which calls failed of the outside while links read their dumps
+abbrev pub failed_reads : List LinkEnd → FailedCalls
+failed_reads ends OfInputs = list_any is_unread ends
+failed_reads ends other = false
+
+-- what became of the disk of an archive that was extended to this, where a write failed that was to add rows, or a fill
+abbrev pub outcome_of_failure : FilledArchive → List Item → Addition → DiskOutcome
+outcome_of_failure filled reached (Rows rows) = ExtensionFailed filled reached rows
+outcome_of_failure filled reached other = FillingFailed filled reached
+
+-- what is said of the log behind a refusal by its limit, where so many rows came
+abbrev pub log_behind : Refusal → ℕ → Option ℕ
+log_behind (Limit Records number) new = Some new
+log_behind other new = None
+
+-- what is said of the disk's count of faults behind a refusal that tells one
+abbrev pub pending_behind : Refusal → Option ℕ
+pending_behind (NeedsReopen faults) = Some faults
+pending_behind other = None
+
+-- What was done to the sources of dumps, by the way that a load took behind their opening: each was given, and some failed
+-- where the way says so.
+pub record HaveUsedSources {S : Type 0} (state : S → SourceState) (olds news : List S) (way : Way Progress ⊥)
+    : Type 0 where
+  pub given : sources_at way ≡ length olds
+  pub used : UsedSources state olds news (failed_at way OfInputs)
+
+-- ---- what is told and reported
 
 -- the report of a load whose line was printed, or not
 abbrev pub printed_report : Option Refusal → ℕ → ℕ → ℕ → ℕ → ℕ → Report
@@ -125,15 +137,12 @@ printed_report None before after packets routed idle =
     loaded None None before after packets (routed - (after - before)) idle
 printed_report (Some refusal) before after packets routed idle = loaded (Some refusal) None before after 0 0 0
 
--- What is told of a load: the refusal of its session; else that of the rest of its dump, by which the link is named; else
--- that of the filling. Where none of these is, the dump is a whole one.
-abbrev pub IsTold : Result DumpSummary Refusal → Result ℕ Refusal → ℕ → Refusal → Option ℕ → Type 0
-IsTold (Err refused) filled number refusal link = (refusal ≡ refused) × (link ≡ None)
-IsTold (Ok whole) filled number refusal link =
-    ((ending_of whole.why whole.at ≡ Some refusal) × (link ≡ Some number))
-    ⊎ ((ending_of whole.why whole.at ≡ None) × (filled ≡ Err refusal) × (link ≡ None))
+-- What is told of a load: what is told of its jobs, and where none was refused, why what was late still isn't filled.
+abbrev pub IsTold : Option Told → Result ℕ Refusal → Told → Type 0
+IsTold (Some told) filled one = one ≡ told
+IsTold None filled one = (filled ≡ Err one.refusal) × (one.link ≡ None)
 
--- none is refused, and the dump is a whole one
-abbrev pub IsWholeDump : Result DumpSummary Refusal → Result ℕ Refusal → DumpSummary → Type 0
-IsWholeDump ended filled whole =
-    (ended ≡ Ok whole) × (ending_of whole.why whole.at ≡ None) × ((late : ℕ) × (filled ≡ Ok late))
+-- nothing is: no job was refused, and each late interval is filled
+abbrev pub IsNothingTold : Option Told → Result ℕ Refusal → Type 0
+IsNothingTold (Some told) filled = ⊥
+IsNothingTold None filled = (late : ℕ) × (filled ≡ Ok late)

@@ -1,6 +1,6 @@
 use Rattle.std.specs.Prelude.{codes, decimal}
 use Rattle.load_command.proofs.LoadReports.{six_put}
-use Rattle.load_command.proofs.load.put_line.Goals as goal
+use Rattle.load_command.proofs.running.put_line.Goals as goal
 
 pub returns : goal.returns
 returns c =

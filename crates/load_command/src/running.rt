@@ -1,0 +1,208 @@
+//! The jobs of a load, what is filled behind them, and what is printed.
+
+ghost use Rattle.std.specs.Prelude.{◌≡◌, ◌<◌, ◌≤◌, ◌+◌, ◌-◌, ◌++◌, ℤ, Option as AnOption, [], IfNone, IfSome, None, OnErr, Some, length};
+ghost use Rattle.refusals.specs.Limits.{limit_of};
+ghost use Rattle.outer_traits.specs.Outside.{Files};
+ghost use Rattle.text_forms.specs.ClockTime.{IsClockTime};
+ghost use Rattle.history_items.specs.Items.{rows_in};
+ghost use Rattle.line_buffer.specs.LineRoom.{HasLineRoom};
+ghost use Rattle.line_buffer.specs.Printed.{PrintsText};
+ghost use Rattle.retrieval.specs.FoundAsks.{AreFound, asks_found};
+ghost use Rattle.ask_answers.specs.Asks.{ArePrinted};
+ghost use Rattle.ask_answers.specs.Kept.{AreAnswersTo, kept_answers_text};
+ghost use Rattle.command_words.specs.Job.{AreLoadWords};
+ghost use Rattle.command_words.specs.JobView.{load_words_of};
+ghost use Rattle.command_words.specs.LoadLimits.{links_refusal, load_limit_refusal};
+ghost use Rattle.command_runs.specs.ArchiveWork.{RanWith};
+ghost use Rattle.command_runs.specs.Command.{effects_of};
+ghost use Rattle.command_runs.specs.Healing.{TriesToHeal};
+ghost use Rattle.command_runs.specs.Moment.{IsMomentOf};
+ghost use Rattle.command_runs.specs.Opened.{IsOpenedOn, WasOpened};
+ghost use Rattle.command_runs.specs.Report.{loaded};
+ghost use Rattle.archive_store.specs.Keeping.{IsKept};
+ghost use Rattle.archive_store.specs.StoreView.{StoreView, archive_of, filled_of};
+ghost use Rattle.live_session.specs.Outcome.{lefts_of};
+ghost use Rattle.load_session.specs.Receiving.{IsRouteOver};
+ghost use Rattle.load_command.specs.Load.{WhereSoundOn, jobs_plan};
+ghost use Rattle.load_command.specs.LoadLine.{load_line};
+ghost use Rattle.load_command.specs.Loading.{HaveUsedSources, IsNothingTold, IsTold, dumps_of, printed_report};
+
+use arch_disk::Disk;
+use archive_store::Store;
+use ask_answers::kept::print_kept_answers;
+use command_runs::finishing::finish;
+use command_runs::report::{LoadCounts, Report};
+use command_words::job::LoadWords;
+use line_buffer::LineBuffer;
+use live_asks::AskAnswer;
+use live_session::{DumpCounts, LoadJob, Loaded, Told, load};
+use load_session::fill_late;
+use outer_traits::gate::Gate;
+use outer_traits::sink::Sink;
+use outer_traits::source::Source;
+use refusals::Refusal;
+use retrieval::found_asks::{FoundAsk, FoundAsks};
+use std::alloc::Global;
+use std::sync::Wait;
+use std::thread::Threads;
+use stream_graph::graph::Graph;
+
+/// Runs the jobs of a load over an archive, and fills what is late behind them whatever they came to. Then it prints the answers to the asks and what became
+/// of the packets, or tells why not. A write that failed stays pending: what comes behind takes it back.
+pub(crate) fn run_jobs<
+    D: Disk + Send,
+    S: Source + Send + Drop,
+    K: Sink,
+    G: Gate + Sync,
+    R: Threads + Wait + Sync,
+>(
+    rt: &R,
+    alloc: Global,
+    words: &LoadWords<'_>,
+    graph: Graph,
+    asks: FoundAsks,
+    moment: i64,
+    sources: Vec<S>,
+    store: Store<D>,
+    line_buffer: LineBuffer,
+    sink: &mut K,
+    gate: &G,
+) -> (Store<D>, Vec<S>, Report)
+    requires words { AreLoadWords (load_words_of words.now) }
+    requires few { load_limit_refusal (load_words_of words.now) ≡ None }
+    requires links { links_refusal (load_words_of words.now) ≡ None }
+    requires dumps { length sources.items ≡ length (load_words_of words.now).dumps }
+    requires moment { IsClockTime moment }
+    requires found { AreFound store.head store.history asks }
+    requires route { IsRouteOver store.head graph }
+    requires empty { line_buffer ≡ [] }
+    requires opened { WasOpened D.device store }
+
+    // Whichever disk it was opened on, and whatever taking a failed write back leaves: it took a way through the plan of the
+    // jobs, and did what is said where that ends. What a store keeps is given.
+    ensures { (disk : D) (healed : StoreView D) (files : AnOption Files) (next : AnOption ℤ) →
+        IsOpenedOn D.device disk store → TriesToHeal D.device result.0 healed → IsKept D.device healed →
+        lefts_of S.state sources.items ≡ dumps_of files (load_words_of words.now).dumps → IsMomentOf next moment →
+        RanWith D.device (jobs_plan (WhereSoundOn D.device disk) files next (load_words_of words.now) (filled_of store) graph
+        (asks_found asks)) (effects_of disk healed.disk (K.state sink.old) (K.state sink.new) result.2)
+        (HaveUsedSources S.state sources.items result.1.items) }
+{
+    store.is_kept();
+    let before = store.front();
+    let job = LoadJob {
+        moment,
+        link: words.link as u16,
+        sources,
+        graph,
+        fillers: words.fillers as usize,
+    };
+    let Loaded {
+        mut store,
+        sources,
+        told,
+        counts,
+        answers,
+    } = load(rt, alloc, store, job, asks.as_slice(), gate);
+    let filled = fill_late(alloc, &mut store);
+    match told_of_load(told, filled) {
+        None => {
+            let report = print(
+                alloc,
+                &store,
+                before,
+                counts,
+                asks.as_slice(),
+                answers.as_slice(),
+                line_buffer,
+                sink,
+            );
+            (store, sources, report)
+        }
+        Some(told) => {
+            let report = stopped(before, store.front(), told.link, told.refusal);
+            (store, sources, report)
+        }
+    }
+}
+
+/// What is told of a load: what is told of its jobs, and where that is nothing, why what was late still isn't filled.
+fn told_of_load(told: Option<Told>, filled: Result<u64, Refusal>) -> Option<Told>
+    ensures told { IfSome result (IsTold told filled) }
+    ensures nothing { IfNone result (IsNothingTold told filled) }
+{
+    match told {
+        Some(told) => Some(told),
+        None => match filled {
+            Ok(_) => None,
+            Err(refusal) => Some(Told {
+                refusal,
+                link: None,
+            }),
+        },
+    }
+}
+
+/// The report of a load that was refused behind its jobs, by the lengths of the history before and after.
+fn stopped(before: u64, after: u64, link: Option<u16>, refusal: Refusal) -> Report
+    requires { before ≤ after }
+    ensures { result ≡ loaded (Some refusal) link before after 0 0 0 }
+{
+    let counts = LoadCounts::default();
+    Report::loaded(Some(refusal), link, before, after, counts)
+}
+
+/// Prints the answers that readers gave to asks, and what became of the packets of whole dumps.
+fn print<D: Disk, K: Sink>(
+    alloc: Global,
+    store: &Store<D>,
+    before: u64,
+    dumps: DumpCounts,
+    asks: &[FoundAsk],
+    answers: &[AskAnswer],
+    line_buffer: LineBuffer,
+    sink: &mut K,
+) -> Report
+    requires found { AreFound store.now.head store.now.history asks.now }
+    requires answered { AreAnswersTo (asks_found asks.now) answers.now }
+    requires empty { line_buffer ≡ [] }
+    requires grown { before ≤ length store.now.history }
+    requires counts { length store.now.history ≤ before + dumps.routed }
+    ensures printed { ArePrinted (asks_found asks.now) result.refusal (K.state sink.old) (K.state sink.new)
+        (kept_answers_text (archive_of store.now) 1 (asks_found asks.now) answers.now ++ load_line dumps.packets
+        (length store.now.history - before) (dumps.routed - (length store.now.history - before)) dumps.idle
+        (length (rows_in store.now.history))) }
+    ensures report { result ≡ printed_report result.refusal before (length store.now.history) dumps.packets dumps.routed
+        dumps.idle }
+{
+    let mut line_buffer = line_buffer;
+    let after = store.front();
+    let rows = store.row_count();
+    let counts = LoadCounts {
+        packets: dumps.packets,
+        duplicates: dumps.routed - (after - before),
+        idle: dumps.idle,
+    };
+    match print_kept_answers(alloc, asks, answers, store, &mut line_buffer, sink) {
+        Ok(()) => {
+            put_line(&mut line_buffer, counts, after - before, rows);
+            match finish(line_buffer, sink) {
+                None => Report::loaded(None, None, before, after, counts),
+                Some(refusal) => stopped(before, after, None, refusal),
+            }
+        }
+        Err(fault) => stopped(before, after, None, Refusal::from(fault)),
+    }
+}
+
+/// Adds the last line.
+fn put_line(line_buffer: &mut LineBuffer, counts: LoadCounts, new: u64, rows: u64)
+    requires { HasLineRoom line_buffer.old }
+    ensures { line_buffer.new ≡ line_buffer.old ++ load_line counts.packets new counts.duplicates counts.idle rows }
+{
+    line_buffer.put_number(b"load packets ", counts.packets);
+    line_buffer.put_number(b" new ", new);
+    line_buffer.put_number(b" duplicates ", counts.duplicates);
+    line_buffer.put_number(b" idle ", counts.idle);
+    line_buffer.put_number(b" rows ", rows);
+    line_buffer.put(b"\n");
+}
