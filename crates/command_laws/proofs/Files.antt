@@ -1,5 +1,5 @@
 -- A file of a name has one content, and is read in one way.
-use Rattle.std.proofs.Common.{◌≡◌, ◌∙◌, ℕ, List, Option, Some, None, sym, ap}
+use Rattle.std.proofs.Common.{◌≡◌, ◌∙◌, ℕ, List, [], ◌∷◌, ◌++◌, Option, Some, None, sym, ap}
 use Rattle.std.specs.Prelude.{Result, Ok, Err}
 use Rattle.std.specs.FinMap.{get}
 use Rattle.asks.specs.declared.ask.Ask.{Ask}
@@ -9,7 +9,10 @@ use Rattle.mdb_sheets.specs.Sheets.{Fields, sheet_of}
 use Rattle.outer_traits.specs.Outside.{Files}
 use Rattle.refusals.specs.declared.refusal.Refusal.{Refusal}
 use Rattle.refusals.specs.declared.refusal.Which.{Which}
-use Rattle.command_laws.specs.NamedFiles.{HasAsksSheet, HasFile, HasScript, HasSheet, HasSheets}
+use Rattle.refusals.specs.declared.refusal.Which.TheVariants.{ScriptOctets, SheetOctets}
+use Rattle.command_words.specs.Job.{LoadWords}
+use Rattle.command_laws.specs.Links.{HasAsks, HasRouteText, HaveFiles, load_files}
+use Rattle.command_laws.specs.NamedFiles.{HasAsksSheet, HasFile, HasScript, HasSheet, HasSheets, named_file}
 
 pub one_content : (o : Option (List ℕ)) (a b : List ℕ) → o ≡ Some a → o ≡ Some b → a ≡ b
 one_content o a b is other = let same : ◌≡◌ {A = Option (List ℕ)} (Some a) (Some b) = sym is ∙ other in cc
@@ -54,3 +57,21 @@ same_asks a b is = cc (is)
 
 pub same_fault : (a b : Refusal) → ◌≡◌ {A = Result (List Ask) Refusal} (Err a) (Err b) → a ≡ b
 same_fault a b is = cc (is)
+
+-- ---- files of a load that were read
+
+both_files : (files : Files) (a b : List (Which × List ℕ)) → HaveFiles files a → HaveFiles files b → HaveFiles files (a ++ b)
+both_files files [] b have others = others
+both_files files (file ∷ a) b have others = (have.0, both_files files a b have.1 others)
+
+route_files : (files : Files) (name text : Option (List ℕ)) → HasRouteText files name text → HaveFiles files (named_file ScriptOctets name)
+route_files files None text has = tt
+route_files files (Some name) text has = ((has.0, has.1), tt)
+
+ask_files : (files : Files) (name : Option (List ℕ)) (sheet : Result (List Ask) Refusal) → HasAsks files name sheet → HaveFiles files (named_file SheetOctets name)
+ask_files files None sheet has = tt
+ask_files files (Some name) sheet has = ((has.octets, has.file), tt)
+
+pub have_read : (files : Files) (words : LoadWords) (text : Option (List ℕ)) (sheet : Result (List Ask) Refusal) → HasRouteText files words.route text → HasAsks files words.asks sheet → HaveFiles files (load_files words)
+have_read files words text sheet named has =
+    both_files files (named_file ScriptOctets words.route) (named_file SheetOctets words.asks) (route_files files words.route text named) (ask_files files words.asks sheet has)

@@ -30,7 +30,7 @@ use Rattle.archive_commands.specs.Create.{IsHeadAnswer, after_making, checking_p
 use Rattle.command_laws.specs.Calls.{Call, IsRun, effects}
 use Rattle.command_laws.specs.Create.{create_files}
 use Rattle.command_laws.specs.NamedFiles.{HasAsksSheet, HasFile, HasScript, HasSheets, IsFirstUnread, IsReadingRefusal, IsUnreadFor, named_file}
-use Rattle.command_laws.proofs.FileRefusals.{TellsOfFiles, no_asks, no_asks_sheet, no_head, no_interruption, no_script, reading_tells}
+use Rattle.command_laws.proofs.FileRefusals.{TellsOfOutside, no_asks, no_asks_sheet, no_head, no_interruption, no_script, reading_tells}
 use Rattle.command_laws.proofs.Readings.{IsUnreadAmong, among_all, at_first, behind_it, each_behind, each_read, each_sheets, sheet_files}
 use Rattle.command_laws.proofs.Runs.{by_job, none_or_some, same_refusal}
 use Rattle.command_laws.proofs.Ways.{each_in_turn}
@@ -46,7 +46,7 @@ of_one files which name refusal (inr others) = absurd others.2
 
 module _ {D : Type 0} (device : Device D) (e : Call D) (files : Files) (named : List (Which × List ℕ)) where
   -- its refusal is another,
-  pub other : (refusal : Refusal) → e.report.refusal ≡ Some refusal → (TellsOfFiles refusal → ⊥) → IsOnlyUnread e files named
+  pub other : (refusal : Refusal) → e.report.refusal ≡ Some refusal → (TellsOfOutside refusal → ⊥) → IsOnlyUnread e files named
   other refusal is apart = λ told said reading. absurd (apart (reading_tells refusal (subst IsReadingRefusal (same_refusal e.report.refusal told refusal said is) reading)))
 
   pub cut : (refusal : Refusal) → e.report.refusal ≡ Some refusal → is_interruption refusal ≡ true → IsOnlyUnread e files named

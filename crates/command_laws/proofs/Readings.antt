@@ -14,10 +14,12 @@ use Rattle.mdb_sheets.specs.Sheets.{Fields, sheet_of}
 use Rattle.outer_traits.specs.Outside.{Files}
 use Rattle.ask_answers.specs.Asks.{with_sources}
 use Rattle.command_plans.specs.Plan.{Choose, CommandPlan, EachEnd, May, Question, Requires, Return, Stop, Way, and_then, is_interruption, map_done}
+use Rattle.command_plans.specs.Sources.{opened_if_there, opening_all_plan}
 use Rattle.command_plans.specs.Inputs.{InputRead, IsInputAs, IsThereAs, OverLimit, WithinLimit, after_look, after_reading, input_plan}
 use Rattle.command_runs.specs.Command.{HasEffects, Progress, nothing_done}
 use Rattle.command_runs.specs.Report.{unopened}
 use Rattle.command_laws.specs.Calls.{Call, IsRefusedBy, Prints, WasInterrupted, effects}
+use Rattle.command_laws.specs.Links.{AreThere, IsFirstMissing}
 use Rattle.command_laws.specs.NamedFiles.{HasFile, HasSheets, IsFirstUnread, IsUnreadFor}
 use Rattle.command_laws.proofs.Files.{raw_of_parts}
 use Rattle.command_laws.proofs.Runs.{IsEndOf, no_memory, refused, unread_call}
@@ -132,11 +134,31 @@ module _ {D : Type 0} (device : Device D) (e : Call D) (L : Type 0) (files : Fil
       )
       look false none = λ did. unread (Missing name) (record { report = did.report; silent = did.printed; disk = did.disk }) (inl (inl (none, refl)))
 
+  -- of inputs that are opened together
+  pub each_opened : (names : List (List ℕ)) (sources : ℕ) (next : Unit {0} → CommandPlan Progress ⊥)
+      → ((refusal : Refusal) → IsUnread e refusal → IsFirstMissing files names refusal ⊎ (is_interruption refusal ≡ true) → L) → (AreThere files names → EachEnd Leaves (next tt))
+      → EachEnd Leaves (and_then (map_done nothing_done (opening_all_plan (Some files) names sources)) next)
+  each_opened [] sources next unread then_on = then_on tt
+  each_opened (name ∷ names) sources next unread then_on = (
+    λ did. unread OutOfMemory (record { report = did.report; silent = did.printed; disk = did.disk }) (inr refl),
+    λ there is. look there is (λ some. each_opened names (sources + 1) next (later some) (λ all. then_on (some, all))),
+  )
+    where
+      later : IsSome (get files name) → (refusal : Refusal) → IsUnread e refusal → IsFirstMissing files names refusal ⊎ (is_interruption refusal ≡ true) → L
+      later there refusal is (inl missing) = unread refusal is (inl (inr (there, missing)))
+      later there refusal is (inr off) = unread refusal is (inr off)
+
+      look : (there : Bool) → IsThereAs (Some files) name there
+          → (IsSome (get files name) → EachEnd Leaves (and_then (map_done nothing_done (opening_all_plan (Some files) names (sources + 1))) next))
+          → EachEnd Leaves (and_then (map_done nothing_done (opened_if_there name sources (opening_all_plan (Some files) names (sources + 1)) there)) next)
+      look true is others = (λ did. unread ReadFault (record { report = did.report; silent = did.printed; disk = did.disk }) (inr refl), others is)
+      look false none others = λ did. unread (Missing name) (record { report = did.report; silent = did.printed; disk = did.disk }) (inl (inl (none, refl)))
+
   -- of a plan whose sources are counted behind others
   pub each_behind : {X : Type 0} (n : ℕ) (p : CommandPlan Progress X) → EachEnd Leaves p → EachEnd Leaves (map_done (with_sources n) p)
   each_behind n (Return x) d = tt
-  each_behind n (Stop s refusal) d = λ did. d (record { report = did.report; printed = did.printed; output = did.output; disk = did.disk })
-  each_behind n (May fault s p) d = (λ did. d.0 (record { report = did.report; printed = did.printed; output = did.output; disk = did.disk }), each_behind n p d.1)
+  each_behind n (Stop s refusal) d = λ did. d (record { report = did.report; printed = did.printed; output = did.output; disk = did.disk; log = did.log; pending = did.pending })
+  each_behind n (May fault s p) d = (λ did. d.0 (record { report = did.report; printed = did.printed; output = did.output; disk = did.disk; log = did.log; pending = did.pending }), each_behind n p d.1)
   each_behind n (Question is next) d = λ a h. each_behind n (next a) (d a h)
   each_behind n (Choose is next) d = λ a h. each_behind n (next a) (d a h)
 
@@ -203,6 +225,34 @@ module _ {D : Type 0} {device : Device D} (e : Call D) (files : Files) (way : Wa
     pub unread_due : (refusal : Refusal) → IsUnreadFor files which name refusal → Reads → IsRefusedBy device e refusal
     unread_due refusal (inl none) required = subst (IsRefusedBy device e) (sym none.1) (missing_due none.0 required)
     unread_due refusal (inr long) required = subst (IsRefusedBy device e) (sym long.1) (long_due long.0 required)
+
+  -- inputs that are opened together, if they are there; else the first that isn't is missing
+  module _ (done : ℕ → Progress) (next : Unit {0} → CommandPlan Progress ⊥) where
+    abbrev Opens : List (List ℕ) → ℕ → Type 0
+    Opens names sources = Requires (and_then (map_done done (opening_all_plan (Some files) names sources)) next) way
+
+    -- a name was found, and is opened
+    next_opened : (name : List ℕ) (names : List (List ℕ)) (sources : ℕ) → Requires (and_then (map_done done (opened_if_there name sources (opening_all_plan (Some files) names (sources + 1)) true)) next) way
+        → Opens names (sources + 1) ⊎ WasInterrupted device e
+    next_opened name names sources (inl cut) = inr (unread_call e way at _ cut)
+    next_opened name names sources (inr d) = inl d
+
+    pub opened_due : (names : List (List ℕ)) (sources : ℕ) → AreThere files names → Opens names sources → Requires (next tt) way ⊎ WasInterrupted device e
+    opened_due [] sources there d = inl d
+    opened_due (name ∷ names) sources there (inl cut) = inr (no_memory e way at _ cut)
+    opened_due (name ∷ names) sources there (inr asked) = elim (next_opened name names sources (asked true there.0)) [
+      | inl d ↦ opened_due names (sources + 1) there.1 d
+      | inr cut ↦ inr cut
+    ]
+
+    pub first_missing_due : (names : List (List ℕ)) (sources : ℕ) (refusal : Refusal) → IsFirstMissing files names refusal → Opens names sources → IsRefusedBy device e refusal
+    first_missing_due [] sources refusal never d = absurd never
+    first_missing_due (name ∷ names) sources refusal missing (inl cut) = inr (no_memory e way at _ cut)
+    first_missing_due (name ∷ names) sources refusal (inl none) (inr asked) = subst (IsRefusedBy device e) (sym none.1) (refused e way at _ (Missing name) (asked false none.0))
+    first_missing_due (name ∷ names) sources refusal (inr later) (inr asked) = elim (next_opened name names sources (asked true later.0)) [
+      | inl d ↦ first_missing_due names (sources + 1) refusal later.1 d
+      | inr cut ↦ inr cut
+    ]
 
   module _ (a b c : List ℕ) (sources : ℕ) (next : RawMdb → CommandPlan Progress ⊥) where
     abbrev behind_first : List Fields → CommandPlan Progress ⊥

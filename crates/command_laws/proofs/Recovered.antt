@@ -1,6 +1,6 @@
 -- The ends of the plan of `recover`.
 use Rattle.std.proofs.Common.{◌≡◌, ◌⊎◌, ◌∙◌, inl, inr, ℤ, ℕ, zero, suc, ◌+◌, ◌<◌, ◌≤◌, List, [], ◌++◌, length, Bool, true, false, Option, Some, None, refl, sym, ap, subst, append-nil, arith}
-use Rattle.std.specs.Prelude.{IsTrue, if◌then◌else◌, nat_lt}
+use Rattle.std.specs.Prelude.{IsTrue, nat_lt}
 use Rattle.std.proofs.lemmas.Bool.Decides.{nat_tests}
 use Rattle.std.proofs.lemmas.List.{length-append, nil_from_length}
 use mathlib.Core.List.{IsPrefix}
@@ -18,7 +18,6 @@ use Rattle.archive_store.specs.Entries.{FilledArchive}
 use Rattle.archive_store.specs.LateFills.{late_in_archive}
 use Rattle.archive_store.specs.Stands.{StandsFilled, StandsFor}
 use Rattle.archive_store.proofs.Exact.{filled_once}
-use Rattle.load_session.specs.Filling.{filling_refusal}
 use Rattle.command_plans.specs.Plan.{EachEnd, Requires, Way}
 use Rattle.command_plans.proofs.Plans.{each_end, end_of}
 use Rattle.command_words.specs.Job.{Recover}
@@ -53,13 +52,11 @@ during_same before image d = elim d.within [
 ]
 
 -- a log takes fills that it has places for
-fits : (records late : ℕ) → records + late ≤ limit_of Records → filling_refusal records late ≡ None
-fits records zero few = refl
-fits records (suc late) few = go (nat_lt (limit_of Records) (records + suc late)) refl
-  where
-    go : (b : Bool) → nat_lt (limit_of Records) (records + suc late) ≡ b → (if b then Some (Limit Records (limit_of Records)) else None) ≡ None
-    go true more = let passed : limit_of Records < records + suc late = grind (arith, nat_tests, more) in absurd (omega (arith, passed, few))
-    go false within = refl
+fits : (records late : ℕ) (is_full : Bool) → is_full ≡ nat_lt (limit_of Records) (records + late) → records + late ≤ limit_of Records → is_full ≡ false
+fits records late true is few =
+    let more : nat_lt (limit_of Records) (records + late) ≡ true = sym is in
+    let passed : limit_of Records < records + late = grind (arith, nat_tests, more) in absurd (omega (arith, passed, few))
+fits records late false is few = refl
 
 -- all but that an archive is filled
 record IsLeft {D : Type 0} (device : Device D) (e : Call D) : Type 0 where
@@ -150,12 +147,12 @@ module _ {D : Type 0} (device : Device D) (e : Call D) (known : IsTrue device.is
       (
         λ did. let x = did.disk.1 known in left_opened before x.stands During (during_same before) x.images x.durable.reads
             (Some DiskFault) did.report (silent did.printed) (refused before x.stands DiskFault did.report) (λ once. kept_back device e before before.plain.history (x.healed once)),
-        λ records counted. go (filling_refusal records (suc late)),
+        λ is_full counted. go is_full,
       ),
     )
       where
-        go : (o : Option Refusal) → EachEnd HasLeft (after_filling (archive_with_fills before) (printing_plan (all_filled before before.plain.history (archive_with_fills before)) (recover_line before)) o)
-        go None = (
+        go : (is_full : Bool) → EachEnd HasLeft (after_filling (archive_with_fills before) (printing_plan (all_filled before before.plain.history (archive_with_fills before)) (recover_line before)) is_full)
+        go false = (
           λ did. let x = did.disk.1 known in left_opened before x.extended.stands During (during_same before) x.extended.images (plain_stands (device.reads e.disk') _ x.extended.kept.durable.reads)
               (Some WriteFault) did.report did.printed (refused before x.extended.stands WriteFault did.report) (λ once. kept_back device e before before.plain.history x.extended.kept),
           λ did. let x = did.disk.1 known in left_opened before x.extended.stands During (during_same before) x.extended.images (plain_stands (device.reads e.disk') _ x.extended.kept.durable.reads)
@@ -164,8 +161,8 @@ module _ {D : Type 0} (device : Device D) (e : Call D) (known : IsTrue device.is
                 did.printed,
               )) (λ once. kept_back device e before before.plain.history x.extended.kept),
         )
-        go (Some refusal) = λ did. let x = did.disk.1 known in left_opened before x.stands During (during_same before) x.images (plain_stands (device.reads e.disk') _ x.kept.durable.reads)
-            (Some refusal) did.report (silent did.printed) (refused before x.stands refusal did.report) (λ once. kept_back device e before before.plain.history x.kept)
+        go true = λ did. let x = did.disk.1 known in left_opened before x.stands During (during_same before) x.images (plain_stands (device.reads e.disk') _ x.kept.durable.reads)
+            (Some (Limit Records (limit_of Records))) did.report (silent did.printed) (refused before x.stands (Limit Records (limit_of Records)) did.report) (λ once. kept_back device e before before.plain.history x.kept)
 
     recovering_left : (late : ℕ) → length (late_in_archive before) ≡ late → EachEnd HasLeft (late_plan (IsRecordCount device e.disk) before late)
     recovering_left zero none = none_late_left none
@@ -204,8 +201,8 @@ module _ {D : Type 0} (device : Device D) (e : Call D) (known : IsTrue device.is
   late_due (suc late) some (inr (inl is)) = or_disk_failed e way at (Succeeded e) _ is (λ never. cc (never))
   late_due (suc late) some (inr (inr chosen)) =
       let s = all_filled before before.plain.history (archive_with_fills before) in
-      let most = counted chosen.0 chosen.1 in
-      printing_due s (subst (λ (o : Option Refusal). Requires (after_filling (archive_with_fills before) (printing_plan s (recover_line before)) o) way) (fits chosen.0 (suc late) (omega (arith, most, some))) chosen.2)
+      let most = counted chosen.1.0 chosen.1.1 in
+      printing_due s (subst (λ (b : Bool). Requires (after_filling (archive_with_fills before) (printing_plan s (recover_line before)) b) way) (fits chosen.1.0 (suc late) chosen.0 chosen.1.2 (omega (arith, most, some))) chosen.2)
 
   recovering_due : Requires (recover_plan device e.disk) way → Due
   recovering_due (inl is) = or_no_memory e way at (Succeeded e) _ is

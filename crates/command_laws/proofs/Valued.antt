@@ -30,7 +30,7 @@ use Rattle.command_laws.specs.Calls.{Call, IsRefusedBy, IsRun, Prints, PrintsSom
 use Rattle.command_laws.specs.NamedFiles.{HasSheets, IsFirstUnread, IsReadingRefusal}
 use Rattle.command_laws.specs.Values.{AreCellsPrinted, AreValued, HasParameter, HasValuesFiles, values_files}
 use Rattle.command_laws.proofs.Dumps.{bad_due, silent_dump, some_dump, some_moment, text_by, whole_due, whole_dump}
-use Rattle.command_laws.proofs.FileRefusals.{TellsOfFiles, no_ending, no_interruption, no_limit, reading_tells}
+use Rattle.command_laws.proofs.FileRefusals.{TellsOfOutside, no_ending, no_interruption, no_limit, reading_tells}
 use Rattle.command_laws.proofs.Files.{one_file, one_raw}
 use Rattle.command_laws.proofs.Readings.{IsUnread, IsUnreadAmong, IsUnreadCause, each_read, each_sheets, no_bad_among, read_due, read_or_not, sheet_files, sheets_due, sheets_unread, unread_due}
 use Rattle.command_laws.proofs.Runs.{IsEndOf, by_due, by_job, or_no_memory, refused, same_refusal, told}
@@ -58,10 +58,10 @@ none_refused r refusal none some = let never : ◌≡◌ {A = Option Refusal} No
 -- ---- refusals that say that a file wasn't read
 
 -- none is that of sheets and a name that were read
-no_refusal : (broken : Option Broken) (passed : Option (MdbLimit × ℕ)) (number : Option ℕ) (refusal : Refusal) → first_refusal broken passed number ≡ Some refusal → TellsOfFiles refusal → ⊥
-no_refusal (Some broken) passed number refusal is tells = let same : broken_rule broken ≡ refusal = cc (is) in subst TellsOfFiles (sym same) tells
-no_refusal None (Some passed) number refusal is tells = let same : passed_limit passed ≡ refusal = cc (is) in no_limit passed.0 passed.1 (subst TellsOfFiles (sym same) tells)
-no_refusal None None None refusal is tells = let same : UnknownParameter ≡ refusal = cc (is) in subst TellsOfFiles (sym same) tells
+no_refusal : (broken : Option Broken) (passed : Option (MdbLimit × ℕ)) (number : Option ℕ) (refusal : Refusal) → first_refusal broken passed number ≡ Some refusal → TellsOfOutside refusal → ⊥
+no_refusal (Some broken) passed number refusal is tells = let same : broken_rule broken ≡ refusal = cc (is) in subst TellsOfOutside (sym same) tells
+no_refusal None (Some passed) number refusal is tells = let same : passed_limit passed ≡ refusal = cc (is) in no_limit passed.0 passed.1 (subst TellsOfOutside (sym same) tells)
+no_refusal None None None refusal is tells = let same : UnknownParameter ≡ refusal = cc (is) in subst TellsOfOutside (sym same) tells
 no_refusal None None (Some number) refusal is tells = absurd (cc (is))
 
 no_parameter : (raw : RawMdb) (name : List ℕ) (refusal : Refusal) → parameter_refusal raw name ≡ Some refusal → IsReadingRefusal refusal → ⊥

@@ -1,5 +1,7 @@
 -- The answers to asks over the rows of a history, whatever its fills.
-use Rattle.std.specs.Prelude.{ℕ, suc, List, [], ◌∷◌, ◌++◌, length, unwrap_or, Option, Some, Result, Ok, Err}
+use Rattle.std.specs.Prelude.{◌≡◌, ℕ, suc, List, [], ◌∷◌, ◌++◌, length, unwrap_or, Option, Some, Result, Ok, Err}
+use mathlib.Core.List.{IsPrefix}
+use Rattle.arch_types.specs.declared.cell.Cell.{Cell}
 use Rattle.asks.specs.declared.ask.Ask.{Ask}
 use Rattle.asks.specs.declared.ask.Ask.TheVariants.{Values, Replay}
 use Rattle.asks.specs.declared.ask.Request.{Request}
@@ -37,3 +39,30 @@ asks_answers head history k (ask ∷ asks) = ask_answer head history k ask ++ as
 abbrev pub sheet_refusal : Archive → Result (List Ask) Refusal → Option Refusal
 sheet_refusal archive (Ok asks) = archive_asks_refusal archive asks
 sheet_refusal archive (Err refusal) = Some refusal
+
+-- ---- while the history grows
+
+-- The text of an answer to the ask with a number, over a history. Its front is the length of that: cells of the
+-- parameter, which are those that extracting the packets of its range gives, where `Sound` holds; or the replay.
+abbrev pub IsAnswerOver : Type 0 → Head → List Item → ℕ → Ask → List ℕ → Type 0
+IsAnswerOver Sound head history k (Values request) text =
+    let db = database_in head.mdb history in
+    let number = unwrap_or (parameter_number db request.parameter) 0 in
+    (cells : List Cell) × (text ≡ answer_lines k (length history) db number cells)
+    × (Sound → cells ≡ answer_of db number request (rows_in history))
+IsAnswerOver Sound head history k (Replay request) text = text ≡ replay_text head history k request
+
+-- It is over a history that goes on from a first one, and with which a last one begins.
+pub record IsAnswerBetween (Sound : Type 0) (head : Head) (first last : List Item) (k : ℕ) (ask : Ask) (text : List ℕ)
+    : Type 0 where
+  pub history : List Item
+  pub later : IsPrefix first history
+  pub begins : IsPrefix history last
+  pub text_is : IsAnswerOver Sound head history k ask text
+
+-- a text is those of the answers to asks, numbered from k on, each over such a history
+abbrev pub AreAnswersBetween : Type 0 → Head → List Item → List Item → ℕ → List Ask → List ℕ → Type 0
+AreAnswersBetween Sound head first last k [] text = text ≡ []
+AreAnswersBetween Sound head first last k (ask ∷ asks) text =
+    (answer : List ℕ) × (rest : List ℕ) × (text ≡ answer ++ rest)
+    × IsAnswerBetween Sound head first last k ask answer × AreAnswersBetween Sound head first last (suc k) asks rest

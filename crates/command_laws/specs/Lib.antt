@@ -3,6 +3,7 @@ pub mod Calls
 pub mod Create
 pub mod Dumps
 pub mod HandedBack
+pub mod Links
 pub mod Load
 pub mod NamedFiles
 pub mod Query

@@ -1,137 +1,82 @@
--- The clause of `load`, of a dump that comes by one link.
-use Rattle.std.specs.Prelude.{◌≡◌, ◌⊎◌, ◌<◌, ◌≤◌, ◌+◌, ◌-◌, ℕ, ℤ, All, Any, IsNone, IsSomeAnd, List, [], ◌∷◌, ◌++◌, length, true, false, Option, Some, None, Result, Ok, Err, IsSome}
-use Rattle.std.specs.FinMap.{get}
-use mathlib.Core.List.{IsPrefix, Sublist}
+-- The clause of `load`, of dumps that come by links of rising numbers.
+use Rattle.std.specs.Prelude.{◌≡◌, ◌⊎◌, ◌<◌, ◌≤◌, ◌+◌, ◌-◌, ℕ, ℤ, List, [], ◌++◌, length, All, IsSome, true, false, Option, Some, None, Result, Ok, Err}
+use mathlib.Core.List.{IsPrefix}
 use Rattle.arch_disk.specs.Image.{Image}
-use Rattle.arch_disk.specs.Disk.{Device, LeavesOnly}
-use Rattle.disk_journal.specs.Format.{HasRecords}
+use Rattle.arch_disk.specs.Disk.{Device, LeavesOnly, raised}
 use Rattle.arch_types.specs.declared.row.Row.{Row}
-use Rattle.arch_types.specs.Dump.{IsDump}
-use Rattle.arch_types.specs.History.{firsts, is_duplicate_of}
 use Rattle.asks.specs.declared.ask.Ask.{Ask}
 use Rattle.refusals.specs.declared.refusal.Refusal.{Refusal}
 use Rattle.refusals.specs.declared.refusal.BadKind.{BadKind}
-use Rattle.refusals.specs.declared.refusal.Refusal.TheVariants.{BadPacket, Limit, Missing, OutOfMemory, WriteFault}
+use Rattle.refusals.specs.declared.refusal.Refusal.TheVariants.{BadPacket, Limit, NeedsReopen, OutOfMemory, WriteFault}
 use Rattle.refusals.specs.declared.refusal.Which.{Which}
-use Rattle.refusals.specs.declared.refusal.Which.TheVariants.{DumpOctets, Links, Records, ScriptOctets, SheetOctets}
+use Rattle.refusals.specs.declared.refusal.Which.TheVariants.{DumpOctets, Records}
 use Rattle.refusals.specs.Limits.{limit_of}
 use Rattle.outer_traits.specs.Outside.{Files}
 use Rattle.archive_history.specs.Limits.{PassesFirst}
 use Rattle.archive_history.specs.declared.row_limit.RowLimit.{RowLimit}
 use Rattle.history_items.specs.declared.items.Item.{Item}
-use Rattle.history_items.specs.Items.{after_rows, items_of, rows_in}
-use Rattle.history_items.specs.Outcomes.{fresh_of}
+use Rattle.history_items.specs.Items.{items_of, rows_in}
 use Rattle.archive_store.specs.Entries.{Archive, FilledArchive}
-use Rattle.archive_store.specs.LateFills.{late_in_archive}
 use Rattle.archive_store.specs.Limits.{limit_of_history}
-use Rattle.archive_store.specs.Stands.{IsSoundImage, StandsFilled, StandsFor}
+use Rattle.archive_store.specs.Stands.{HasRecordCount, IsSoundImage, StandsFilled, StandsFor}
 use Rattle.stream_graph.specs.declared.statement.RouteStatement.{RouteStatement}
-use Rattle.load_session.specs.Batches.{batch_at}
 use Rattle.load_session.specs.During.{with_history}
-use Rattle.load_session.specs.Receiving.{Receiving, arrived, receiving, rows_received}
 use Rattle.command_words.specs.Job.{Load, LoadWords}
+use Rattle.command_words.specs.LoadLimits.{links_refusal, load_limit_refusal}
+use Rattle.command_runs.specs.Causes.{IsCountedSince}
 use Rattle.command_runs.specs.DumpRest.{IsBadRest, dump_limit}
 use Rattle.command_runs.specs.Durable.{FailedAtMostOnce}
-use Rattle.command_runs.specs.Extension.{filled_at}
 use Rattle.command_runs.specs.Moment.{IsMomentOf}
-use Rattle.ask_answers.specs.Asks.{archive_asks_refusal, archive_asks_text}
-use Rattle.load_command.specs.LoadLine.{line_of_load}
-use Rattle.load_command.specs.Loading.{IsRouteAnswer, link_refusal}
-use Rattle.command_laws.specs.Answers.{asks_answers, sheet_refusal}
+use Rattle.command_runs.specs.Report.{loaded}
+use Rattle.ask_answers.specs.Asks.{archive_asks_refusal}
+use Rattle.load_command.specs.LoadLine.{load_line}
+use Rattle.load_command.specs.Loading.{IsRouteAnswer}
+use Rattle.command_laws.specs.Answers.{AreAnswersBetween, sheet_refusal}
 use Rattle.command_laws.specs.Calls.{Call, HeldArchive, IsNoArchive, IsRefusedBy, IsRun, IsSoundAtFirst, IsUnopened, LeavesDisk, LeavesSinceOpening, Prints, PrintsSome, Succeeded, WasInterrupted}
 use Rattle.command_laws.specs.HandedBack.{IsHandedBack, IsUpToDate}
-use Rattle.command_laws.specs.NamedFiles.{HasAsksSheet, HasFile, IsFirstUnread, IsReadingRefusal, named_file}
-use Rattle.command_runs.specs.Report.{loaded}
-
--- ---- what is read
-
--- the text of the route, where a script of one is named
-abbrev pub HasRouteText : Files → Option (List ℕ) → Option (List ℕ) → Type 0
-HasRouteText files None text = text ≡ None
-HasRouteText files (Some name) text = (octets : List ℕ) × HasFile files ScriptOctets name octets × (text ≡ Some octets)
-
--- the asks of the sheet that is named, or why it is refused; where none is named there are none
-abbrev pub HasAsks : Files → Option (List ℕ) → Result (List Ask) Refusal → Type 0
-HasAsks files None sheet = sheet ≡ Ok []
-HasAsks files (Some name) sheet = HasAsksSheet files name sheet
-
--- The dump of the link has these packets and this rest. They are received at a moment by an archive, and go by the
--- route over its tables.
-pub record IsReceived (files : Files) (moment : ℤ) (words : LoadWords) (before : FilledArchive) (r : Receiving)
-    (packets : List (List ℕ)) (rest : List ℕ) : Type 0 where
-  pub dump : List ℕ
-  pub file : HasFile files DumpOctets words.dump dump
-  pub parts : IsDump dump packets rest
-  pub text : Option (List ℕ)
-  pub named : HasRouteText files words.route text
-  pub route : List RouteStatement
-  pub routed : IsRouteAnswer before.plain text (Ok route)
-  pub received : r ≡ receiving before.plain.head before.plain.history route words.link moment
-
--- the files that are read first, in their order: the script of a route, and the sheet of asks, where they are named
-abbrev pub load_files : LoadWords → List (Which × List ℕ)
-load_files words = named_file ScriptOctets words.route ++ named_file SheetOctets words.asks
-
--- these, and then the dump
-abbrev pub all_load_files : LoadWords → List (Which × List ℕ)
-all_load_files words = load_files words ++ (DumpOctets, words.dump) ∷ []
-
--- ---- 1. what the history became
-
--- The history handed in is a prefix of the one handed back. The rows after it have the link, and are a sublist of the
--- first arrivals of each table and key among the packets of the dump; there are none where no dump is received.
-pub record IsGrown (files : Files) (moment : ℤ) (words : LoadWords) (before : FilledArchive)
-    (reached : List Item) : Type 0 where
-  pub more : List Row
-  pub grown : reached ≡ before.plain.history ++ items_of more
-  pub links : All (λ row. row.link ≡ words.link) more
-  pub come : (more ≡ []) ⊎ ((r : Receiving) × (packets : List (List ℕ)) × (rest : List ℕ)
-      × IsReceived files moment words before r packets rest × Sublist more (firsts (rows_received r packets)))
-
--- ---- 2. status 0
-
--- a history has the table and key of a row
-abbrev pub HasKeyIn : List Item → Row → Type 0
-HasKeyIn history row = Any (λ kept. is_duplicate_of row kept ≡ true) (rows_in history)
-
--- The dump was read to its end, no rest is left, and the table and key of each of its arrivals are in the history,
--- which is the one handed in with the arrivals.
-pub record IsReceivedWhole (files : Files) (moment : ℤ) (words : LoadWords) (before : FilledArchive)
-    (reached : List Item) (r : Receiving) (packets : List (List ℕ)) : Type 0 where
-  pub received : IsReceived files moment words before r packets []
-  pub there : All (HasKeyIn reached) (rows_received r packets)
-  pub history : reached ≡ after_rows before.plain.history (rows_received r packets)
+use Rattle.command_laws.specs.Links.{AreNewOfBatch, AreReceivedWhole, AreThere, AreWholeBefore, CameWhole, ComesBy, HasAsks, HasDump, HasKeyIn, HasRouteText, IsFirstMissing, IsGrown, IsLoadUnread, IsLongDump, IsReceived, IsWholeDump, ReceivedDump, arrivals_of, arrived_of, idle_of, load_files, packets_of}
+use Rattle.command_laws.specs.NamedFiles.{IsFirstUnread, IsReadingRefusal}
 
 -- ---- 3. what is printed
 
--- the answers to the asks over the history that was reached, each with its length as the front, by the fills that there
--- were and the rows of late intervals, and the line behind them
-abbrev pub whole_load : FilledArchive → List Item → List Ask → Receiving → List (List ℕ) → List ℕ
-whole_load before reached asks r packets =
-    archive_asks_text (filled_at before reached before.fillings) 1 asks
-    ++ line_of_load r (length before.plain.history) reached packets
+-- the line of a load of these dumps, by the history that was reached
+abbrev pub line_of_dumps : FilledArchive → List Item → List ReceivedDump → List ℕ
+line_of_dumps before reached dumps =
+    let new = length reached - length before.plain.history in
+    load_line (packets_of dumps) new (arrived_of dumps - new) (idle_of dumps) (length (rows_in reached))
+
+-- The text of a load of dumps that are whole: the answers to the asks of the sheet, each over a prefix of the history
+-- that was reached, no shorter than the one handed in, and the line.
+pub record IsLoadText {D : Type 0} (device : Device D) (e : Call D) (files : Files) (words : LoadWords)
+    (before : FilledArchive) (reached : List Item) (dumps : List ReceivedDump) (text : List ℕ) : Type 0 where
+  pub asks : List Ask
+  pub sheet : HasAsks files words.asks (Ok asks)
+  pub answers : List ℕ
+  pub answered : AreAnswersBetween (IsSoundImage (device.reads e.disk)) before.plain.head before.plain.history reached
+      1 asks answers
+  pub text_is : text ≡ answers ++ line_of_dumps before reached dumps
+
+-- Some of the text of a load of dumps that are whole was printed, and all of it at status 0.
+pub record IsLoadPrinted {D : Type 0} (device : Device D) (e : Call D) (files : Files) (moment : ℤ)
+    (words : LoadWords) (before : FilledArchive) (reached : List Item) : Type 0 where
+  pub dumps : List ReceivedDump
+  pub received : AreReceivedWhole files moment words before reached dumps
+  pub text : List ℕ
+  pub text_is : IsLoadText device e files words before reached dumps text
+  pub some : PrintsSome e text
+  pub all : Succeeded e → Prints e text
 
 -- ---- 4. what is reported at status 0
 
--- the rows that came, the packets, the idle ones, and the arrivals that were there
-pub record IsLoadCounted {D : Type 0} (e : Call D) (before : FilledArchive) (reached : List Item) (r : Receiving)
-    (packets : List (List ℕ)) : Type 0 where
+-- the rows that came, the packets, the idle ones, and the arrivals that were there, of all dumps together
+pub record IsLoadCounted {D : Type 0} (e : Call D) (before : FilledArchive) (reached : List Item)
+    (dumps : List ReceivedDump) : Type 0 where
   pub new : e.report.new ≡ length reached - length before.plain.history
-  pub packets_are : e.report.packets ≡ length packets
-  pub idle : e.report.idle ≡ length packets - arrived packets
-  pub duplicates : e.report.duplicates ≡ length (rows_received r packets) - e.report.new
+  pub packets_are : e.report.packets ≡ packets_of dumps
+  pub idle : e.report.idle ≡ idle_of dumps
+  pub duplicates : e.report.duplicates ≡ arrived_of dumps - e.report.new
 
 -- ---- 5. crashes
-
--- the new rows of one batch: at most 64 successive packets of the dump
-pub record AreNewOfBatch (files : Files) (moment : ℤ) (words : LoadWords) (before : FilledArchive) (reached : List Item)
-    (rows : List Row) : Type 0 where
-  pub r : Receiving
-  pub packets : List (List ℕ)
-  pub rest : List ℕ
-  pub received : IsReceived files moment words before r packets rest
-  pub place : ℕ
-  pub rows_are : rows ≡ fresh_of reached (rows_received r (batch_at place packets))
 
 -- an image stands for a prefix of the history that was reached, with no fewer rows than the one handed in, or for the
 -- whole of it with the new rows of one batch
@@ -151,87 +96,116 @@ IsReachedIn files moment words before reached image =
     ⊎ ((rows : List Row) × AreNewOfBatch files moment words before reached rows
     × StandsFor image (with_history before.plain (reached ++ items_of rows)))
 
--- ---- limits
+-- ---- a refusal of the session
 
--- the rows of the history that was reached and the new ones of one batch pass a limit of a history
-abbrev pub ArePassed : Files → ℤ → LoadWords → FilledArchive → List Item → Which → Type 0
-ArePassed files moment words before reached which =
-    (rows : List Row) × AreNewOfBatch files moment words before reached rows
-    × ((limit : RowLimit) × (which ≡ limit_of_history limit)
-    × PassesFirst before.plain.exponent limit (rows_in (reached ++ items_of rows)))
+-- What a refusal is told over: the history that was reached, of which the disk handed back tells by its first `after`
+-- rows.
+pub record IsReached {D : Type 0} (device : Device D) (e : Call D) (files : Files) (moment : ℤ) (words : LoadWords)
+    (before : FilledArchive) (reached : List Item) : Type 0 where
+  pub held : IsReachedIn files moment words before reached (device.reads e.disk')
+  pub after : e.report.after ≡ length reached
+  pub grown : IsGrown files moment words before reached
 
--- the log that is handed in, with a record for each row that came and each interval that is late then, reaches the
--- limit
+-- The rows of a history on the way and the new ones of one batch pass a limit of a history; where there is one dump,
+-- those of the whole history that was reached.
+pub record ArePassed (files : Files) (moment : ℤ) (words : LoadWords) (before : FilledArchive) (reached : List Item)
+    (which : Which) : Type 0 where
+  pub history : List Item
+  pub within : IsPrefix history reached
+  pub alone : length words.dumps ≡ 1 → history ≡ reached
+  pub rows : List Row
+  pub batch : AreNewOfBatch files moment words before history rows
+  pub limit : RowLimit
+  pub which_is : which ≡ limit_of_history limit
+  pub passes : PassesFirst before.plain.exponent limit (rows_in (history ++ items_of rows))
+
+-- the log that is handed back, with a record for each row that came, reaches the limit; or a call of the disk failed
 abbrev pub AreRecordsPassed : {D : Type 0} → Device D → Call D → FilledArchive → List Item → Type 0
 AreRecordsPassed device e before reached =
-    (bodies : List (List ℕ)) × HasRecords (device.reads e.disk 0) bodies
-    × (limit_of Records + length before.plain.history
-    ≤ length bodies + length reached + length (late_in_archive (filled_at before reached before.fillings)))
+    (raised (device.fault_count e.disk) ≤ device.fault_count e.disk')
+    ⊎ ((records : ℕ) × HasRecordCount (device.reads e.disk') records
+    × (limit_of Records + length before.plain.history ≤ records + length reached))
 
--- A limit was passed: by the rows of the history that the disk handed back stands for and a batch, or by the records of
--- its log.
+-- A limit was passed: by the rows of a history on the way and a batch, or by the records of the log.
 pub record WasOverLimit {D : Type 0} (device : Device D) (e : Call D) (files : Files) (clock : Option ℤ)
     (words : LoadWords) (before : FilledArchive) : Type 0 where
   pub moment : ℤ
   pub known : IsMomentOf clock moment
   pub reached : List Item
-  pub held : StandsFor (device.reads e.disk') (with_history before.plain reached)
-  pub after : e.report.after ≡ length reached
-  pub grown : IsGrown files moment words before reached
+  pub holds : IsReached device e files moment words before reached
   pub which : Which
   pub limit : e.report.refusal ≡ Some (Limit which (limit_of which))
   pub passed : ArePassed files moment words before reached which
       ⊎ ((which ≡ Records) × AreRecordsPassed device e before reached)
 
--- ---- a rest that is no packet
+-- a write of the disk failed in the turn of another job: the refusal tells the count of faults that the disk came to
+abbrev pub WasPending : {D : Type 0} → Device D → Call D → Type 0
+WasPending device e =
+    (faults : ℕ) × (e.report.refusal ≡ Some (NeedsReopen faults)) × IsCountedSince device e.disk e.disk' (Some faults)
 
--- All packets of the dump were ingested, and the table and key of each of its arrivals are in the history that the disk
--- handed back stands for. The refusal names the octet of the dump at which no packet begins, and the report the link.
-pub record IsBroken {D : Type 0} (device : Device D) (e : Call D) (files : Files) (clock : Option ℤ)
-    (words : LoadWords) (before : FilledArchive) (at : ℕ) (kind : BadKind) : Type 0 where
+-- It is told of the dump of the link of this number, which is reported: the dumps of the links before it are whole, and
+-- the table and key of each of their arrivals are in the history that was reached. Where there is one dump, the disk
+-- that is handed back stands for just that history.
+pub record IsToldOf {D : Type 0} (device : Device D) (e : Call D) (files : Files) (clock : Option ℤ)
+    (words : LoadWords) (before : FilledArchive) (link : ℕ) : Type 0 where
   pub moment : ℤ
   pub known : IsMomentOf clock moment
-  pub r : Receiving
-  pub packets : List (List ℕ)
-  pub rest : List ℕ
-  pub received : IsReceived files moment words before r packets rest
   pub reached : List Item
-  pub held : StandsFor (device.reads e.disk') (with_history before.plain reached)
-  pub after : e.report.after ≡ length reached
-  pub grown : IsGrown files moment words before reached
-  pub there : All (HasKeyIn reached) (rows_received r packets)
-  pub bad : IsBadRest received.dump rest at kind
+  pub holds : IsReached device e files moment words before reached
+  pub earlier : (other : ℕ) → words.link ≤ other → other < link → CameWhole files moment words before reached other
+  pub named : e.report.link ≡ Some link
+  pub alone : length words.dumps ≡ 1 → StandsFor (device.reads e.disk') (with_history before.plain reached)
+
+-- Its rest is no packet: all of its packets were ingested, and the table and key of each of its arrivals are in that
+-- history. The refusal names the octet of the dump at which no packet begins.
+pub record IsBroken {D : Type 0} (device : Device D) (e : Call D) (files : Files) (clock : Option ℤ)
+    (words : LoadWords) (before : FilledArchive) (link at : ℕ) (kind : BadKind) : Type 0 where
+  pub told : IsToldOf device e files clock words before link
+  pub d : ReceivedDump
+  pub received : IsReceived files told.moment words before link d
+  pub there : All (HasKeyIn told.reached) (arrivals_of d)
+  pub bad : IsBadRest received.has.dump d.rest at kind
   pub refusal : e.report.refusal ≡ Some (BadPacket at kind)
-  pub link : e.report.link ≡ Some words.link
+
+-- It is longer than a dump may be.
+pub record IsOverlong {D : Type 0} (device : Device D) (e : Call D) (files : Files) (clock : Option ℤ)
+    (words : LoadWords) (before : FilledArchive) (link : ℕ) : Type 0 where
+  pub told : IsToldOf device e files clock words before link
+  pub name : List ℕ
+  pub comes : ComesBy words link name
+  pub long : IsLongDump files name
+  pub refusal : e.report.refusal ≡ Some (Limit DumpOctets dump_limit)
 
 -- ---- the clauses
 
--- what holds at status 0: the dump is whole, no interval is late, and the counts are the dump's
+-- what holds at status 0: the dumps are whole, no interval is late, and the counts are theirs
 abbrev pub IsWholeLoad : {D : Type 0} → Device D → Call D → Files → ℤ → LoadWords → FilledArchive → List Item → Type 0
 IsWholeLoad device e files moment words before reached =
-    (r : Receiving) × (packets : List (List ℕ)) × IsReceivedWhole files moment words before reached r packets
-    × IsUpToDate device e before reached × IsLoadCounted e before reached r packets
+    (dumps : List ReceivedDump) × AreReceivedWhole files moment words before reached dumps
+    × IsUpToDate device e before reached × IsLoadCounted e before reached dumps
 
--- What is printed of a dump that is received: a prefix of the whole text, and the whole text at status 0.
-abbrev pub IsLoadPrinted : {D : Type 0} → Device D → Call D → Files → ℤ → LoadWords → FilledArchive → List Item
-    → Type 0
-IsLoadPrinted device e files moment words before reached =
-    (r : Receiving) (packets : List (List ℕ)) (rest : List ℕ) (asks : List Ask)
-    → HasAsks files words.asks (Ok asks) → IsReceived files moment words before r packets rest
-    → PrintsSome e (whole_load before reached asks r packets)
-    × (Succeeded e → Prints e (whole_load before reached asks r packets))
+-- it is refused, and nothing was printed
+abbrev pub IsSilent : {D : Type 0} → Call D → Type 0
+IsSilent e = IsSome e.report.refusal × Prints e []
 
--- A load that is refused reports the lengths, and a link or none, and no counts. Unless the output failed or memory was
--- wanting nothing was printed.
+-- a refusal tells that the rest of a dump is no packet, or that a dump is too long
+abbrev pub TellsOfDump : Refusal → Type 0
+TellsOfDump (BadPacket at kind) = Unit {0}
+TellsOfDump (Limit DumpOctets number) = Unit {0}
+TellsOfDump other = ⊥
+
+-- A load that is refused reports the lengths, and no counts; a link is reported only where the refusal tells of a dump.
+-- Unless the output failed or memory was wanting nothing was printed.
 pub record IsRefusedLoad {D : Type 0} (e : Call D) (before : FilledArchive) (reached : List Item)
     (refusal : Refusal) : Type 0 where
   pub link : Option ℕ
   pub report : e.report ≡ loaded (Some refusal) link (length before.plain.history) (length reached) 0 0 0
+  pub named : IsSome link → TellsOfDump refusal
   pub silent : (refusal ≡ WriteFault → ⊥) → (refusal ≡ OutOfMemory → ⊥) → Prints e []
 
--- An archive was opened, and its packets are received at the moment that the clock tells, or at some one in its range.
--- The history that was reached is the first `after` items of the one that the disk handed back stands for, as it reads
--- and in each image that a crash leaves from then on.
+-- An archive was opened, and packets are received at the moment that the clock tells, or at some one in its range. The
+-- history that was reached is the first `after` items of the one that the disk handed back stands for, as it reads and
+-- in each image that a crash leaves from then on.
 pub record IsLoaded {D : Type 0} (device : Device D) (e : Call D) (files : Files) (clock : Option ℤ)
     (words : LoadWords) : Type 0 where
   pub before : FilledArchive
@@ -247,10 +221,7 @@ pub record IsLoaded {D : Type 0} (device : Device D) (e : Call D) (files : Files
   -- 2 and 4
   pub whole : Succeeded e → IsWholeLoad device e files moment words before reached
   -- 3
-  pub printed : IsLoadPrinted device e files moment words before reached
-  pub over_rows : (asks : List Ask) → IsSoundImage (device.reads e.disk)
-      → archive_asks_text (filled_at before reached before.fillings) 1 asks
-      ≡ asks_answers before.plain.head reached 1 asks
+  pub printed : IsSilent e ⊎ IsLoadPrinted device e files moment words before reached
   -- 5, with what holds from the opening's syncs on
   pub crashes : IsSoundAtFirst device e → LeavesOnly device e.disk e.disk'
       (λ image. IsSoundImage image × IsOnTheWay files moment words before reached image)
@@ -261,64 +232,77 @@ pub record IsLoaded {D : Type 0} (device : Device D) (e : Call D) (files : Files
 
 -- it was hindered: memory was wanting, a call failed, or the rows or the log passed a limit
 abbrev pub WasHindered : {D : Type 0} → Device D → Call D → Files → Option ℤ → LoadWords → FilledArchive → Type 0
-WasHindered device e files clock words before = WasInterrupted device e ⊎ WasOverLimit device e files clock words before
+WasHindered device e files clock words before =
+    WasInterrupted device e ⊎ (WasPending device e ⊎ WasOverLimit device e files clock words before)
 
--- an archive is there, and of the link, the route and the asks none is refused
+-- the words pass no limit of dumps or fillers, and the script of the route and the sheet of asks are read
+pub record IsBegun (files : Files) (words : LoadWords) (text : Option (List ℕ)) (sheet : Result (List Ask) Refusal)
+    : Type 0 where
+  pub within : load_limit_refusal words ≡ None
+  pub named : HasRouteText files words.route text
+  pub has : HasAsks files words.asks sheet
+
+-- an archive is there, and of the words, the route and the asks none is refused
 pub record IsAsked {D : Type 0} (device : Device D) (e : Call D) (files : Files) (words : LoadWords)
     (before : FilledArchive) : Type 0 where
   pub stands : StandsFilled (device.reads e.disk) before
-  pub near : words.link ≤ limit_of Links
   pub text : Option (List ℕ)
-  pub named : HasRouteText files words.route text
+  pub asks : List Ask
+  pub begun : IsBegun files words text (Ok asks)
+  pub near : links_refusal words ≡ None
   pub route : List RouteStatement
   pub routed : IsRouteAnswer before.plain text (Ok route)
-  pub asks : List Ask
-  pub sheet : HasAsks files words.asks (Ok asks)
   pub answerable : archive_asks_refusal before.plain asks ≡ None
 
--- why a load into an archive is refused before its dump is read: by its link, or else its route, or else its asks
+-- why a load into an archive is refused before a dump is read: by its last link, or else its route, or else its asks
 abbrev pub IsLoadRefusal : Archive → LoadWords → Option (List ℕ) → Result (List Ask) Refusal → Refusal → Type 0
 IsLoadRefusal archive words text sheet refusal =
-    (link_refusal words.link ≡ Some refusal)
-    ⊎ ((link_refusal words.link ≡ None) × (IsRouteAnswer archive text (Err refusal)
+    (links_refusal words ≡ Some refusal)
+    ⊎ ((links_refusal words ≡ None) × (IsRouteAnswer archive text (Err refusal)
     ⊎ ((route : List RouteStatement) × IsRouteAnswer archive text (Ok route)
     × (sheet_refusal archive sheet ≡ Some refusal))))
 
--- Where no archive was opened the disk is as it was, and nothing is printed. A file that isn't there is named, and one
--- that is too long told by its limit, a dump with its link, and no other is; a disk with no archive or a damaged one is
--- told of, and then the link, the route or the asks that are refused. Where none of them is a dump of packets alone has
--- status 0, and one with a rest, and no other, is told by it, but for want of memory, calls that fail, and limits that
--- the rows or the log pass.
+-- Where no archive was opened the disk is as it was, and nothing is printed. Too many dumps or fillers are told first.
+-- A file that isn't there is named, and one that is too long told by its limit, and no other is; a disk with no archive
+-- or a damaged one is told of, and then the links, the route or the asks that are refused. Where none of them is, dumps
+-- of packets alone have status 0; else the first dump by its link that is too long or has a rest is told with that, and
+-- no other; but for want of memory, calls that fail, and limits that the rows or the log pass.
 pub record IsLoadedOrNot {D : Type 0} (device : Device D) (e : Call D) (files : Files) (clock : Option ℤ)
     (words : LoadWords) : Type 0 where
   pub opened : e.report.opened ≡ true → IsLoaded device e files clock words
   pub unopened : e.report.opened ≡ false → LeavesDisk device e × IsUnopened e
-  pub unread : (refusal : Refusal) → IsFirstUnread files (load_files words) refusal
+  pub many : (refusal : Refusal) → load_limit_refusal words ≡ Some refusal → IsRefusedBy device e refusal × Prints e []
+  pub unread : (refusal : Refusal) → load_limit_refusal words ≡ None → IsFirstUnread files (load_files words) refusal
       → IsRefusedBy device e refusal × Prints e []
   pub only_unread : (refusal : Refusal) → e.report.refusal ≡ Some refusal → IsReadingRefusal refusal
-      → IsFirstUnread files (all_load_files words) refusal
-  pub lacking : (text : Option (List ℕ)) (sheet : Result (List Ask) Refusal) → HasRouteText files words.route text
-      → HasAsks files words.asks sheet → IsNone (get files words.dump) → IsRefusedBy device e (Missing words.dump)
+      → IsLoadUnread files words refusal
+  pub lacking : (text : Option (List ℕ)) (sheet : Result (List Ask) Refusal) (refusal : Refusal)
+      → IsBegun files words text sheet → IsFirstMissing files words.dumps refusal → IsRefusedBy device e refusal
   pub no_archive : (text : Option (List ℕ)) (sheet : Result (List Ask) Refusal) (refusal : Refusal)
-      → HasRouteText files words.route text → HasAsks files words.asks sheet → IsSome (get files words.dump)
-      → IsNoArchive device e refusal → IsRefusedBy device e refusal × Prints e []
+      → IsBegun files words text sheet → AreThere files words.dumps → IsNoArchive device e refusal
+      → IsRefusedBy device e refusal × Prints e []
   pub refused : (before : FilledArchive) (text : Option (List ℕ)) (sheet : Result (List Ask) Refusal)
-      → (refusal : Refusal) → StandsFilled (device.reads e.disk) before → HasRouteText files words.route text
-      → HasAsks files words.asks sheet → IsSome (get files words.dump)
-      → IsLoadRefusal before.plain words text sheet refusal → IsRefusedBy device e refusal
-  pub overlong : (before : FilledArchive) → IsAsked device e files words before
-      → IsSomeAnd (get files words.dump) (λ dump. dump_limit < length dump)
-      → ((e.report.refusal ≡ Some (Limit DumpOctets dump_limit)) × (e.report.link ≡ Some words.link))
-      ⊎ WasInterrupted device e
-  pub complete : (before : FilledArchive) (moment : ℤ) (r : Receiving) (packets : List (List ℕ))
-      → IsAsked device e files words before → IsReceived files moment words before r packets []
+      → (refusal : Refusal) → StandsFilled (device.reads e.disk) before → IsBegun files words text sheet
+      → AreThere files words.dumps → IsLoadRefusal before.plain words text sheet refusal
+      → IsRefusedBy device e refusal
+  pub complete : (before : FilledArchive) → IsAsked device e files words before
+      → ((link : ℕ) (name : List ℕ) → ComesBy words link name → IsWholeDump files name)
       → Succeeded e ⊎ WasHindered device e files clock words before
-  pub broken : (before : FilledArchive) (moment : ℤ) (r : Receiving) (packets : List (List ℕ)) (rest : List ℕ)
-      → (at : ℕ) (kind : BadKind) → IsAsked device e files words before
-      → (received : IsReceived files moment words before r packets rest) → IsBadRest received.dump rest at kind
-      → IsBroken device e files clock words before at kind ⊎ WasHindered device e files clock words before
+  pub overlong : (before : FilledArchive) (link : ℕ) (name : List ℕ) → IsAsked device e files words before
+      → AreThere files words.dumps → AreWholeBefore files words link → ComesBy words link name
+      → IsLongDump files name → IsOverlong device e files clock words before link
+      ⊎ (WasInterrupted device e ⊎ ((words.link < link) × WasHindered device e files clock words before))
+  pub broken : (before : FilledArchive) (link : ℕ) (name : List ℕ) (packets : List (List ℕ)) (rest : List ℕ)
+      → (at : ℕ) (kind : BadKind) → IsAsked device e files words before → AreThere files words.dumps
+      → AreWholeBefore files words link → ComesBy words link name → (has : HasDump files name packets rest)
+      → IsBadRest has.dump rest at kind
+      → IsBroken device e files clock words before link at kind ⊎ WasHindered device e files clock words before
+  pub only_overlong : (number : ℕ) → e.report.refusal ≡ Some (Limit DumpOctets number)
+      → HeldArchive device e (λ before. (link : ℕ) × IsOverlong device e files clock words before link)
   pub only_broken : (at : ℕ) (kind : BadKind) → e.report.refusal ≡ Some (BadPacket at kind)
-      → HeldArchive device e (λ before. IsBroken device e files clock words before at kind)
+      → HeldArchive device e (λ before. (link : ℕ) × IsBroken device e files clock words before link at kind)
+  pub only_pending : (faults : ℕ) → e.report.refusal ≡ Some (NeedsReopen faults)
+      → IsCountedSince device e.disk e.disk' (Some faults)
 
 -- so it is of each call for this job
 abbrev pub LoadClause : {D : Type 0} → Device D → Type 0

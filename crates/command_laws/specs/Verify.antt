@@ -6,7 +6,7 @@ use Rattle.refusals.specs.declared.refusal.Refusal.TheVariants.{Mismatch}
 use Rattle.outer_traits.specs.Outside.{Files}
 use Rattle.archive_store.specs.Entries.{FilledArchive}
 use Rattle.archive_store.specs.Stands.{IsSoundImage, StandsFilled}
-use Rattle.archive_verify.specs.Verified.{IsVerifyRefusal}
+use Rattle.archive_verify.specs.Verified.{TellsMismatch}
 use Rattle.command_words.specs.Job.{Verify}
 use Rattle.archive_commands.specs.Verify.{verify_line}
 use Rattle.command_laws.specs.Calls.{Call, HeldArchive, IsNoArchive, IsRefusedBy, IsRun, LeavesAll, Prints, PrintsSome, Succeeded, WasInterrupted}
@@ -19,7 +19,7 @@ IsMismatch other = ⊥
 -- what a mismatch tells of the disk handed in: it is the first one of its archive, whose fills aren't sound
 abbrev pub IsUnsound : {D : Type 0} → Device D → Call D → Refusal → Type 0
 IsUnsound device e refusal =
-    HeldArchive device e (λ filled. IsVerifyRefusal filled refusal) × (IsSoundImage (device.reads e.disk) → ⊥)
+    HeldArchive device e (λ filled. TellsMismatch filled refusal) × (IsSoundImage (device.reads e.disk) → ⊥)
 
 -- It leaves all. At status 0 the archive is sound, and its line is printed; at a mismatch it isn't, and the mismatch is
 -- its first. Where none is, or it is damaged, the refusal says so. A sound one is found so, and one that isn't has its

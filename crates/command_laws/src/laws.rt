@@ -26,8 +26,8 @@ pub fn create_clause<D: Disk>()
     ensures { CreateClause D.device }
 {}
 
-/// `load` lets the history grow by first arrivals of its dump, answers over what was reached, and leaves no interval
-/// late; a crash at any moment leaves a history on the way there.
+/// `load` lets the history grow by first arrivals of its dumps, each by a link of its own, answers over histories on the
+/// way, and leaves no interval late; a crash at any moment leaves such a history too.
 pub fn load_clause<D: Disk>()
     ensures { LoadClause D.device }
 {}

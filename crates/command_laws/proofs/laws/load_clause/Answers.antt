@@ -1,4 +1,4 @@
-use Rattle.command_laws.proofs.Loaded.{loads}
+use Rattle.command_laws.proofs.LoadClause.{loads}
 use Rattle.command_laws.proofs.laws.load_clause.Goals as goal
 
 pub returns : goal.returns

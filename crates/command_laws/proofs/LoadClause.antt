@@ -1,0 +1,294 @@
+-- The clause of `load`.
+use Rattle.std.proofs.Common.{◌≡◌, ◌⊎◌, ◌∙◌, inl, inr, ℕ, ℤ, zero, suc, ◌+◌, ◌<◌, ◌≤◌, List, [], ◌∷◌, length, Bool, true, false, Option, Some, None, refl, sym, subst, arith}
+use Rattle.std.specs.Prelude.{IsSome, nat_lt, slice_get}
+use Rattle.std.specs.FinMap.{get}
+use Rattle.std.proofs.lemmas.Bool.Decides.{nat_tests}
+use Rattle.arch_disk.specs.Disk.{Device}
+use Rattle.arch_types.specs.Dump.{IsDump}
+use Rattle.arch_types.proofs.Dumps.{dump_is_one}
+use Rattle.refusals.specs.declared.refusal.BadKind.{BadKind}
+use Rattle.refusals.specs.declared.refusal.Refusal.{Refusal}
+use Rattle.refusals.specs.declared.refusal.Refusal.TheVariants.{BadPacket, Limit}
+use Rattle.refusals.specs.declared.refusal.Which.TheVariants.{DumpOctets}
+use Rattle.refusals.specs.Limits.{limit_of}
+use Rattle.outer_traits.specs.Outside.{Files}
+use Rattle.archive_store.specs.Entries.{FilledArchive}
+use Rattle.history_items.specs.declared.items.Item.{Item}
+use Rattle.live_session.specs.Outcome.{JobsOutcome}
+use Rattle.command_plans.specs.Plan.{Requires, Way}
+use Rattle.command_words.specs.Job.{Load, LoadWords}
+use Rattle.command_words.specs.LoadLimits.{load_limit_refusal}
+use Rattle.command_runs.specs.DumpRest.{IsBadRest}
+use Rattle.command_runs.proofs.DumpRest.{bad_ending}
+use Rattle.command_runs.specs.Command.{Progress, nothing_done}
+use Rattle.load_command.specs.Load.{WhereSoundOn, after_limits, load_plan, read_load_plan}
+use Rattle.command_laws.specs.Calls.{Call, IsNoArchive, IsRefusedBy, IsRun, Prints, Succeeded, WasInterrupted}
+use Rattle.command_laws.specs.Links.{AreThere, AreWholeBefore, CameWhole, ComesBy, HasDump, IsLongDump, IsWholeDump}
+use Rattle.command_laws.specs.Load.{IsAsked, IsBroken, IsLoadedOrNot, IsOverlong, WasHindered, WasOverLimit, WasPending}
+use Rattle.command_laws.specs.NamedFiles.{HasFile}
+use Rattle.command_laws.proofs.Files.{one_content}
+use Rattle.command_laws.proofs.FirstRefused.{Earlier, none_told}
+use Rattle.command_laws.proofs.JobsLoaded.{CameToJobs, comes_of, comes_once}
+use Rattle.command_laws.proofs.LoadDue.{AreToldSo, absent_due, lacking_due, refused_due, session_due, unread_files_due}
+use Rattle.command_laws.proofs.LoadOnly.{only_told}
+use Rattle.command_laws.proofs.Loaded.{IsLeft, left_by}
+use Rattle.command_laws.proofs.Readings.{read_or_not}
+use Rattle.command_laws.proofs.Runs.{IsEndOf, archive_there, by_due, refused}
+use Rattle.command_laws.proofs.Told.{StopsAt}
+
+-- ---- dumps that are in order aren't those that aren't
+
+has_not_long : (files : Files) (name dump : List ℕ) → HasFile files DumpOctets name dump → IsLongDump files name → ⊥
+has_not_long files name dump has long = read_or_not files DumpOctets name dump (Limit DumpOctets (limit_of DumpOctets)) has (inr (long, refl))
+
+same_rest : (files : Files) (a b : List ℕ) → a ≡ b → (ps qs : List (List ℕ)) (r s : List ℕ) (one : HasDump files a ps r) (other : HasDump files b qs s) → (one.dump ≡ other.dump) × (r ≡ s)
+same_rest files a b same ps qs r s one other =
+    let dump = one_content (get files b) one.dump other.dump (subst (λ (n : List ℕ). get files n ≡ Some one.dump) same one.file.there) other.file.there in
+    (dump, (dump_is_one one.dump ps qs r s one.parts (subst (λ (d : List ℕ). IsDump d qs s) (sym dump) other.parts)).1)
+
+none_is_bad : (dump rest : List ℕ) (place : ℕ) (kind : BadKind) → rest ≡ [] → IsBadRest dump rest place kind → ⊥
+none_is_bad dump [] place kind none bad = bad
+none_is_bad dump (octet ∷ rest) place kind none bad = cc (none)
+
+whole_not_bad : (files : Files) (name : List ℕ) (packets : List (List ℕ)) (rest : List ℕ) (place : ℕ) (kind : BadKind) → IsWholeDump files name → (has : HasDump files name packets rest) → IsBadRest has.dump rest place kind → ⊥
+whole_not_bad files name packets rest place kind whole has bad =
+    none_is_bad has.dump rest place kind (sym (same_rest files name name refl whole.0 packets [] rest whole.1 has).1) bad
+
+whole_not_long : (files : Files) (name : List ℕ) → IsWholeDump files name → IsLongDump files name → ⊥
+whole_not_long files name whole long = has_not_long files name whole.1.dump whole.1.file long
+
+-- a rest is told in one way
+one_ending : (files : Files) (a b : List ℕ) → a ≡ b → (ps qs : List (List ℕ)) (r s : List ℕ) (at place : ℕ) (how kind : BadKind) (one : HasDump files a ps r) (other : HasDump files b qs s) → IsBadRest one.dump r at how
+    → IsBadRest other.dump s place kind → (at ≡ place) × (how ≡ kind)
+one_ending files a b names ps qs r s at place how kind one other first second =
+    let same = same_rest files a b names ps qs r s one other in
+    let moved : IsBadRest one.dump r place kind = subst (λ (x : List ℕ). IsBadRest one.dump x place kind) (sym same.1) (subst (λ (d : List ℕ). IsBadRest d s place kind) (sym same.0) second) in
+    let told : ◌≡◌ {A = Option Refusal} (Some (BadPacket at how)) (Some (BadPacket place kind)) = bad_ending one.dump r at how first ∙ sym (bad_ending one.dump r place kind moved) in
+    let where_is : at ≡ place = cc (told) in
+    let kind_is : how ≡ kind = cc (told) in (where_is, kind_is)
+
+-- ---- numbers
+
+compare : (n m : ℕ) → (n < m) ⊎ ((n ≡ m) ⊎ (m < n))
+compare n m = first (nat_lt n m) refl
+  where
+    second : (b : Bool) → nat_lt m n ≡ b → m ≤ n → (n < m) ⊎ ((n ≡ m) ⊎ (m < n))
+    second true is most = inr (inr (grind (arith, nat_tests, is)))
+    second false is most = let other : n ≤ m = grind (arith, nat_tests, is) in inr (inl (omega (arith, most, other)))
+
+    first : (b : Bool) → nat_lt n m ≡ b → (n < m) ⊎ ((n ≡ m) ⊎ (m < n))
+    first true is = inl (grind (arith, nat_tests, is))
+    first false is = let most : m ≤ n = grind (arith, nat_tests, is) in second (nat_lt m n) refl most
+
+-- ---- dumps of words
+
+from_names : (files : Files) (names : List (List ℕ)) → ((place : ℕ) (name : List ℕ) → slice_get names place ≡ Some name → IsSome (get files name)) → AreThere files names
+from_names files [] each = tt
+from_names files (name ∷ names) each = (each zero name refl, from_names files names (λ place n is. each (suc place) n is))
+
+all_there : (files : Files) (words : LoadWords) → ((link : ℕ) (name : List ℕ) → ComesBy words link name → IsWholeDump files name) → AreThere files words.dumps
+all_there files words whole = from_names files words.dumps (λ place name is.
+    let dump = whole (words.link + place) name (record { place = place; number = refl; name_is = is }) in subst IsSome (sym dump.1.file.there) refl)
+
+module _ {D : Type 0} (device : Device D) (e : Call D) (files : Files) (clock : Option ℤ) (words : LoadWords) where
+  abbrev Where : Type 0 → Type 0
+  Where = WhereSoundOn device e.disk
+
+  -- ---- what the jobs came to
+
+  module _ (before : FilledArchive) (ready : IsAsked device e files words before) (c : JobsOutcome) (came : CameToJobs files clock words before Where ready.asks c) where
+    -- the dump of a link that came whole is whole
+    came_dump : (moment : ℤ) (reached : List Item) (link : ℕ) (name : List ℕ) → CameWhole files moment words before reached link → ComesBy words link name → IsWholeDump files name
+    came_dump moment reached link name whole comes =
+        let own = whole.1 in
+        let same = comes_once words link own.name name own.comes comes in (
+          whole.0.packets,
+          subst (λ (r : List ℕ). HasDump files name whole.0.packets r) whole.2.0 (subst (λ (n : List ℕ). HasDump files n whole.0.packets whole.0.rest) same own.has),
+        )
+
+    abbrev Hindered : Type 0
+    Hindered = WasHindered device e files clock words before
+
+    hindered : WasPending device e ⊎ WasOverLimit device e files clock words before → Hindered
+    hindered why = inr why
+
+    -- ---- all dumps are whole
+
+    complete_so : ((link : ℕ) (name : List ℕ) → ComesBy words link name → IsWholeDump files name) → AreToldSo device e files clock words before ready.asks c came → Succeeded e ⊎ Hindered
+    complete_so whole (inl none) = none.1
+    complete_so whole (inr (t, said, cause, cut)) = elim cause [
+      | inl broken ↦
+          let bad = broken.3 in
+          absurd (whole_not_bad files bad.received.name bad.d.packets bad.d.rest broken.1 broken.2 (whole broken.0 bad.received.name bad.received.comes) bad.received.has bad.bad)
+      | inr others ↦ elim others [
+        | inl overlong ↦ let long = overlong.1 in absurd (whole_not_long files long.name (whole overlong.0 long.name long.comes) long.long)
+        | inr cut_or ↦ elim cut_or [
+          | inl is_cut ↦ inr (inl (cut is_cut))
+          | inr why ↦ inr (hindered why.1)
+        ]
+      ]
+    ]
+
+    -- ---- the dump of a link isn't, and those before it are
+
+    module _ (link : ℕ) (name : List ℕ) (comes : ComesBy words link name) (whole : AreWholeBefore files words link) where
+      told_all : Earlier files clock words before Where ready.asks c came (words.link + length words.dumps) → IsWholeDump files name
+      told_all all = let number = comes_of words link name comes in came_dump _ c.reached link name (all link number.0 number.1) comes
+
+      comes_to : (other : ℕ) → other ≡ link → ComesBy words other name
+      comes_to other same = subst (λ (n : ℕ). ComesBy words n name) (sym same) comes
+
+      low : words.link ≤ link
+      low = (comes_of words link name comes).0
+
+      -- the one that is told comes by no other link
+      module _ (NotWhole : IsWholeDump files name → ⊥) where
+        broken_here : (other place : ℕ) (kind : BadKind) → IsBroken device e files clock words before other place kind → other ≡ link
+        broken_here other place kind bad = elim (compare other link) [
+          | inl below ↦ absurd (whole_not_bad files bad.received.name bad.d.packets bad.d.rest place kind (whole other bad.received.name bad.received.comes below) bad.received.has bad.bad)
+          | inr more ↦ elim more [
+            | inl same ↦ same
+            | inr above ↦ absurd (NotWhole (came_dump bad.told.moment bad.told.reached link name (bad.told.earlier link low above) comes))
+          ]
+        ]
+
+        overlong_here : (other : ℕ) → IsOverlong device e files clock words before other → other ≡ link
+        overlong_here other long = elim (compare other link) [
+          | inl below ↦ absurd (whole_not_long files long.name (whole other long.name long.comes below) long.long)
+          | inr more ↦ elim more [
+            | inl same ↦ same
+            | inr above ↦ absurd (NotWhole (came_dump long.told.moment long.told.reached link name (long.told.earlier link low above) comes))
+          ]
+        ]
+
+      -- it is too long
+
+      abbrev OverlongDue : Type 0
+      OverlongDue = IsOverlong device e files clock words before link ⊎ (WasInterrupted device e ⊎ ((words.link < link) × Hindered))
+
+      -- what hinders comes by a link before it
+      before_it : IsLongDump files name → StopsAt files clock words before Where ready.asks c came device e → words.link < link
+      before_it long stops = elim (compare words.link link) [
+        | inl below ↦ below
+        | inr more ↦ elim more [
+          | inl same ↦ elim (compare stops.upto link) [
+            | inl lower ↦ let least = stops.low in absurd (omega (arith, same, least, lower))
+            | inr other ↦ elim other [
+              | inl here ↦ let short = stops.short name (comes_to stops.upto here) in absurd (has_not_long files name short.0 short.1 long)
+              | inr above ↦ absurd (whole_not_long files name (came_dump _ c.reached link name (stops.earlier link low above) comes) long)
+            ]
+          ]
+          | inr above ↦ let least = low in absurd (omega (arith, least, above))
+        ]
+      ]
+
+      overlong_so : IsLongDump files name → AreToldSo device e files clock words before ready.asks c came → OverlongDue
+      overlong_so long (inl none) = absurd (whole_not_long files name (told_all (none_told files clock words before Where ready.asks c came none.0)) long)
+      overlong_so long (inr (t, said, cause, cut)) = elim cause [
+        | inl broken ↦
+            let bad = broken.3 in
+            let here = broken_here (λ is_whole. whole_not_long files name is_whole long) broken.0 broken.1 broken.2 bad in
+            let same = comes_once words broken.0 bad.received.name name bad.received.comes (comes_to broken.0 here) in
+            absurd (has_not_long files name bad.received.has.dump (subst (λ (n : List ℕ). HasFile files DumpOctets n bad.received.has.dump) same bad.received.has.file) long)
+        | inr others ↦ elim others [
+          | inl overlong ↦ inl (subst (IsOverlong device e files clock words before) (overlong_here (λ is_whole. whole_not_long files name is_whole long) overlong.0 overlong.1) overlong.1)
+          | inr cut_or ↦ elim cut_or [
+            | inl is_cut ↦ inr (inl (cut is_cut))
+            | inr why ↦ inr (inr (before_it long why.0, hindered why.1))
+          ]
+        ]
+      ]
+
+      -- or it has a rest
+
+      module _ (packets : List (List ℕ)) (rest : List ℕ) (has : HasDump files name packets rest) (place : ℕ) (kind : BadKind) (bad : IsBadRest has.dump rest place kind) where
+        not_whole : IsWholeDump files name → ⊥
+        not_whole is_whole = whole_not_bad files name packets rest place kind is_whole has bad
+
+        broken_same : (other at : ℕ) (how : BadKind) → IsBroken device e files clock words before other at how → IsBroken device e files clock words before link place kind
+        broken_same other at how is =
+            let here = broken_here not_whole other at how is in
+            let same = comes_once words other is.received.name name is.received.comes (comes_to other here) in
+            let ending = one_ending files is.received.name name same is.d.packets packets is.d.rest rest at place how kind is.received.has has is.bad bad in
+            subst (λ (n : ℕ). IsBroken device e files clock words before n place kind) here
+            (subst (λ (k : BadKind). IsBroken device e files clock words before other place k) ending.1 (subst (λ (n : ℕ). IsBroken device e files clock words before other n how) ending.0 is))
+
+        broken_so : AreToldSo device e files clock words before ready.asks c came → IsBroken device e files clock words before link place kind ⊎ Hindered
+        broken_so (inl none) = absurd (not_whole (told_all (none_told files clock words before Where ready.asks c came none.0)))
+        broken_so (inr (t, said, cause, cut)) = elim cause [
+          | inl broken ↦ inl (broken_same broken.0 broken.1 broken.2 broken.3)
+          | inr others ↦ elim others [
+            | inl overlong ↦
+                let long = overlong.1 in
+                let here = overlong_here not_whole overlong.0 long in
+                let same = comes_once words overlong.0 long.name name long.comes (comes_to overlong.0 here) in
+                absurd (has_not_long files name has.dump has.file (subst (IsLongDump files) same long.long))
+            | inr cut_or ↦ elim cut_or [
+              | inl is_cut ↦ inr (inl (cut is_cut))
+              | inr why ↦ inr (hindered why.1)
+            ]
+          ]
+        ]
+
+-- ---- the clause
+
+module _ {D : Type 0} (device : Device D) (e : Call D) (files : Files) (clock : Option ℤ) (words : LoadWords) (run : IsRun device e files clock (Load words)) where
+  left : IsLeft device e files clock words
+  left = left_by device e files clock words run
+
+  -- what is due goes by the plan
+  due : (P : Type 0) → (WasInterrupted device e → P) → ((way : Way Progress ⊥) → IsEndOf device e way → ((found : Option Refusal) → found ≡ load_limit_refusal words → Requires (after_limits device e.disk (Some files) clock words found) way) → P) → P
+  unfolding load_plan
+  due P cut go = by_due device e files clock (Load words) run P cut (λ way required at. go way at required)
+
+  -- where the words pass no limit
+  due_read : (P : Type 0) → load_limit_refusal words ≡ None → (WasInterrupted device e → P) → ((way : Way Progress ⊥) → IsEndOf device e way → Requires (read_load_plan device e.disk (Some files) clock words) way → P) → P
+  due_read P few cut go = due P cut (λ way at required. go way at (required None (sym few)))
+
+  many_due : (refusal : Refusal) → load_limit_refusal words ≡ Some refusal → IsRefusedBy device e refusal
+  many_due refusal many = due (IsRefusedBy device e refusal) (λ cut. inr cut) (λ way at required. refused e way at (nothing_done 0) refusal (required (Some refusal) (sym many)))
+
+  quiet_opening : (refusal : Refusal) → IsNoArchive device e refusal → (opened : Bool) → e.report.opened ≡ opened → Prints e []
+  quiet_opening refusal is true opened = absurd (archive_there device e (left.opened opened).before refusal (left.opened opened).held is)
+  quiet_opening refusal is false closed = (left.unopened closed).1.silent
+
+  -- by what the jobs came to
+  by_session : (P : Type 0) (before : FilledArchive) (ready : IsAsked device e files words before) (there : AreThere files words.dumps) → (WasInterrupted device e → P)
+      → ((c : JobsOutcome) (came : CameToJobs files clock words before (WhereSoundOn device e.disk) ready.asks c) → AreToldSo device e files clock words before ready.asks c came → P) → P
+  by_session P before ready there cut go = due_read P ready.begun.within cut (λ way at required. elim (session_due device e files clock words way at before ready there run.transparent required) [
+    | inl went ↦ go went.0 went.1.0 went.1.1
+    | inr off ↦ cut off
+  ])
+
+  pub loads : IsLoadedOrNot device e files clock words
+  loads = record {
+    opened = left.opened;
+    unopened = left.unopened;
+    many = λ refusal passed. (many_due refusal passed, left.limited refusal passed);
+    unread = λ refusal few first. (
+      due_read (IsRefusedBy device e refusal) few (λ cut. inr cut) (λ way at required. unread_files_due device e files clock words way at refusal first required),
+      left.quiet refusal first,
+    );
+    only_unread = (only_told device e files clock words run).unread;
+    lacking = λ text sheet refusal begun missing. due_read (IsRefusedBy device e refusal) begun.within (λ cut. inr cut)
+        (λ way at required. lacking_due device e files clock words way at text sheet begun refusal missing required);
+    no_archive = λ text sheet refusal begun there is. (
+      due_read (IsRefusedBy device e refusal) begun.within (λ cut. inr cut) (λ way at required. absent_due device e files clock words way at text sheet begun refusal there is required),
+      quiet_opening refusal is e.report.opened refl,
+    );
+    refused = λ before text sheet refusal stands begun there is. due_read (IsRefusedBy device e refusal) begun.within (λ cut. inr cut)
+        (λ way at required. refused_due device e files clock words way at text sheet begun before refusal stands there is required);
+    complete = λ before ready whole.
+        let there = all_there files words whole in
+        by_session (Succeeded e ⊎ WasHindered device e files clock words before) before ready there (λ cut. inr (inl cut))
+        (λ c came so. complete_so device e files clock words before ready c came whole so);
+    overlong = λ before link name ready there whole comes long.
+        by_session (IsOverlong device e files clock words before link ⊎ (WasInterrupted device e ⊎ ((words.link < link) × WasHindered device e files clock words before))) before ready there
+        (λ cut. inr (inl cut)) (λ c came so. overlong_so device e files clock words before ready c came link name comes whole long so);
+    broken = λ before link name packets rest place kind ready there whole comes has bad.
+        by_session (IsBroken device e files clock words before link place kind ⊎ WasHindered device e files clock words before) before ready there (λ cut. inr (inl cut))
+        (λ c came so. broken_so device e files clock words before ready c came link name comes whole packets rest has place kind bad so);
+    only_overlong = (only_told device e files clock words run).overlong;
+    only_broken = (only_told device e files clock words run).broken;
+    only_pending = (only_told device e files clock words run).pending;
+  }

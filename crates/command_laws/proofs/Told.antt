@@ -1,0 +1,297 @@
+-- Why a load is refused by what is told of its jobs.
+use Rattle.std.proofs.Common.{◌≡◌, ◌⊎◌, ◌∙◌, inl, inr, ℕ, ℤ, ◌+◌, ◌<◌, ◌≤◌, List, [], ◌∷◌, length, drop, true, Option, Some, None, refl, sym, ap, subst, arith}
+use Rattle.std.specs.Prelude.{IfSome, IsSome, IsSomeAnd}
+use Rattle.std.specs.FinMap.{get}
+use Rattle.std.specs.List.{AllByRecursion, list_any}
+use Rattle.std.proofs.lemmas.List.{length-drop}
+use Rattle.arch_disk.specs.Disk.{Device, raised}
+use Rattle.arch_types.specs.declared.row.Row.{Row}
+use Rattle.archive_history.specs.Limits.{PassesFirst}
+use Rattle.asks.specs.declared.ask.Ask.{Ask}
+use Rattle.refusals.specs.declared.refusal.BadKind.{BadKind}
+use Rattle.refusals.specs.declared.refusal.BadKind.TheVariants as bad
+use Rattle.refusals.specs.declared.refusal.Refusal.{Refusal}
+use Rattle.refusals.specs.declared.refusal.Refusal.TheVariants.{BadPacket, DiskFault, Limit, NeedsReopen, OutOfMemory, ReadFault}
+use Rattle.refusals.specs.declared.refusal.Which.{Which}
+use Rattle.refusals.specs.declared.refusal.Which.TheVariants.{DumpOctets, Records}
+use Rattle.refusals.specs.Limits.{limit_of}
+use Rattle.outer_traits.specs.Outside.{Files}
+use Rattle.history_items.specs.declared.fills.Addition.TheVariants.{Rows}
+use Rattle.history_items.specs.declared.items.Item.{Item}
+use Rattle.history_items.specs.Items.{after_rows, rows_in}
+use Rattle.history_items.proofs.Outcomes.{fresh_added}
+use Rattle.space_packet.specs.declared.dump.Why.{Why}
+use Rattle.space_packet.specs.declared.dump.Why.TheVariants as why
+use Rattle.space_packet.specs.Rest.{why_of}
+use Rattle.archive_store.specs.Entries.{FilledArchive}
+use Rattle.archive_store.specs.Stands.{StandsFor}
+use Rattle.load_session.specs.During.{with_history}
+use Rattle.archive_store.specs.Limits.{IsLimit}
+use Rattle.load_session.specs.Session.{next_fresh_rows, next_rows}
+use Rattle.load_jobs.specs.Ends.{IsReadingEnd, is_of_dump, kind_of_rest, refusal_of_end}
+use Rattle.load_jobs.specs.declared.ending.LinkEnd.{LinkEnd}
+use Rattle.load_jobs.specs.declared.ending.LinkEnd.TheVariants.{Whole, Rest, Unread, TooLong, Refused}
+use Rattle.live_session.specs.declared.told.Told.{Told}
+use Rattle.live_session.specs.Links.{IsSentCause, IsSentInto, IsSentTo}
+use Rattle.live_session.specs.Outcome.{IsOtherRefusal, JobsOutcome}
+use Rattle.command_words.specs.Job.{LoadWords}
+use Rattle.command_runs.specs.Causes.{IsCountedSince}
+use Rattle.command_runs.specs.DumpRest.{IsBadRest, dump_limit}
+use Rattle.command_runs.proofs.DumpRest.{bad_rest, why_bad}
+use Rattle.load_command.specs.Loading.{is_unread}
+use Rattle.command_laws.specs.Calls.{Call}
+use Rattle.command_laws.specs.Links.{ComesBy, IsLongDump}
+use Rattle.command_laws.specs.Load.{ArePassed, AreRecordsPassed, IsBroken, IsOverlong, IsReached, IsToldOf, WasOverLimit, WasPending}
+use Rattle.command_laws.specs.NamedFiles.{HasFile}
+use Rattle.command_laws.proofs.Readings.{read_or_not}
+use Rattle.command_laws.proofs.FirstRefused.{Earlier, IsFirstRefused, IsOtherRefused}
+use Rattle.command_laws.proofs.JobsLoaded.{CameToJobs, comes_of, comes_once, dump_there, moment, none_in_hand, only_rows, place_within, sent_dump, sent_file, sent_received, sent_there, short_in_hand, to}
+
+-- ---- what is wrong with a dump
+
+some_long : (o : Option (List ℕ)) → IsSome o → IfSome o (λ octets. limit_of DumpOctets < length octets) → IsSomeAnd o (λ octets. dump_limit < length octets)
+some_long None some over = absurd (cc (some))
+some_long (Some octets) some over = over
+
+why_is : (why' : Why) (kind : BadKind) → kind_of_rest why' ≡ Some kind → why_bad kind ≡ why'
+why_is why.End kind is = absurd (cc (is))
+why_is why.Version bad.Version is = refl
+why_is why.Version bad.Truncated is = absurd (cc (is))
+why_is why.Truncated bad.Truncated is = refl
+why_is why.Truncated bad.Version is = absurd (cc (is))
+
+-- a rest that begins at an octet, and is no packet
+rest_is_bad : (dump rest : List ℕ) (place : ℕ) (kind : BadKind) → rest ≡ drop place dump → kind_of_rest (why_of rest) ≡ Some kind → IsBadRest dump rest place kind
+rest_is_bad dump [] place kind is no_packet = absurd (cc (no_packet))
+rest_is_bad dump (octet ∷ rest) place kind is no_packet =
+    let long = ap (λ (l : List ℕ). length l) is ∙ length-drop place dump in
+    bad_rest dump (octet ∷ rest) place kind (omega (arith, long)) (why_is (why_of (octet ∷ rest)) kind no_packet)
+
+-- ---- the cause
+
+module _ (files : Files) (clock : Option ℤ) (words : LoadWords) (before : FilledArchive) (Where : Type 0 → Type 0) (asks : List Ask) (c : JobsOutcome) (came : CameToJobs files clock words before Where asks c)
+    {D : Type 0} (device : Device D) (e : Call D) where
+  abbrev now : ℤ
+  now = moment files clock words before Where asks c came
+
+  -- A call ended by what is told of the jobs.
+  pub record IsToldEnd (t : Told) : Type 0 where
+    pub refusal : e.report.refusal ≡ Some t.refusal
+    pub link : e.report.link ≡ t.link
+    pub holds : IsReached device e files now words before c.reached
+    pub exact : ((rows : List Row) → c.failed ≡ Some (Rows rows) → rows ≡ []) → StandsFor (device.reads e.disk') (with_history before.plain c.reached)
+    pub faulted : IsSome c.failed → raised (device.fault_count e.disk) ≤ device.fault_count e.disk'
+    pub pending : (faults : ℕ) → t.refusal ≡ NeedsReopen faults → IsSome c.failed → IsCountedSince device e.disk e.disk' (Some faults)
+    pub recorded : (number : ℕ) → t.refusal ≡ Limit Records number → AreRecordsPassed device e before c.reached
+
+  -- memory was wanting, or a call of the inputs or of the disk failed
+  abbrev pub IsCut : Refusal → Type 0
+  IsCut OutOfMemory = Unit {0}
+  IsCut ReadFault = list_any is_unread c.ends ≡ true
+  IsCut DiskFault = raised (device.fault_count e.disk) ≤ device.fault_count e.disk'
+  IsCut other = ⊥
+
+  -- How far the links came: those before this one are whole, and its dump, if there is one, is within the limit.
+  pub record StopsAt : Type 0 where
+    pub upto : ℕ
+    pub low : words.link ≤ upto
+    pub earlier : Earlier files clock words before Where asks c came upto
+    pub short : (name : List ℕ) → ComesBy words upto name → (dump : List ℕ) × HasFile files DumpOctets name dump
+
+  abbrev pub IsBrokenSome : Type 0
+  IsBrokenSome = (link : ℕ) × (place : ℕ) × (kind : BadKind) × IsBroken device e files clock words before link place kind
+
+  abbrev pub IsOverlongSome : Type 0
+  IsOverlongSome = (link : ℕ) × IsOverlong device e files clock words before link
+
+  -- Why it is told: a dump has a rest that is no packet, or is too long; the load was cut off; or a write had failed, or a limit is passed.
+  abbrev pub IsToldCause : Told → Type 0
+  IsToldCause t = IsBrokenSome ⊎ (IsOverlongSome ⊎ (IsCut t.refusal ⊎ (StopsAt × (WasPending device e ⊎ WasOverLimit device e files clock words before))))
+
+  module _ (t : Told) (end : IsToldEnd t) where
+    -- a limit that is passed by what is known of it
+    over_limit : (which : Which) → t.refusal ≡ Limit which (limit_of which) → ArePassed files now words before c.reached which ⊎ ((which ≡ Records) × AreRecordsPassed device e before c.reached)
+        → WasOverLimit device e files clock words before
+    over_limit which is passed = record {
+      moment = now;
+      known = came.given.moment;
+      reached = c.reached;
+      holds = end.holds;
+      which = which;
+      limit = end.refusal ∙ ap Some is;
+      passed = passed;
+    }
+
+    module _ (first : IsFirstRefused files clock words before Where asks c came t) where
+      abbrev Sent : Type 0
+      Sent = IsSentInto before.plain.exponent c.failed c.reached (to files clock words before Where asks c came first.link) (get files first.name) first.loads.put first.end
+
+      abbrev told_of_dump : is_of_dump first.end ≡ true → (length words.dumps ≡ 1 → (rows : List Row) → c.failed ≡ Some (Rows rows) → rows ≡ []) → IsToldOf device e files clock words before first.link
+      told_of_dump of_dump none = record {
+        moment = now;
+        known = came.given.moment;
+        reached = c.reached;
+        holds = end.holds;
+        earlier = first.earlier;
+        named = end.link ∙ first.named of_dump;
+        alone = λ one. end.exact (none one);
+      }
+
+      stops_here : Sent → StopsAt
+      stops_here sent = record {
+        upto = first.link;
+        low = (comes_of words first.link first.name first.comes).0;
+        earlier = first.earlier;
+        short = λ name comes. (
+          sent.dump,
+          subst (λ (n : List ℕ). HasFile files DumpOctets n sent.dump) (comes_once words first.link first.name name first.comes comes) (record {
+            there = sent_file files clock words before Where asks c came first.link first.name first.comes first.loads.put first.end sent;
+            short = sent.short;
+          }),
+        );
+      }
+
+      -- where there is one dump, its link came to all of the history
+      alone_reached : (sent : Sent) → length words.dumps ≡ 1 → sent.came_to.reached ≡ c.reached
+      alone_reached sent one =
+          let within = place_within words.dumps first.comes.place first.name first.comes.name_is in
+          let number = first.comes.number in
+          let same : words.link ≡ first.link = omega (arith, number, within, one) in
+          (sent.alone came.outcome.more came.outcome.grown
+          (subst (λ (n : ℕ). AllByRecursion (λ (row : Row). row.link ≡ n) came.outcome.more) same (only_rows files clock words before Where asks c came one))).0
+
+      -- the next batch of a link passes a limit
+      batch_passes : (sent : Sent) (which : Which) (number records : ℕ) → Limit which number ≡ t.refusal
+          → IsLimit before.plain.exponent which records (after_rows sent.came_to.reached (next_rows (to files clock words before Where asks c came first.link) sent.came_to))
+          → ArePassed files now words before c.reached which ⊎ ((which ≡ Records) × AreRecordsPassed device e before c.reached)
+      batch_passes sent which number records same (inl of_rows) =
+          let s = sent.came_to in
+          let r = to files clock words before Where asks c came first.link in inl (record {
+            history = s.reached;
+            within = sent.reached;
+            alone = alone_reached sent;
+            rows = next_fresh_rows r s;
+            batch = record {
+              link = first.link;
+              d = sent_dump files clock words before Where asks c came first.link first.name first.comes first.loads.put first.end sent;
+              received = sent_received files clock words before Where asks c came first.link first.name first.comes first.loads.put first.end sent;
+              place = s.place;
+              rows_are = refl;
+            };
+            limit = of_rows.0;
+            which_is = of_rows.1;
+            passes = subst (λ (h : List Item). PassesFirst before.plain.exponent of_rows.0 (rows_in h)) (fresh_added s.reached (next_rows r s)) of_rows.2;
+          })
+      batch_passes sent which number records same (inr of_records) =
+          inr (of_records.0, end.recorded number (sym same ∙ ap (λ (w : Which). Limit w number) of_records.0))
+
+      -- a link's sending was refused
+      sending_refused : (sent : Sent) (refusal : Refusal) → refusal ≡ t.refusal → IsSentCause before.plain.exponent c.failed (to files clock words before Where asks c came first.link) sent.came_to (Some refusal)
+          → IsToldCause t
+      sending_refused sent OutOfMemory same cause = inr (inr (inl (subst IsCut same tt)))
+      sending_refused sent DiskFault same cause = inr (inr (inl (subst IsCut same (end.faulted (subst IsSome (sym cause) refl)))))
+      sending_refused sent (NeedsReopen faults) same cause =
+          inr (inr (inr (stops_here sent, inl (faults, end.refusal ∙ ap Some (sym same), end.pending faults (sym same) cause))))
+      sending_refused sent (Limit which number) same cause =
+          inr (inr (inr (
+            stops_here sent,
+            inr (over_limit which (sym same ∙ ap (λ (n : ℕ). Limit which n) cause.0) (batch_passes sent which number cause.1.0 same cause.1.1)),
+          )))
+      sending_refused sent other same cause = absurd cause
+
+    not_long : (first : IsFirstRefused files clock words before Where asks c came t) → IsLongDump files first.name → (dump : List ℕ) × HasFile files DumpOctets first.name dump → ⊥
+    not_long first long read = read_or_not files DumpOctets first.name read.0 (Limit DumpOctets (limit_of DumpOctets)) read.1 (inr (long, refl))
+
+    -- by how the first link that was refused ended
+    by_end : (first : IsFirstRefused files clock words before Where asks c came t) (x : LinkEnd) → first.end ≡ x → IsToldCause t
+    by_end first (Whole summary) is = let never : ◌≡◌ {A = Option Refusal} None (Some t.refusal) = sym (ap refusal_of_end is) ∙ first.refusal in absurd (cc (never))
+    by_end first Unread is =
+        let said : ◌≡◌ {A = Option Refusal} (Some ReadFault) (Some t.refusal) = sym (ap refusal_of_end is) ∙ first.refusal in
+        let same : ReadFault ≡ t.refusal = cc (said) in inr (inr (inl (subst IsCut same (first.unread is))))
+    by_end first (Rest place kind) is = go first.loads.dump
+      where
+        said : ◌≡◌ {A = Option Refusal} (Some (BadPacket place kind)) (Some t.refusal)
+        said = sym (ap refusal_of_end is) ∙ first.refusal
+
+        go : Sent first ⊎ (IsReadingEnd (get files first.name) first.end × (first.loads.put ≡ [])) → IsToldCause t
+        go (inl sent) =
+            let s = sent.came_to in
+            let sent_to = subst (IsSentTo sent.dump (to files clock words before Where asks c came first.link) s) is sent.sent_to in
+            let same : BadPacket place kind ≡ t.refusal = cc (said) in inl (
+              first.link,
+              place,
+              kind,
+              record {
+                told = told_of_dump first (ap is_of_dump is)
+                    (λ one rows failed. none_in_hand files clock words before Where asks c came one first.link first.name first.comes first.loads.put first.end sent sent_to.0 rows failed);
+                d = sent_dump files clock words before Where asks c came first.link first.name first.comes first.loads.put first.end sent;
+                received = sent_received files clock words before Where asks c came first.link first.name first.comes first.loads.put first.end sent;
+                there = sent_there files clock words before Where asks c came first.link first.name first.comes first.loads.put first.end sent sent_to.0;
+                bad = rest_is_bad sent.dump s.rest place kind sent_to.1 sent_to.2;
+                refusal = end.refusal ∙ ap Some (sym same);
+              },
+            )
+        go (inr unread) = let never = subst (IsReadingEnd (get files first.name)) is unread.0 in absurd never
+    by_end first TooLong is = go first.loads.dump
+      where
+        said : ◌≡◌ {A = Option Refusal} (Some (Limit DumpOctets (limit_of DumpOctets))) (Some t.refusal)
+        said = sym (ap refusal_of_end is) ∙ first.refusal
+
+        go : Sent first ⊎ (IsReadingEnd (get files first.name) first.end × (first.loads.put ≡ [])) → IsToldCause t
+        go (inl sent) =
+            let never = subst (IsSentTo sent.dump (to files clock words before Where asks c came first.link) sent.came_to) is sent.sent_to in absurd never
+        go (inr unread) =
+            let over = subst (IsReadingEnd (get files first.name)) is unread.0 in
+            let long = some_long (get files first.name) (dump_there files clock words before Where asks c came first.link first.name first.comes) over in
+            let same : Limit DumpOctets (limit_of DumpOctets) ≡ t.refusal = cc (said) in inr (inl (
+              first.link,
+              record {
+                told = told_of_dump first (ap is_of_dump is) (λ one rows failed. absurd (not_long first long (short_in_hand files clock words before Where asks c came one first.link first.name first.comes rows failed)));
+                name = first.name;
+                comes = first.comes;
+                long = long;
+                refusal = end.refusal ∙ ap Some (sym same);
+              },
+            ))
+    by_end first (Refused refusal) is = go first.loads.dump
+      where
+        said : ◌≡◌ {A = Option Refusal} (Some refusal) (Some t.refusal)
+        said = sym (ap refusal_of_end is) ∙ first.refusal
+
+        same : refusal ≡ t.refusal
+        same = cc (said)
+
+        go : Sent first ⊎ (IsReadingEnd (get files first.name) first.end × (first.loads.put ≡ [])) → IsToldCause t
+        go (inl sent) =
+            let s = sent.came_to in
+            let r = to files clock words before Where asks c came first.link in
+            let why_not = subst (IsSentTo sent.dump r s) is sent.sent_to in
+            sending_refused first sent refusal same (subst (IsSentCause before.plain.exponent c.failed r s) why_not sent.cause)
+        go (inr unread) =
+            let memory = subst (IsReadingEnd (get files first.name)) is unread.0 in inr (inr (inl (subst IsCut (sym memory ∙ same) tt)))
+
+    -- a reader or a filler was refused
+    module _ (all : Earlier files clock words before Where asks c came (words.link + length words.dumps)) where
+      stops_behind : StopsAt
+      stops_behind = record {
+        upto = words.link + length words.dumps;
+        low = omega arith;
+        earlier = all;
+        short = λ name comes.
+            let within = place_within words.dumps comes.place name comes.name_is in
+            let number = comes.number in absurd (omega (arith, within, number));
+      }
+
+      other_refused : (refusal : Refusal) → refusal ≡ t.refusal → IsOtherRefusal c.failed (Some refusal) → IsToldCause t
+      other_refused OutOfMemory same cause = inr (inr (inl (subst IsCut same tt)))
+      other_refused DiskFault same cause = inr (inr (inl (subst IsCut same (end.faulted (subst IsSome (sym cause.1) refl)))))
+      other_refused (NeedsReopen faults) same cause =
+          inr (inr (inr (stops_behind, inl (faults, end.refusal ∙ ap Some (sym same), end.pending faults (sym same) cause))))
+      other_refused (Limit which number) same cause =
+          let records : t.refusal ≡ Limit Records number = sym same ∙ ap (λ (w : Which). Limit w number) cause.0 in
+          inr (inr (inr (stops_behind, inr (over_limit Records (records ∙ ap (λ (n : ℕ). Limit Records n) cause.1) (inr (refl, end.recorded number records))))))
+      other_refused other same cause = absurd cause
+
+    pub cause_of : IsFirstRefused files clock words before Where asks c came t ⊎ IsOtherRefused files clock words before Where asks c came t → IsToldCause t
+    cause_of (inl first) = by_end first first.end refl
+    cause_of (inr others) = other_refused others.all t.refusal refl others.cause
