@@ -12,7 +12,9 @@ use crate::late_tests::late_packets;
 use arch_disk::{Disk, MemDisk};
 use outer_traits::mem_inputs::FailingCall;
 use std::alloc::{AllocError, Global};
+use std::sync::Wait;
 use std::test::Fail;
+use std::thread::Threads;
 
 const USAGE: Wanted = (1, "", "usage", None);
 
@@ -173,7 +175,7 @@ fn creations() -> &'static [Call] {
 
 #[test]
 fn creates_tables(rt: HostRuntime) -> Result<(), Fail> {
-    none_other(other_alone(rt.alloc(), creations()))
+    none_other(other_alone(&rt, rt.alloc(), creations()))
 }
 
 /// A script is looked at before the disk.
@@ -346,7 +348,7 @@ fn routes_refused() -> &'static [Call] {
 }
 
 const ANSWERED: &str =
-    "ask 1 front 2\ncell 1500 140886016 7 7\nend 1\nload packets 3 new 2 duplicates 1 idle 0 rows 2\n";
+    "ask 1 front 2\ncell 1500 140886016 7 7\nend 1\nload packets 3 new 0 duplicates 3 idle 0 rows 2\n";
 
 const REPLAYED: &str =
     "ask 1 front 2\npacket tm 1500 140820480 7 HDR 13\npacket tm 1500 140886016 7 HDR 13\nend 2\nload packets 3 new 0 duplicates 3 idle 0 rows 2\n";
@@ -372,9 +374,11 @@ const LOADS_WITH_ASKS: &[Call] = &[
         "load --ask=backwards broken",
         (1, "", "bad range 2000 0", Some((0, 0))),
     ),
+    // What a reader answers beside a dump with new rows may be over the history before them.
+    ("load --link 7 twice", (0, FIRST_LOAD, "", Some((0, 2)))),
     (
         "load --ask asks --link 7 twice",
-        (0, ANSWERED, "", Some((0, 2))),
+        (0, ANSWERED, "", Some((2, 2))),
     ),
     (
         "load --link 9 --ask replayed twice",
@@ -410,7 +414,8 @@ const WORDS_OF_A_LOAD: &[Call] = &[
     ("load --link 12345678901234567890 twice", USAGE),
     ("load --link 1 --link 1 twice", USAGE),
     ("load twice --link", USAGE),
-    ("load twice twice", USAGE),
+    ("load --fillers 0 twice", USAGE),
+    ("load --fillers 9 x", (2, "", "limit Fillers 8", None)),
     ("load", USAGE),
     ("recover x", USAGE),
     ("verify x", USAGE),
@@ -420,12 +425,60 @@ const WORDS_OF_A_LOAD: &[Call] = &[
     ("query script", USAGE),
 ];
 
+const MANY_DUMPS: &[Call] = &[
+    (CREATE, (0, CREATED, "", Some((0, 0)))),
+    ("load third x y", (1, "", "no input x", None)),
+    (
+        "load --link 255 third twice",
+        (2, "", "limit Links 255", Some((0, 0))),
+    ),
+    // The first link is refused, and the second goes on to its end.
+    (
+        "load asks third",
+        (2, "", "bad packet at 0: version", Some((0, 1))),
+    ),
+    (
+        "load --fillers 2 third twice",
+        (
+            0,
+            "load packets 4 new 2 duplicates 2 idle 0 rows 3\n",
+            "",
+            Some((1, 3)),
+        ),
+    ),
+    (
+        "load --fillers 8 --link 254 twice twice",
+        (
+            0,
+            "load packets 6 new 0 duplicates 6 idle 0 rows 3\n",
+            "",
+            Some((3, 3)),
+        ),
+    ),
+    (
+        "load twice broken asks",
+        (2, "", "bad packet at 20: version", Some((3, 3))),
+    ),
+    (
+        "load twice twice twice twice twice twice twice twice twice twice twice twice twice twice twice twice x",
+        (2, "", "limit Dumps 16", None),
+    ),
+    (
+        "verify",
+        (0, "sound rows 3 intervals 1 late 0\n", "", Some((3, 3))),
+    ),
+];
+
+fn many_dumps() -> &'static [Call] {
+    MANY_DUMPS
+}
+
 fn load_words() -> &'static [Call] {
     WORDS_OF_A_LOAD
 }
 
 /// Calls in a row, each run on a new disk. Each table is a function of its own: in one they cost much more to prove.
-fn runs() -> [Named; 8] {
+fn runs() -> [Named; 9] {
     [
         ("a day", a_day_of_calls()),
         ("a script where an archive is", on_an_archive()),
@@ -434,13 +487,14 @@ fn runs() -> [Named; 8] {
         ("refused routes", routes_refused()),
         ("loads with asks", calls_with_asks()),
         ("words of a load", load_words()),
+        ("loads of many dumps", many_dumps()),
         ("late packets", late_packets()),
     ]
 }
 
 #[test]
 fn calls_in_a_row(rt: HostRuntime) -> Result<(), Fail> {
-    none_other_of(other_run(rt.alloc(), &runs()))
+    none_other_of(other_run(&rt, rt.alloc(), &runs()))
 }
 
 /// Rows of a sheet, and how the query of the archive of two named packets has to end.
@@ -581,22 +635,40 @@ fn sheet_of(alloc: Global, rows: &str) -> Result<Vec<u8>, AllocError> {
 }
 
 /// Whether the query of a sheet with these rows ends so, and the disk.
-fn is_answered<D: Disk>(alloc: Global, disk: D, rows: &str, want: &Wanted) -> (bool, D) {
+fn is_answered<D: Disk + Send, R: Threads + Wait + Sync>(
+    rt: &R,
+    alloc: Global,
+    disk: D,
+    rows: &str,
+    want: &Wanted,
+) -> (bool, D) {
     match sheet_of(alloc, rows) {
         Ok(sheet) => {
             let files = [("sheet", sheet.as_slice())];
-            called(alloc, "query --ask sheet", &files_alone(&files), disk, want)
+            called(
+                rt,
+                alloc,
+                "query --ask sheet",
+                &files_alone(&files),
+                disk,
+                want,
+            )
         }
         Err(_) => (false, disk),
     }
 }
 
 /// The place of the first sheet whose query ends otherwise.
-fn other_answer<D: Disk + Drop>(alloc: Global, disk: D, sheets: &[Call]) -> Option<usize> {
+fn other_answer<D: Disk + Send + Drop, R: Threads + Wait + Sync>(
+    rt: &R,
+    alloc: Global,
+    disk: D,
+    sheets: &[Call],
+) -> Option<usize> {
     let mut disk = disk;
     let mut place = 0usize;
     for (rows, want) in sheets {
-        let (is_so, left) = is_answered(alloc, disk, rows, want);
+        let (is_so, left) = is_answered(rt, alloc, disk, rows, want);
         disk = left;
         if !is_so {
             return Some(place);
@@ -607,14 +679,19 @@ fn other_answer<D: Disk + Drop>(alloc: Global, disk: D, sheets: &[Call]) -> Opti
 }
 
 /// The same on the archive of two named packets.
-fn other_replay<D: Disk + Drop>(alloc: Global, disk: D, sheets: &[Call]) -> Option<usize> {
-    let (_, disk) = other_call(alloc, disk, named_load());
-    other_answer(alloc, disk, sheets)
+fn other_replay<D: Disk + Send + Drop, R: Threads + Wait + Sync>(
+    rt: &R,
+    alloc: Global,
+    disk: D,
+    sheets: &[Call],
+) -> Option<usize> {
+    let (_, disk) = other_call(rt, alloc, disk, named_load());
+    other_answer(rt, alloc, disk, sheets)
 }
 
 #[test]
 fn replays(rt: HostRuntime) -> Result<(), Fail> {
-    none_other(other_replay(rt.alloc(), MemDisk::new(rt.alloc()), replay_sheets()))
+    none_other(other_replay(&rt, rt.alloc(), MemDisk::new(rt.alloc()), replay_sheets()))
 }
 
 /// Calls whose first write fails.
@@ -646,14 +723,19 @@ fn without_output() -> Outside<'static> {
 }
 
 /// The place of the first of these calls that ends otherwise there.
-fn other_unwritten<D: Disk + Drop>(alloc: Global, disk: D, calls: &[Call]) -> Option<usize> {
-    let (other, _disk) = other_over(alloc, disk, &without_output(), calls);
+fn other_unwritten<D: Disk + Send + Drop, R: Threads + Wait + Sync>(
+    rt: &R,
+    alloc: Global,
+    disk: D,
+    calls: &[Call],
+) -> Option<usize> {
+    let (other, _disk) = other_over(rt, alloc, disk, &without_output(), calls);
     other
 }
 
 #[test]
 fn writes_that_fail(rt: HostRuntime) -> Result<(), Fail> {
-    none_other(other_unwritten(rt.alloc(), MemDisk::new(rt.alloc()), unwritten()))
+    none_other(other_unwritten(&rt, rt.alloc(), MemDisk::new(rt.alloc()), unwritten()))
 }
 
 /// A line of words, the read of its first source that fails, or 0 for the opening, and how its call has to end.
@@ -684,22 +766,32 @@ fn unread() -> &'static [Unread] {
 }
 
 /// Whether a call ends so where this read of its first source fails, and the disk.
-fn ends_unread<D: Disk>(alloc: Global, disk: D, call: &Unread) -> (bool, D) {
+fn ends_unread<D: Disk + Send, R: Threads + Wait + Sync>(
+    rt: &R,
+    alloc: Global,
+    disk: D,
+    call: &Unread,
+) -> (bool, D) {
     let (line, read, want) = *call;
     let outside = Outside {
         files: files(),
         reads: &[FailingCall { opening: 1, read }],
         writes: &[],
     };
-    called(alloc, line, &outside, disk, &want)
+    called(rt, alloc, line, &outside, disk, &want)
 }
 
 /// The place of the first of these calls that ends otherwise.
-fn other_unread<D: Disk + Drop>(alloc: Global, disk: D, calls: &[Unread]) -> Option<usize> {
+fn other_unread<D: Disk + Send + Drop, R: Threads + Wait + Sync>(
+    rt: &R,
+    alloc: Global,
+    disk: D,
+    calls: &[Unread],
+) -> Option<usize> {
     let mut disk = disk;
     let mut place = 0usize;
     for call in calls {
-        let (is_so, left) = ends_unread(alloc, disk, call);
+        let (is_so, left) = ends_unread(rt, alloc, disk, call);
         disk = left;
         if !is_so {
             return Some(place);
@@ -711,7 +803,7 @@ fn other_unread<D: Disk + Drop>(alloc: Global, disk: D, calls: &[Unread]) -> Opt
 
 #[test]
 fn reads_that_fail(rt: HostRuntime) -> Result<(), Fail> {
-    none_other(other_unread(rt.alloc(), MemDisk::new(rt.alloc()), unread()))
+    none_other(other_unread(&rt, rt.alloc(), MemDisk::new(rt.alloc()), unread()))
 }
 
 const NO_ARCHIVE: &[Call] = &[
@@ -765,30 +857,42 @@ fn held() -> [Held; 3] {
 }
 
 /// Whether a call ends so on a disk on which octets are written first.
-fn ends_over<D: Disk + Drop>(alloc: Global, disk: D, octets: &[u8], call: &Call) -> bool {
+fn ends_over<D: Disk + Send + Drop, R: Threads + Wait + Sync>(
+    rt: &R,
+    alloc: Global,
+    disk: D,
+    octets: &[u8],
+    call: &Call,
+) -> bool {
     let mut disk = disk;
     if !octets.is_empty() {
         let _ = disk.write_at(0, 0, octets);
     }
-    other_on(alloc, disk, &[*call]).is_none()
+    other_on(rt, alloc, disk, &[*call]).is_none()
 }
 
 /// The same on a new disk, or on one that fails.
-fn ends_held(alloc: Global, fails: bool, octets: &[u8], call: &Call) -> bool {
+fn ends_held<R: Threads + Wait + Sync>(
+    rt: &R,
+    alloc: Global,
+    fails: bool,
+    octets: &[u8],
+    call: &Call,
+) -> bool {
     let disk = if fails {
         failing(alloc, &[1])
     } else {
         MemDisk::new(alloc)
     };
-    ends_over(alloc, disk, octets, call)
+    ends_over(rt, alloc, disk, octets, call)
 }
 
 /// The place of the first call of a row that ends otherwise.
-fn other_held(alloc: Global, row: &Held) -> Option<usize> {
+fn other_held<R: Threads + Wait + Sync>(rt: &R, alloc: Global, row: &Held) -> Option<usize> {
     let (_, fails, octets, calls) = *row;
     let mut place = 0usize;
     for call in calls {
-        if !ends_held(alloc, fails, octets, call) {
+        if !ends_held(rt, alloc, fails, octets, call) {
             return Some(place);
         }
         place = place.saturating_add(1);
@@ -797,9 +901,13 @@ fn other_held(alloc: Global, row: &Held) -> Option<usize> {
 }
 
 /// The first row with such a call.
-fn other_row(alloc: Global, rows: &[Held]) -> Option<(&'static str, usize)> {
+fn other_row<R: Threads + Wait + Sync>(
+    rt: &R,
+    alloc: Global,
+    rows: &[Held],
+) -> Option<(&'static str, usize)> {
     for row in rows {
-        if let Some(place) = other_held(alloc, row) {
+        if let Some(place) = other_held(rt, alloc, row) {
             return Some((row.0, place));
         }
     }
@@ -808,7 +916,7 @@ fn other_row(alloc: Global, rows: &[Held]) -> Option<(&'static str, usize)> {
 
 #[test]
 fn what_a_disk_may_hold(rt: HostRuntime) -> Result<(), Fail> {
-    none_other_of(other_row(rt.alloc(), &held()))
+    none_other_of(other_row(&rt, rt.alloc(), &held()))
 }
 
 const LOADED: &[Call] = &[

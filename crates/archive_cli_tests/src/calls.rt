@@ -8,6 +8,7 @@ use arch_disk::Disk;
 use archive_cli::run::run;
 use archive_cli::{Ended, Report};
 use outer_traits::clock::FixedClock;
+use outer_traits::gate::OpenGate;
 use outer_traits::inputs::Inputs;
 use outer_traits::mem_inputs::{FailingCall, File, MemInputs};
 use outer_traits::mem_sink::MemSink;
@@ -15,7 +16,9 @@ use outer_traits::sink::Sink;
 use refusals::FaultText;
 use std::alloc::{AllocError, Global};
 use std::fmt::Display;
+use std::sync::Wait;
 use std::test::Fail;
+use std::thread::Threads;
 
 /// A file's name and octets.
 pub(crate) type NamedFile<'a> = (&'a str, &'a [u8]);
@@ -91,21 +94,30 @@ fn taken(alloc: Global, line: &str, outside: &Outside<'_>) -> Result<Taken, Allo
 }
 
 /// A call of the program at 9 s.
-fn ended<D: Disk, I: Inputs, K: Sink>(
+fn ended<D: Disk + Send, I: Inputs, K: Sink, R: Threads + Wait + Sync>(
+    rt: &R,
     alloc: Global,
     words: &[String],
     disk: D,
     inputs: &mut I,
     sink: &mut K,
-) -> Ended<D> {
+) -> Ended<D>
+where
+    I::Source: Send,
+{
     let mut clock = FixedClock::new(9000);
-    run(alloc, words, disk, inputs, sink, &mut clock)
+    run(rt, alloc, words, disk, inputs, sink, &mut clock, &OpenGate)
 }
 
 /// The same of what was taken, and what was printed.
-fn printed<D: Disk>(alloc: Global, taken: Taken, disk: D) -> (Ended<D>, Vec<u8>) {
+fn printed<D: Disk + Send, R: Threads + Wait + Sync>(
+    rt: &R,
+    alloc: Global,
+    taken: Taken,
+    disk: D,
+) -> (Ended<D>, Vec<u8>) {
     let (words, mut inputs, mut sink) = taken;
-    let ended = ended(alloc, words.as_slice(), disk, &mut inputs, &mut sink);
+    let ended = ended(rt, alloc, words.as_slice(), disk, &mut inputs, &mut sink);
     (ended, sink.octets)
 }
 
@@ -138,7 +150,8 @@ fn is_wanted<D>(alloc: Global, ended: &Ended<D>, octets: &[u8], want: &Wanted) -
 }
 
 /// Whether a call ends so, and its disk.
-pub(crate) fn called<D: Disk>(
+pub(crate) fn called<D: Disk + Send, R: Threads + Wait + Sync>(
+    rt: &R,
     alloc: Global,
     line: &str,
     outside: &Outside<'_>,
@@ -147,7 +160,7 @@ pub(crate) fn called<D: Disk>(
 ) -> (bool, D) {
     match taken(alloc, line, outside) {
         Ok(taken) => {
-            let (ended, octets) = printed(alloc, taken, disk);
+            let (ended, octets) = printed(rt, alloc, taken, disk);
             let is_so = is_wanted(alloc, &ended, octets.as_slice(), want);
             (is_so, ended.disk)
         }
@@ -156,14 +169,15 @@ pub(crate) fn called<D: Disk>(
 }
 
 /// Whether a call on a disk with these files ends so. Generic, so that what a disk owns stands in no goal.
-pub(crate) fn ends_so<D: Disk + Drop>(
+pub(crate) fn ends_so<D: Disk + Send + Drop, R: Threads + Wait + Sync>(
+    rt: &R,
     alloc: Global,
     line: &str,
     files: &[NamedFile<'_>],
     disk: D,
     want: &Wanted,
 ) -> bool {
-    let (is_so, _disk) = called(alloc, line, &files_alone(files), disk, want);
+    let (is_so, _disk) = called(rt, alloc, line, &files_alone(files), disk, want);
     is_so
 }
 
@@ -185,7 +199,8 @@ const OUT_OF_MEMORY: Outcome = Outcome {
 };
 
 /// What came of a call, and its disk.
-pub(crate) fn call<D: Disk>(
+pub(crate) fn call<D: Disk + Send, R: Threads + Wait + Sync>(
+    rt: &R,
     alloc: Global,
     line: &str,
     outside: &Outside<'_>,
@@ -193,7 +208,7 @@ pub(crate) fn call<D: Disk>(
 ) -> (Outcome, D) {
     match taken(alloc, line, outside) {
         Ok(taken) => {
-            let (ended, octets) = printed(alloc, taken, disk);
+            let (ended, octets) = printed(rt, alloc, taken, disk);
             let outcome = Outcome {
                 status: ended.status,
                 after: ended.report.after,

@@ -9,7 +9,9 @@ use crate::late_tests::unfilled;
 use arch_disk::{Crash, Disk, MemDisk};
 use outer_traits::mem_inputs::FailingCall;
 use std::alloc::Global;
+use std::sync::Wait;
 use std::test::Fail;
+use std::thread::Threads;
 
 const DAY: &[&str] = &[
     CREATE,
@@ -48,29 +50,44 @@ fn evening() -> &'static [Call] {
 }
 
 /// The status of a command, how many rows the archive has afterwards, and the disk.
-fn command<D: Disk>(alloc: Global, line: &str, disk: D) -> (u8, u64, D) {
-    let (outcome, disk) = call(alloc, line, &files_alone(files()), disk);
+fn command<D: Disk + Send, R: Threads + Wait + Sync>(
+    rt: &R,
+    alloc: Global,
+    line: &str,
+    disk: D,
+) -> (u8, u64, D) {
+    let (outcome, disk) = call(rt, alloc, line, &files_alone(files()), disk);
     (outcome.status, outcome.after, disk)
 }
 
 /// Whether a command answers that it was done, or that the disk failed. It says the second exactly where a call of the disk failed, and is given once
 /// more then: the archive of a `create` that failed may be there.
-fn goes_on<D: Disk>(alloc: Global, line: &str, disk: D) -> (bool, D) {
+fn goes_on<D: Disk + Send, R: Threads + Wait + Sync>(
+    rt: &R,
+    alloc: Global,
+    line: &str,
+    disk: D,
+) -> (bool, D) {
     let before = disk.faults();
-    let (status, _, disk) = command(alloc, line, disk);
+    let (status, _, disk) = command(rt, alloc, line, disk);
     if disk.faults() == before {
         return (status == 0, disk);
     }
-    let (again, _, disk) = command(alloc, line, disk);
+    let (again, _, disk) = command(rt, alloc, line, disk);
     let is_done = again == 0 || (again == 1 && line == CREATE);
     (status == 5 && is_done, disk)
 }
 
 /// Whether all commands of a day go on so, and the disk.
-fn all_go_on<D: Disk>(alloc: Global, lines: &[&'static str], disk: D) -> (bool, D) {
+fn all_go_on<D: Disk + Send, R: Threads + Wait + Sync>(
+    rt: &R,
+    alloc: Global,
+    lines: &[&'static str],
+    disk: D,
+) -> (bool, D) {
     let mut disk = disk;
     for line in lines {
-        let (goes, left) = goes_on(alloc, line, disk);
+        let (goes, left) = goes_on(rt, alloc, line, disk);
         disk = left;
         if !goes {
             return (false, disk);
@@ -89,12 +106,16 @@ enum Came {
     Wrong,
 }
 
-fn came_of<D: Disk + Drop>(alloc: Global, disk: D) -> Came {
-    let (goes, disk) = all_go_on(alloc, day(), disk);
+fn came_of<D: Disk + Send + Drop, R: Threads + Wait + Sync>(
+    rt: &R,
+    alloc: Global,
+    disk: D,
+) -> Came {
+    let (goes, disk) = all_go_on(rt, alloc, day(), disk);
     if disk.faults() == 0 {
         return Came::Unfailed;
     }
-    if goes && other_on(alloc, disk, evening()).is_none() {
+    if goes && other_on(rt, alloc, disk, evening()).is_none() {
         Came::Right
     } else {
         Came::Wrong
@@ -102,9 +123,9 @@ fn came_of<D: Disk + Drop>(alloc: Global, disk: D) -> Came {
 }
 
 /// The first call of the disk of whose fault something else comes. A day makes some sixty: if these are few, it is call 0.
-fn wrong_day(alloc: Global) -> Option<u64> {
+fn wrong_day<R: Threads + Wait + Sync>(rt: &R, alloc: Global) -> Option<u64> {
     for fails in 1..200u64 {
-        match came_of(alloc, failing(alloc, &[fails])) {
+        match came_of(rt, alloc, failing(alloc, &[fails])) {
             Came::Right => {}
             Came::Unfailed => return if fails > 40 { None } else { Some(0) },
             Came::Wrong => return Some(fails),
@@ -115,13 +136,19 @@ fn wrong_day(alloc: Global) -> Option<u64> {
 
 #[test]
 fn each_call_of_the_disk_fails_in_turn(rt: HostRuntime) -> Result<(), Fail> {
-    none_other(wrong_day(rt.alloc()))
+    none_other(wrong_day(&rt, rt.alloc()))
 }
 
 /// Whether what a crash left opens and is sound, with as many rows as before a command or behind it; before a `create` there may be none.
-fn opens<D: Disk + Drop>(alloc: Global, image: D, before: Option<u64>, behind: u64) -> bool {
-    let (found, _, image) = command(alloc, "verify", image);
-    let (status, rows, _image) = command(alloc, "recover", image);
+fn opens<D: Disk + Send + Drop, R: Threads + Wait + Sync>(
+    rt: &R,
+    alloc: Global,
+    image: D,
+    before: Option<u64>,
+    behind: u64,
+) -> bool {
+    let (found, _, image) = command(rt, alloc, "verify", image);
+    let (status, rows, _image) = command(rt, alloc, "recover", image);
     if status == 1 {
         return before.is_none();
     }
@@ -129,7 +156,8 @@ fn opens<D: Disk + Drop>(alloc: Global, image: D, before: Option<u64>, behind: u
 }
 
 /// The same of each kind of crash at a moment.
-fn all_open<D: Crashing>(
+fn all_open<D: Crashing, R: Threads + Wait + Sync>(
+    rt: &R,
     alloc: Global,
     disk: &D,
     moment: usize,
@@ -138,7 +166,7 @@ fn all_open<D: Crashing>(
 ) -> bool {
     for crash in Crash::ALL {
         let is_so = match disk.image_at(moment, crash) {
-            Some(image) => opens(alloc, image, before, behind),
+            Some(image) => opens(rt, alloc, image, before, behind),
             None => false,
         };
         if !is_so {
@@ -149,7 +177,8 @@ fn all_open<D: Crashing>(
 }
 
 /// The same of each moment behind the first calls.
-fn all_open_since<D: Crashing>(
+fn all_open_since<D: Crashing, R: Threads + Wait + Sync>(
+    rt: &R,
     alloc: Global,
     disk: &D,
     from: usize,
@@ -157,7 +186,7 @@ fn all_open_since<D: Crashing>(
     behind: u64,
 ) -> bool {
     for moment in from..disk.kept() {
-        if !all_open(alloc, disk, moment.saturating_add(1), before, behind) {
+        if !all_open(rt, alloc, disk, moment.saturating_add(1), before, behind) {
             return false;
         }
     }
@@ -186,20 +215,30 @@ fn fills() -> &'static [Step] {
 }
 
 /// Whether what crashes leave during a command opens so, and the disk.
-fn is_right_across<D: Crashing>(alloc: Global, step: &Step, disk: D) -> (bool, D) {
+fn is_right_across<D: Crashing, R: Threads + Wait + Sync>(
+    rt: &R,
+    alloc: Global,
+    step: &Step,
+    disk: D,
+) -> (bool, D) {
     let (line, before, behind) = *step;
     let from = disk.kept();
-    let (status, rows, disk) = command(alloc, line, disk);
-    let are_open = all_open_since(alloc, &disk, from, before, behind);
+    let (status, rows, disk) = command(rt, alloc, line, disk);
+    let are_open = all_open_since(rt, alloc, &disk, from, before, behind);
     (status == 0 && rows == behind && are_open, disk)
 }
 
 /// The place of the first of these commands of which it isn't so.
-fn wrong_step<D: Crashing>(alloc: Global, steps: &[Step], disk: D) -> Option<usize> {
+fn wrong_step<D: Crashing, R: Threads + Wait + Sync>(
+    rt: &R,
+    alloc: Global,
+    steps: &[Step],
+    disk: D,
+) -> Option<usize> {
     let mut disk = disk;
     let mut place = 0usize;
     for step in steps {
-        let (is_right, left) = is_right_across(alloc, step, disk);
+        let (is_right, left) = is_right_across(rt, alloc, step, disk);
         disk = left;
         if !is_right {
             return Some(place);
@@ -210,16 +249,20 @@ fn wrong_step<D: Crashing>(alloc: Global, steps: &[Step], disk: D) -> Option<usi
 }
 
 /// The same of the recovery of an archive without fills.
-fn wrong_fill<D: Crashing>(alloc: Global, disk: D) -> Option<usize> {
-    let (_, disk) = overwritten(alloc, disk, &unfilled());
-    wrong_step(alloc, fills(), disk)
+fn wrong_fill<D: Crashing, R: Threads + Wait + Sync>(
+    rt: &R,
+    alloc: Global,
+    disk: D,
+) -> Option<usize> {
+    let (_, disk) = overwritten(rt, alloc, disk, &unfilled());
+    wrong_step(rt, alloc, fills(), disk)
 }
 
 #[test]
 fn crashes_at_each_moment(rt: HostRuntime) -> Result<(), Fail> {
     let alloc = rt.alloc();
-    none_other(wrong_step(alloc, steps(), MemDisk::new(alloc)))?;
-    none_other(wrong_fill(alloc, MemDisk::new(alloc)))
+    none_other(wrong_step(&rt, alloc, steps(), MemDisk::new(alloc)))?;
+    none_other(wrong_fill(&rt, alloc, MemDisk::new(alloc)))
 }
 
 /// A command, whether it is given to an archive, and how many inputs it opens.
@@ -264,7 +307,8 @@ fn unmade() -> &'static [Call] {
 }
 
 /// Whether a command tells that a read failed, and prints nothing.
-fn is_told<D: Disk + Drop>(
+fn is_told<D: Disk + Send + Drop, R: Threads + Wait + Sync>(
+    rt: &R,
     alloc: Global,
     reader: &Reader,
     opening: u64,
@@ -273,20 +317,25 @@ fn is_told<D: Disk + Drop>(
 ) -> bool {
     let (line, has_archive, _) = *reader;
     let calls = if has_archive { made() } else { unmade() };
-    let (_, disk) = other_call(alloc, disk, calls);
+    let (_, disk) = other_call(rt, alloc, disk, calls);
     let outside = Outside {
         files: files(),
         reads: &[FailingCall { opening, read }],
         writes: &[],
     };
-    let (outcome, _disk) = call(alloc, line, &outside, disk);
+    let (outcome, _disk) = call(rt, alloc, line, &outside, disk);
     outcome.status == 3 && outcome.printed == 0
 }
 
 /// The same of each read of one input: that it is opened, its octets, and that there are no more.
-fn all_told(alloc: Global, reader: &Reader, opening: u64) -> bool {
+fn all_told<R: Threads + Wait + Sync>(
+    rt: &R,
+    alloc: Global,
+    reader: &Reader,
+    opening: u64,
+) -> bool {
     for read in 0..3u64 {
-        if !is_told(alloc, reader, opening, read, MemDisk::new(alloc)) {
+        if !is_told(rt, alloc, reader, opening, read, MemDisk::new(alloc)) {
             return false;
         }
     }
@@ -294,10 +343,10 @@ fn all_told(alloc: Global, reader: &Reader, opening: u64) -> bool {
 }
 
 /// Whether it is so of each input of a command.
-fn is_told_of_each(alloc: Global, reader: &Reader) -> bool {
+fn is_told_of_each<R: Threads + Wait + Sync>(rt: &R, alloc: Global, reader: &Reader) -> bool {
     let (_, _, inputs) = *reader;
     for before in 0..inputs {
-        if !all_told(alloc, reader, before.saturating_add(1)) {
+        if !all_told(rt, alloc, reader, before.saturating_add(1)) {
             return false;
         }
     }
@@ -305,10 +354,10 @@ fn is_told_of_each(alloc: Global, reader: &Reader) -> bool {
 }
 
 /// The place of the first of these commands of which it isn't.
-fn untold(alloc: Global, readers: &[Reader]) -> Option<usize> {
+fn untold<R: Threads + Wait + Sync>(rt: &R, alloc: Global, readers: &[Reader]) -> Option<usize> {
     let mut place = 0usize;
     for reader in readers {
-        if !is_told_of_each(alloc, reader) {
+        if !is_told_of_each(rt, alloc, reader) {
             return Some(place);
         }
         place = place.saturating_add(1);
@@ -318,5 +367,5 @@ fn untold(alloc: Global, readers: &[Reader]) -> Option<usize> {
 
 #[test]
 fn each_read_fails_in_turn(rt: HostRuntime) -> Result<(), Fail> {
-    none_other(untold(rt.alloc(), readers()))
+    none_other(untold(&rt, rt.alloc(), readers()))
 }

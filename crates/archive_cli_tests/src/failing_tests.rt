@@ -7,7 +7,9 @@ use crate::in_a_row::{CREATE, overwritten};
 use crate::late_tests::unfilled;
 use arch_disk::{Crash, Disk, MemDisk};
 use std::alloc::{AllocError, Global};
+use std::sync::Wait;
 use std::test::Fail;
+use std::thread::Threads;
 
 /// 66 packets, which are two batches.
 fn two_batches(alloc: Global) -> Result<Vec<u8>, AllocError> {
@@ -18,24 +20,42 @@ fn two_batches(alloc: Global) -> Result<Vec<u8>, AllocError> {
     Ok(dump)
 }
 
-/// A call over the sheets and these octets as `batches`: its status, the length of the history afterwards, and the disk.
-fn call_over<D: Disk>(alloc: Global, line: &str, batches: &[u8], disk: D) -> (u8, u64, D) {
+/// A call over the sheets and these octets as `batches`, of which two packets are `batch`: its status, the length of the history afterwards, and the disk.
+fn call_over<D: Disk + Send, R: Threads + Wait + Sync>(
+    rt: &R,
+    alloc: Global,
+    line: &str,
+    batches: &[u8],
+    disk: D,
+) -> (u8, u64, D) {
     let [parameters, calibrations, containers] = sheets();
-    let files = [parameters, calibrations, containers, ("batches", batches)];
-    let (outcome, disk) = crate::calls::call(alloc, line, &files_alone(&files), disk);
+    let (batch, _) = batches.split_at(batches.len().min(26));
+    let files = [
+        parameters,
+        calibrations,
+        containers,
+        ("batches", batches),
+        ("batch", batch),
+    ];
+    let (outcome, disk) = crate::calls::call(rt, alloc, line, &files_alone(&files), disk);
     (outcome.status, outcome.after, disk)
 }
 
 /// The same with the two batches. Without memory for these the status is that of the program.
-fn call<D: Disk>(alloc: Global, line: &str, disk: D) -> (u8, u64, D) {
+fn call<D: Disk + Send, R: Threads + Wait + Sync>(
+    rt: &R,
+    alloc: Global,
+    line: &str,
+    disk: D,
+) -> (u8, u64, D) {
     match two_batches(alloc) {
-        Ok(batches) => call_over(alloc, line, batches.as_slice(), disk),
+        Ok(batches) => call_over(rt, alloc, line, batches.as_slice(), disk),
         Err(_) => (7, 0, disk),
     }
 }
 
 /// A disk that tells how many calls were made, how many of them are kept, and what its crashes leave behind so many of these.
-pub(crate) trait Crashing: Disk + Drop {
+pub(crate) trait Crashing: Disk + Send + Drop {
     fn calls(&self) -> u64;
 
     fn kept(&self) -> usize;
@@ -64,21 +84,35 @@ impl Crashing for MemDisk {
 }
 
 /// The status of a `recover`, and how many rows the archive has then.
-fn recovered<D: Disk + Drop>(alloc: Global, disk: D) -> (u8, u64) {
-    let (status, rows, _disk) = call(alloc, "recover", disk);
+fn recovered<D: Disk + Send + Drop, R: Threads + Wait + Sync>(
+    rt: &R,
+    alloc: Global,
+    disk: D,
+) -> (u8, u64) {
+    let (status, rows, _disk) = call(rt, alloc, "recover", disk);
     (status, rows)
 }
 
 /// The same of what a crash leaves.
-fn recovered_behind<D: Crashing>(alloc: Global, disk: &D, crash: Crash) -> Option<(u8, u64)> {
+fn recovered_behind<D: Crashing, R: Threads + Wait + Sync>(
+    rt: &R,
+    alloc: Global,
+    disk: &D,
+    crash: Crash,
+) -> Option<(u8, u64)> {
     let image = disk.image_at(disk.kept(), crash)?;
-    Some(recovered(alloc, image))
+    Some(recovered(rt, alloc, image))
 }
 
 /// Whether what each kind of crash leaves is an archive that opens and has just these rows.
-fn images_hold<D: Crashing>(alloc: Global, disk: &D, rows: u64) -> bool {
+fn images_hold<D: Crashing, R: Threads + Wait + Sync>(
+    rt: &R,
+    alloc: Global,
+    disk: &D,
+    rows: u64,
+) -> bool {
     for crash in Crash::ALL {
-        if recovered_behind(alloc, disk, crash) != Some((0, rows)) {
+        if recovered_behind(rt, alloc, disk, crash) != Some((0, rows)) {
             return false;
         }
     }
@@ -86,9 +120,13 @@ fn images_hold<D: Crashing>(alloc: Global, disk: &D, rows: u64) -> bool {
 }
 
 /// Whether none of them is an archive.
-fn images_hold_none<D: Crashing>(alloc: Global, disk: &D) -> bool {
+fn images_hold_none<D: Crashing, R: Threads + Wait + Sync>(
+    rt: &R,
+    alloc: Global,
+    disk: &D,
+) -> bool {
     for crash in Crash::ALL {
-        if recovered_behind(alloc, disk, crash) != Some((1, 0)) {
+        if recovered_behind(rt, alloc, disk, crash) != Some((1, 0)) {
             return false;
         }
     }
@@ -107,14 +145,19 @@ enum Made {
 
 /// Loads two batches into a new archive on a disk whose call of this number fails. The answer says so, and afterwards the disk has the rows that the
 /// report tells, whatever a crash leaves.
-fn made_and_loaded<D: Crashing>(alloc: Global, fails: u64, disk: D) -> Made {
-    let (status, rows, disk) = call(alloc, "load batches", disk);
-    let are_kept = images_hold(alloc, &disk, rows);
+fn made_and_loaded<D: Crashing, R: Threads + Wait + Sync>(
+    rt: &R,
+    alloc: Global,
+    fails: u64,
+    disk: D,
+) -> Made {
+    let (status, rows, disk) = call(rt, alloc, "load batches", disk);
+    let are_kept = images_hold(rt, alloc, &disk, rows);
     let has_failed = disk.calls() >= fails;
     let is_told = status == if has_failed { 5 } else { 0 };
     let is_whole = rows == 0 || rows == 64 || rows == 66;
     // Where it hasn't, a call of the `recover` would.
-    let is_held = !has_failed || recovered(alloc, disk) == (0, rows);
+    let is_held = !has_failed || recovered(rt, alloc, disk) == (0, rows);
     if is_told && is_whole && are_kept && is_held {
         Made::Archive
     } else {
@@ -123,8 +166,13 @@ fn made_and_loaded<D: Crashing>(alloc: Global, fails: u64, disk: D) -> Made {
 }
 
 /// The same after a `create` that failed.
-fn made_none<D: Crashing>(alloc: Global, status: u8, disk: &D) -> Made {
-    if status == 5 && images_hold_none(alloc, disk) {
+fn made_none<D: Crashing, R: Threads + Wait + Sync>(
+    rt: &R,
+    alloc: Global,
+    status: u8,
+    disk: &D,
+) -> Made {
+    if status == 5 && images_hold_none(rt, alloc, disk) {
         Made::None
     } else {
         Made::Wrong
@@ -132,20 +180,25 @@ fn made_none<D: Crashing>(alloc: Global, status: u8, disk: &D) -> Made {
 }
 
 /// The same from the making of the archive on.
-fn made_on<D: Crashing>(alloc: Global, fails: u64, disk: D) -> Made {
-    let (status, _, disk) = call(alloc, CREATE, disk);
+fn made_on<D: Crashing, R: Threads + Wait + Sync>(
+    rt: &R,
+    alloc: Global,
+    fails: u64,
+    disk: D,
+) -> Made {
+    let (status, _, disk) = call(rt, alloc, CREATE, disk);
     if status == 0 {
-        made_and_loaded(alloc, fails, disk)
+        made_and_loaded(rt, alloc, fails, disk)
     } else {
-        made_none(alloc, status, &disk)
+        made_none(rt, alloc, status, &disk)
     }
 }
 
 /// The first call that leaves something else where it fails. Most leave an archive: if these are few, it is call 0.
-fn wrong_load(alloc: Global) -> Option<u64> {
+fn wrong_load<R: Threads + Wait + Sync>(rt: &R, alloc: Global) -> Option<u64> {
     let mut made = 0u64;
     for fails in 1..40u64 {
-        match made_on(alloc, fails, failing(alloc, &[fails])) {
+        match made_on(rt, alloc, fails, failing(alloc, &[fails])) {
             Made::Archive => made = made.saturating_add(1),
             Made::None => {}
             Made::Wrong => return Some(fails),
@@ -156,12 +209,17 @@ fn wrong_load(alloc: Global) -> Option<u64> {
 
 #[test]
 fn a_load_on_a_failing_disk(rt: HostRuntime) -> Result<(), Fail> {
-    none_other(wrong_load(rt.alloc()))
+    none_other(wrong_load(&rt, rt.alloc()))
 }
 
 /// How many calls a command makes on a disk that holds no archive.
-fn calls_of<D: Crashing>(alloc: Global, line: &str, disk: D) -> u64 {
-    let (_, _, disk) = call(alloc, line, disk);
+fn calls_of<D: Crashing, R: Threads + Wait + Sync>(
+    rt: &R,
+    alloc: Global,
+    line: &str,
+    disk: D,
+) -> u64 {
+    let (_, _, disk) = call(rt, alloc, line, disk);
     disk.calls()
 }
 
@@ -173,10 +231,10 @@ fn lacking() -> &'static [&'static str] {
 }
 
 /// The place of the first of these that calls the disk.
-fn calling(alloc: Global, lines: &[&'static str]) -> Option<u64> {
+fn calling<R: Threads + Wait + Sync>(rt: &R, alloc: Global, lines: &[&'static str]) -> Option<u64> {
     let mut place = 0u64;
     for line in lines {
-        if calls_of(alloc, line, MemDisk::new(alloc)) != 0 {
+        if calls_of(rt, alloc, line, MemDisk::new(alloc)) != 0 {
             return Some(place);
         }
         place = place.saturating_add(1);
@@ -186,65 +244,79 @@ fn calling(alloc: Global, lines: &[&'static str]) -> Option<u64> {
 
 #[test]
 fn sheets_are_read_before_the_disk(rt: HostRuntime) -> Result<(), Fail> {
-    none_other(calling(rt.alloc(), lacking()))
+    none_other(calling(&rt, rt.alloc(), lacking()))
 }
 
-/// How many calls the making of an archive and the load of two batches make.
-fn calls_of_a_load<D: Crashing>(alloc: Global, disk: D) -> u64 {
-    let (_, _, disk) = call(alloc, CREATE, disk);
-    calls_of(alloc, "load batches", disk)
+/// How many calls the making of an archive and the load of one batch make: the batch's, and then those of its fill.
+fn calls_of_a_load<D: Crashing, R: Threads + Wait + Sync>(rt: &R, alloc: Global, disk: D) -> u64 {
+    let (_, _, disk) = call(rt, alloc, CREATE, disk);
+    calls_of(rt, alloc, "load batch", disk)
 }
 
-/// The number of a call of a load of two batches, counted from its last.
-fn call_before_the_last(alloc: Global, behind: u64) -> u64 {
-    calls_of_a_load(alloc, MemDisk::new(alloc)).saturating_sub(behind)
+/// The number of a call of a load of one batch, counted from its last.
+fn call_before_the_last<R: Threads + Wait + Sync>(rt: &R, alloc: Global, behind: u64) -> u64 {
+    calls_of_a_load(rt, alloc, MemDisk::new(alloc)).saturating_sub(behind)
 }
 
 /// What a `recover` and a second load answer.
-fn answers_behind<D: Disk + Drop>(alloc: Global, disk: D) -> [(u8, u64); 2] {
-    let (first, rows, disk) = call(alloc, "recover", disk);
-    let (second, more, _disk) = call(alloc, "load batches", disk);
+fn answers_behind<D: Disk + Send + Drop, R: Threads + Wait + Sync>(
+    rt: &R,
+    alloc: Global,
+    disk: D,
+) -> [(u8, u64); 2] {
+    let (first, rows, disk) = call(rt, alloc, "recover", disk);
+    let (second, more, _disk) = call(rt, alloc, "load batch", disk);
     [(first, rows), (second, more)]
 }
 
-/// Whether a load of two batches into a new archive fails and reports so many rows, each crash leaves these, and a second load adds the others.
-fn fails_with<D: Crashing>(alloc: Global, disk: D, rows: u64) -> bool {
-    let (_, _, disk) = call(alloc, CREATE, disk);
-    let (status, told, disk) = call(alloc, "load batches", disk);
-    let are_kept = images_hold(alloc, &disk, told);
-    let answers = answers_behind(alloc, disk);
-    are_kept && (status, told) == (5, rows) && answers == [(0, rows), (0, 66)]
+/// Whether a load of one batch into a new archive fails and reports so many rows, each crash leaves these, and a second load adds the others.
+fn fails_with<D: Crashing, R: Threads + Wait + Sync>(
+    rt: &R,
+    alloc: Global,
+    disk: D,
+    rows: u64,
+) -> bool {
+    let (_, _, disk) = call(rt, alloc, CREATE, disk);
+    let (status, told, disk) = call(rt, alloc, "load batch", disk);
+    let are_kept = images_hold(rt, alloc, &disk, told);
+    let answers = answers_behind(rt, alloc, disk);
+    are_kept && (status, told) == (5, rows) && answers == [(0, rows), (0, 2)]
 }
 
 /// The same where the call with so many behind it fails.
-fn fails_so(alloc: Global, behind: u64, rows: u64) -> bool {
+fn fails_so<R: Threads + Wait + Sync>(rt: &R, alloc: Global, behind: u64, rows: u64) -> bool {
     fails_with(
+        rt,
         alloc,
-        failing(alloc, &[call_before_the_last(alloc, behind)]),
+        failing(alloc, &[call_before_the_last(rt, alloc, behind)]),
         rows,
     )
 }
 
 /// Whether a call with so many behind it and the next are the last, where both fail.
-fn ends_with_both(alloc: Global, behind: u64) -> bool {
-    let fails = call_before_the_last(alloc, behind);
+fn ends_with_both<R: Threads + Wait + Sync>(rt: &R, alloc: Global, behind: u64) -> bool {
+    let fails = call_before_the_last(rt, alloc, behind);
     let next = fails.saturating_add(1);
-    calls_of_a_load(alloc, failing(alloc, &[fails, next])) == next
+    calls_of_a_load(rt, alloc, failing(alloc, &[fails, next])) == next
 }
 
-/// How many calls are behind the one that fails, and how many rows the load reports: the last sync of the fill, and that of the second batch, behind
-/// which the fill makes four calls.
-const LAST_SYNCS: &[(u64, u64)] = &[(0, 66), (4, 64)];
+/// How many calls are behind the one that fails, and how many rows the load reports: the last sync of the fill, and that of the batch, behind which the
+/// fill makes four calls.
+const LAST_SYNCS: &[(u64, u64)] = &[(0, 2), (4, 0)];
 
 fn last_syncs() -> &'static [(u64, u64)] {
     LAST_SYNCS
 }
 
 /// The place of the first of these that goes otherwise.
-fn other_sync(alloc: Global, syncs: &[(u64, u64)]) -> Option<u64> {
+fn other_sync<R: Threads + Wait + Sync>(
+    rt: &R,
+    alloc: Global,
+    syncs: &[(u64, u64)],
+) -> Option<u64> {
     let mut place = 0u64;
     for (behind, rows) in syncs {
-        if !fails_so(alloc, *behind, *rows) {
+        if !fails_so(rt, alloc, *behind, *rows) {
             return Some(place);
         }
         place = place.saturating_add(1);
@@ -254,14 +326,14 @@ fn other_sync(alloc: Global, syncs: &[(u64, u64)]) -> Option<u64> {
 
 #[test]
 fn a_load_whose_last_syncs_fail(rt: HostRuntime) -> Result<(), Fail> {
-    none_other(other_sync(rt.alloc(), last_syncs()))
+    none_other(other_sync(&rt, rt.alloc(), last_syncs()))
 }
 
 /// The place of the first of these whose write isn't taken back in one try.
-fn other_try(alloc: Global, syncs: &[(u64, u64)]) -> Option<u64> {
+fn other_try<R: Threads + Wait + Sync>(rt: &R, alloc: Global, syncs: &[(u64, u64)]) -> Option<u64> {
     let mut place = 0u64;
     for (behind, _) in syncs {
-        if !ends_with_both(alloc, *behind) {
+        if !ends_with_both(rt, alloc, *behind) {
             return Some(place);
         }
         place = place.saturating_add(1);
@@ -271,7 +343,7 @@ fn other_try(alloc: Global, syncs: &[(u64, u64)]) -> Option<u64> {
 
 #[test]
 fn a_failed_write_is_taken_back_in_one_try(rt: HostRuntime) -> Result<(), Fail> {
-    none_other(other_try(rt.alloc(), last_syncs()))
+    none_other(other_try(&rt, rt.alloc(), last_syncs()))
 }
 
 const LONGEST_FRONT: &[u8] = &[8, 0x64, 0xC0, 0, 0xFF, 0xFF];
@@ -299,58 +371,70 @@ fn longest_load() -> Wanted {
 }
 
 /// Whether an archive takes a file `longest`.
-fn takes<D: Disk + Drop>(alloc: Global, disk: D, longest: &[u8]) -> bool {
-    let (_, _, disk) = call(alloc, CREATE, disk);
+fn takes<D: Disk + Send + Drop, R: Threads + Wait + Sync>(
+    rt: &R,
+    alloc: Global,
+    disk: D,
+    longest: &[u8],
+) -> bool {
+    let (_, _, disk) = call(rt, alloc, CREATE, disk);
     let files = [("longest", longest)];
-    ends_so(alloc, "load longest", &files, disk, &longest_load())
+    ends_so(rt, alloc, "load longest", &files, disk, &longest_load())
 }
 
 /// Whether it takes the longest packet: 0 where it doesn't.
-fn other_longest(alloc: Global) -> Result<Option<u64>, AllocError> {
+fn other_longest<R: Threads + Wait + Sync>(
+    rt: &R,
+    alloc: Global,
+) -> Result<Option<u64>, AllocError> {
     let packet = longest_packet(alloc)?;
-    let is_taken = takes(alloc, MemDisk::new(alloc), packet.as_slice());
+    let is_taken = takes(rt, alloc, MemDisk::new(alloc), packet.as_slice());
     Ok(if is_taken { None } else { Some(0) })
 }
 
 #[test]
 fn the_longest_packet_is_loaded(rt: HostRuntime) -> Result<(), Fail> {
-    none_other(other_longest(rt.alloc())?)
+    none_other(other_longest(&rt, rt.alloc())?)
 }
 
 /// An archive without fills on a new disk, whose rows came as they stand in a record.
-fn unfilled_on<D: Disk>(alloc: Global, disk: D) -> D {
-    let (_, disk) = overwritten(alloc, disk, &unfilled());
+fn unfilled_on<D: Disk + Send, R: Threads + Wait + Sync>(rt: &R, alloc: Global, disk: D) -> D {
+    let (_, disk) = overwritten(rt, alloc, disk, &unfilled());
     disk
 }
 
 /// How many calls that makes.
-fn calls_unfilled<D: Crashing>(alloc: Global, disk: D) -> u64 {
-    unfilled_on(alloc, disk).calls()
+fn calls_unfilled<D: Crashing, R: Threads + Wait + Sync>(rt: &R, alloc: Global, disk: D) -> u64 {
+    unfilled_on(rt, alloc, disk).calls()
 }
 
 /// The statuses of a `recover` and a `verify`, and how many rows the first finds.
-fn recovered_and_verified<D: Disk + Drop>(alloc: Global, disk: D) -> (u8, u64, u8) {
-    let (status, rows, disk) = call(alloc, "recover", disk);
-    let (found, _, _disk) = call(alloc, "verify", disk);
+fn recovered_and_verified<D: Disk + Send + Drop, R: Threads + Wait + Sync>(
+    rt: &R,
+    alloc: Global,
+    disk: D,
+) -> (u8, u64, u8) {
+    let (status, rows, disk) = call(rt, alloc, "recover", disk);
+    let (found, _, _disk) = call(rt, alloc, "verify", disk);
     (status, rows, found)
 }
 
 /// Whether a `recover` of an archive without fills, on a disk that fails at one call, answers so, leaves its three rows to each kind of crash, and
 /// to a second `recover`, behind which the archive is sound.
-fn is_recovered<D: Crashing>(alloc: Global, disk: D) -> bool {
-    let disk = unfilled_on(alloc, disk);
+fn is_recovered<D: Crashing, R: Threads + Wait + Sync>(rt: &R, alloc: Global, disk: D) -> bool {
+    let disk = unfilled_on(rt, alloc, disk);
     let before = disk.faults();
-    let (status, _, disk) = call(alloc, "recover", disk);
+    let (status, _, disk) = call(rt, alloc, "recover", disk);
     let want = if disk.faults() > before { 5 } else { 0 };
-    let are_kept = images_hold(alloc, &disk, 3);
-    are_kept && status == want && recovered_and_verified(alloc, disk) == (0, 3, 0)
+    let are_kept = images_hold(rt, alloc, &disk, 3);
+    are_kept && status == want && recovered_and_verified(rt, alloc, disk) == (0, 3, 0)
 }
 
 /// The first call of a `recover` of which it isn't so. An opening makes four calls, and each of the two fills makes four.
-fn other_recover(alloc: Global) -> Option<u64> {
-    let made = calls_unfilled(alloc, MemDisk::new(alloc));
+fn other_recover<R: Threads + Wait + Sync>(rt: &R, alloc: Global) -> Option<u64> {
+    let made = calls_unfilled(rt, alloc, MemDisk::new(alloc));
     for fails in 1..13u64 {
-        if !is_recovered(alloc, failing(alloc, &[made.saturating_add(fails)])) {
+        if !is_recovered(rt, alloc, failing(alloc, &[made.saturating_add(fails)])) {
             return Some(fails);
         }
     }
@@ -359,5 +443,5 @@ fn other_recover(alloc: Global) -> Option<u64> {
 
 #[test]
 fn a_recover_on_a_failing_disk(rt: HostRuntime) -> Result<(), Fail> {
-    none_other(other_recover(rt.alloc()))
+    none_other(other_recover(&rt, rt.alloc()))
 }

@@ -4,25 +4,34 @@ use crate::calls::{NamedFile, Outside, call};
 use arch_disk::{Disk, MemDisk};
 use outer_traits::mem_inputs::FailingCall;
 use std::alloc::Global;
+use std::sync::Wait;
+use std::thread::Threads;
 
 /// The status of a call, and how many octets it printed. Generic, so that what a disk owns stands in no goal.
-fn ended_on<D: Disk + Drop>(
+fn ended_on<D: Disk + Send + Drop, R: Threads + Wait + Sync>(
+    rt: &R,
     alloc: Global,
     line: &str,
     outside: &Outside<'_>,
     disk: D,
 ) -> (u8, usize) {
-    let (outcome, _disk) = call(alloc, line, outside, disk);
+    let (outcome, _disk) = call(rt, alloc, line, outside, disk);
     (outcome.status, outcome.printed)
 }
 
 /// The same on a new disk.
-fn ended_on_new(alloc: Global, line: &str, outside: &Outside<'_>) -> (u8, usize) {
-    ended_on(alloc, line, outside, MemDisk::new(alloc))
+fn ended_on_new<R: Threads + Wait + Sync>(
+    rt: &R,
+    alloc: Global,
+    line: &str,
+    outside: &Outside<'_>,
+) -> (u8, usize) {
+    ended_on(rt, alloc, line, outside, MemDisk::new(alloc))
 }
 
 /// The place of the first of these reads that fails without being told.
-pub(crate) fn untold_read(
+pub(crate) fn untold_read<R: Threads + Wait + Sync>(
+    rt: &R,
     alloc: Global,
     line: &str,
     files: &[NamedFile<'_>],
@@ -35,7 +44,7 @@ pub(crate) fn untold_read(
             reads: &[*read],
             writes: &[],
         };
-        if ended_on_new(alloc, line, &failing) != (3, 0) {
+        if ended_on_new(rt, alloc, line, &failing) != (3, 0) {
             return Some(place);
         }
         place = place.saturating_add(1);
@@ -47,7 +56,8 @@ pub(crate) fn untold_read(
 pub(crate) type Writes = (&'static [u64], u8, usize, usize);
 
 /// The place of the first of these that end a call otherwise.
-pub(crate) fn other_writes(
+pub(crate) fn other_writes<R: Threads + Wait + Sync>(
+    rt: &R,
     alloc: Global,
     line: &str,
     files: &[NamedFile<'_>],
@@ -61,7 +71,7 @@ pub(crate) fn other_writes(
             reads: &[],
             writes,
         };
-        let (status, printed) = ended_on_new(alloc, line, &failing);
+        let (status, printed) = ended_on_new(rt, alloc, line, &failing);
         if status != want || printed < least || printed > most {
             return Some(place);
         }

@@ -4,6 +4,8 @@ use crate::calls::{Outside, Wanted, called, files_alone};
 use crate::files::files;
 use arch_disk::{Disk, MemDisk};
 use std::alloc::Global;
+use std::sync::Wait;
+use std::thread::Threads;
 
 pub(crate) const CREATE: &str = "create parameters calibrations containers";
 
@@ -13,7 +15,8 @@ pub(crate) const CREATED: &str = "created tables 1 parameters 2 containers 1\n";
 pub(crate) type Call = (&'static str, Wanted);
 
 /// The place of the first of these calls that ends otherwise, and the disk.
-pub(crate) fn other_over<D: Disk>(
+pub(crate) fn other_over<D: Disk + Send, R: Threads + Wait + Sync>(
+    rt: &R,
     alloc: Global,
     disk: D,
     outside: &Outside<'_>,
@@ -22,7 +25,7 @@ pub(crate) fn other_over<D: Disk>(
     let mut disk = disk;
     let mut place = 0usize;
     for (line, want) in calls {
-        let (is_so, left) = called(alloc, line, outside, disk, want);
+        let (is_so, left) = called(rt, alloc, line, outside, disk, want);
         disk = left;
         if !is_so {
             return (Some(place), disk);
@@ -33,13 +36,23 @@ pub(crate) fn other_over<D: Disk>(
 }
 
 /// The same over the files of these tests.
-pub(crate) fn other_call<D: Disk>(alloc: Global, disk: D, calls: &[Call]) -> (Option<usize>, D) {
-    other_over(alloc, disk, &files_alone(files()), calls)
+pub(crate) fn other_call<D: Disk + Send, R: Threads + Wait + Sync>(
+    rt: &R,
+    alloc: Global,
+    disk: D,
+    calls: &[Call],
+) -> (Option<usize>, D) {
+    other_over(rt, alloc, disk, &files_alone(files()), calls)
 }
 
 /// The same, and the disk is given up.
-pub(crate) fn other_on<D: Disk + Drop>(alloc: Global, disk: D, calls: &[Call]) -> Option<usize> {
-    let (other, _disk) = other_call(alloc, disk, calls);
+pub(crate) fn other_on<D: Disk + Send + Drop, R: Threads + Wait + Sync>(
+    rt: &R,
+    alloc: Global,
+    disk: D,
+    calls: &[Call],
+) -> Option<usize> {
+    let (other, _disk) = other_call(rt, alloc, disk, calls);
     other
 }
 
@@ -47,9 +60,13 @@ pub(crate) fn other_on<D: Disk + Drop>(alloc: Global, disk: D, calls: &[Call]) -
 pub(crate) type Named = (&'static str, &'static [Call]);
 
 /// The first of these whose calls end otherwise on a new disk, and the place of the call.
-pub(crate) fn other_run(alloc: Global, runs: &[Named]) -> Option<(&'static str, usize)> {
+pub(crate) fn other_run<R: Threads + Wait + Sync>(
+    rt: &R,
+    alloc: Global,
+    runs: &[Named],
+) -> Option<(&'static str, usize)> {
     for (name, calls) in runs {
-        if let Some(place) = other_on(alloc, MemDisk::new(alloc), calls) {
+        if let Some(place) = other_on(rt, alloc, MemDisk::new(alloc), calls) {
             return Some((*name, place));
         }
     }
@@ -57,10 +74,14 @@ pub(crate) fn other_run(alloc: Global, runs: &[Named]) -> Option<(&'static str, 
 }
 
 /// The place of the first of these calls that ends otherwise, each on a new disk.
-pub(crate) fn other_alone(alloc: Global, calls: &[Call]) -> Option<usize> {
+pub(crate) fn other_alone<R: Threads + Wait + Sync>(
+    rt: &R,
+    alloc: Global,
+    calls: &[Call],
+) -> Option<usize> {
     let mut place = 0usize;
     for call in calls {
-        if other_on(alloc, MemDisk::new(alloc), &[*call]).is_some() {
+        if other_on(rt, alloc, MemDisk::new(alloc), &[*call]).is_some() {
             return Some(place);
         }
         place = place.saturating_add(1);
@@ -86,32 +107,39 @@ fn overwrite<D: Disk>(disk: &mut D, back: u64, octets: &[u8]) {
 }
 
 /// The disk behind the first calls and the octets, and the first call that ends otherwise.
-pub(crate) fn overwritten<D: Disk>(
+pub(crate) fn overwritten<D: Disk + Send, R: Threads + Wait + Sync>(
+    rt: &R,
     alloc: Global,
     disk: D,
     case: &Overwritten,
 ) -> (Option<usize>, D) {
     let (_, before, back, octets, _) = *case;
-    let (other, mut disk) = other_call(alloc, disk, before);
+    let (other, mut disk) = other_call(rt, alloc, disk, before);
     overwrite(&mut disk, back, octets);
     (other, disk)
 }
 
 /// The first call of a case that ends otherwise, of those before the octets or, if none is, of those behind them.
-fn other_around<D: Disk + Drop>(alloc: Global, disk: D, case: &Overwritten) -> Option<usize> {
+fn other_around<D: Disk + Send + Drop, R: Threads + Wait + Sync>(
+    rt: &R,
+    alloc: Global,
+    disk: D,
+    case: &Overwritten,
+) -> Option<usize> {
     let (_, _, _, _, behind) = *case;
-    let (first, disk) = overwritten(alloc, disk, case);
-    let second = other_on(alloc, disk, behind);
+    let (first, disk) = overwritten(rt, alloc, disk, case);
+    let second = other_on(rt, alloc, disk, behind);
     first.or(second)
 }
 
 /// The first of these cases of which a call ends otherwise, and the place of the call.
-pub(crate) fn other_overwritten(
+pub(crate) fn other_overwritten<R: Threads + Wait + Sync>(
+    rt: &R,
     alloc: Global,
     cases: &[Overwritten],
 ) -> Option<(&'static str, usize)> {
     for case in cases {
-        if let Some(place) = other_around(alloc, MemDisk::new(alloc), case) {
+        if let Some(place) = other_around(rt, alloc, MemDisk::new(alloc), case) {
             return Some((case.0, place));
         }
     }

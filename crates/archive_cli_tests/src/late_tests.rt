@@ -45,10 +45,10 @@ const LATE_PACKETS: &[Call] = &[
         (0, "sound rows 3 intervals 2 late 0\n", "", Some((3, 3))),
     ),
     (
-        "load --ask asks third",
+        "load third",
         (
             0,
-            "ask 1 front 4\ncell 1500 140951552 8 8\nend 1\nload packets 1 new 1 duplicates 0 idle 0 rows 4\n",
+            "load packets 1 new 1 duplicates 0 idle 0 rows 4\n",
             "",
             Some((3, 4)),
         ),
@@ -428,5 +428,5 @@ fn cases() -> [Overwritten; 8] {
 
 #[test]
 fn octets_over_the_end_of_an_archive(rt: HostRuntime) -> Result<(), Fail> {
-    none_other_of(other_overwritten(rt.alloc(), &cases()))
+    none_other_of(other_overwritten(&rt, rt.alloc(), &cases()))
 }

@@ -5,7 +5,9 @@ use crate::faults::{Writes, other_writes, untold_read};
 use arch_disk::MemDisk;
 use outer_traits::mem_inputs::FailingCall;
 use std::alloc::{AllocError, Global};
+use std::sync::Wait;
 use std::test::Fail;
+use std::thread::Threads;
 
 /// A packet with a secondary header and one octet of data, at 1.5 s.
 const P1: &[u8] = b"\x08\x64\xC0\x00\x00\x06\x00\x00\x00\x01\x80\x00\x2A";
@@ -93,11 +95,16 @@ fn scans() -> &'static [Scan] {
 }
 
 /// Whether a dump is scanned as it is to be.
-fn is_scanned(alloc: Global, scan: &Scan) -> Result<bool, AllocError> {
+fn is_scanned<R: Threads + Wait + Sync>(
+    rt: &R,
+    alloc: Global,
+    scan: &Scan,
+) -> Result<bool, AllocError> {
     let (front, length, want) = *scan;
     let mut dump = Vec::from_slice(alloc, front)?;
     dump.resize(length, 0)?;
     Ok(ends_so(
+        rt,
         alloc,
         "scan dump",
         &[("dump", dump.as_slice())],
@@ -107,10 +114,14 @@ fn is_scanned(alloc: Global, scan: &Scan) -> Result<bool, AllocError> {
 }
 
 /// The place of the first dump that is scanned otherwise.
-fn other_scan(alloc: Global, scans: &[Scan]) -> Result<Option<usize>, AllocError> {
+fn other_scan<R: Threads + Wait + Sync>(
+    rt: &R,
+    alloc: Global,
+    scans: &[Scan],
+) -> Result<Option<usize>, AllocError> {
     let mut place = 0usize;
     for scan in scans {
-        if !is_scanned(alloc, scan)? {
+        if !is_scanned(rt, alloc, scan)? {
             return Ok(Some(place));
         }
         place = place.saturating_add(1);
@@ -120,7 +131,7 @@ fn other_scan(alloc: Global, scans: &[Scan]) -> Result<Option<usize>, AllocError
 
 #[test]
 fn prints_rows(rt: HostRuntime) -> Result<(), Fail> {
-    none_other(other_scan(rt.alloc(), scans())?)
+    none_other(other_scan(&rt, rt.alloc(), scans())?)
 }
 
 /// Words, and the fault of their call.
@@ -162,10 +173,11 @@ fn p1() -> &'static [u8] {
 }
 
 /// The place of the first words that are answered otherwise.
-fn other_words(alloc: Global, words: &[Words]) -> Option<usize> {
+fn other_words<R: Threads + Wait + Sync>(rt: &R, alloc: Global, words: &[Words]) -> Option<usize> {
     let mut place = 0usize;
     for (line, fault) in words {
         if !ends_so(
+            rt,
             alloc,
             line,
             &[("dump", p1())],
@@ -181,7 +193,7 @@ fn other_words(alloc: Global, words: &[Words]) -> Option<usize> {
 
 #[test]
 fn reads_words(rt: HostRuntime) -> Result<(), Fail> {
-    none_other(other_words(rt.alloc(), words()))
+    none_other(other_words(&rt, rt.alloc(), words()))
 }
 
 /// 10,000 packets of 7 octets, each of which is a line of 19.
@@ -230,25 +242,33 @@ fn writes() -> &'static [Writes] {
 }
 
 /// The place of the first of these reads of a dump of many packets that fails without being told.
-fn untold_of_many(alloc: Global, reads: &[FailingCall]) -> Result<Option<usize>, AllocError> {
+fn untold_of_many<R: Threads + Wait + Sync>(
+    rt: &R,
+    alloc: Global,
+    reads: &[FailingCall],
+) -> Result<Option<usize>, AllocError> {
     let dump = many_packets(alloc)?;
     let files = [("dump", dump.as_slice())];
-    Ok(untold_read(alloc, "scan dump", &files, reads))
+    Ok(untold_read(rt, alloc, "scan dump", &files, reads))
 }
 
 #[test]
 fn reads_that_fail(rt: HostRuntime) -> Result<(), Fail> {
-    none_other(untold_of_many(rt.alloc(), reads())?)
+    none_other(untold_of_many(&rt, rt.alloc(), reads())?)
 }
 
 /// The place of the first of these writes that end its scan otherwise.
-fn other_of_many(alloc: Global, rows: &[Writes]) -> Result<Option<usize>, AllocError> {
+fn other_of_many<R: Threads + Wait + Sync>(
+    rt: &R,
+    alloc: Global,
+    rows: &[Writes],
+) -> Result<Option<usize>, AllocError> {
     let dump = many_packets(alloc)?;
     let files = [("dump", dump.as_slice())];
-    Ok(other_writes(alloc, "scan dump", &files, rows))
+    Ok(other_writes(rt, alloc, "scan dump", &files, rows))
 }
 
 #[test]
 fn writes_that_fail(rt: HostRuntime) -> Result<(), Fail> {
-    none_other(other_of_many(rt.alloc(), writes())?)
+    none_other(other_of_many(&rt, rt.alloc(), writes())?)
 }

@@ -5,7 +5,9 @@ use crate::calls::{Wanted, called, files_alone, none_other};
 use crate::in_a_row::other_call;
 use arch_disk::{Disk, MemDisk};
 use std::alloc::{AllocError, Global};
+use std::sync::Wait;
 use std::test::Fail;
+use std::thread::Threads;
 
 /// A script, up to how many octets blanks stand behind it, and how its query has to end.
 type Script = (&'static str, usize, Wanted);
@@ -108,12 +110,18 @@ fn script_of(alloc: Global, text: &str, length: usize) -> Result<Vec<u8>, AllocE
 }
 
 /// Whether the query of a script ends so, and the disk.
-fn is_answered<D: Disk>(alloc: Global, disk: D, script: &Script) -> (bool, D) {
+fn is_answered<D: Disk + Send, R: Threads + Wait + Sync>(
+    rt: &R,
+    alloc: Global,
+    disk: D,
+    script: &Script,
+) -> (bool, D) {
     let (text, length, want) = *script;
     match script_of(alloc, text, length) {
         Ok(script) => {
             let files = [("script", script.as_slice())];
             called(
+                rt,
                 alloc,
                 "query --sql script",
                 &files_alone(&files),
@@ -126,11 +134,16 @@ fn is_answered<D: Disk>(alloc: Global, disk: D, script: &Script) -> (bool, D) {
 }
 
 /// The place of the first script whose query ends otherwise.
-fn other_script<D: Disk + Drop>(alloc: Global, disk: D, scripts: &[Script]) -> Option<usize> {
+fn other_script<D: Disk + Send + Drop, R: Threads + Wait + Sync>(
+    rt: &R,
+    alloc: Global,
+    disk: D,
+    scripts: &[Script],
+) -> Option<usize> {
     let mut disk = disk;
     let mut place = 0usize;
     for script in scripts {
-        let (is_so, left) = is_answered(alloc, disk, script);
+        let (is_so, left) = is_answered(rt, alloc, disk, script);
         disk = left;
         if !is_so {
             return Some(place);
@@ -141,12 +154,17 @@ fn other_script<D: Disk + Drop>(alloc: Global, disk: D, scripts: &[Script]) -> O
 }
 
 /// The same on the archive of two named packets.
-fn other_answer<D: Disk + Drop>(alloc: Global, disk: D, scripts: &[Script]) -> Option<usize> {
-    let (_, disk) = other_call(alloc, disk, named_load());
-    other_script(alloc, disk, scripts)
+fn other_answer<D: Disk + Send + Drop, R: Threads + Wait + Sync>(
+    rt: &R,
+    alloc: Global,
+    disk: D,
+    scripts: &[Script],
+) -> Option<usize> {
+    let (_, disk) = other_call(rt, alloc, disk, named_load());
+    other_script(rt, alloc, disk, scripts)
 }
 
 #[test]
 fn scripts_are_answered(rt: HostRuntime) -> Result<(), Fail> {
-    none_other(other_answer(rt.alloc(), MemDisk::new(rt.alloc()), scripts()))
+    none_other(other_answer(&rt, rt.alloc(), MemDisk::new(rt.alloc()), scripts()))
 }

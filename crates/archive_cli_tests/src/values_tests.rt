@@ -5,7 +5,9 @@ use crate::faults::{Writes, other_writes, untold_read};
 use arch_disk::MemDisk;
 use outer_traits::mem_inputs::FailingCall;
 use std::alloc::Global;
+use std::sync::Wait;
 use std::test::Fail;
+use std::thread::Threads;
 
 /// Three sheets: parameters, calibrations and containers.
 type Sheets = &'static [&'static str; 3];
@@ -253,17 +255,17 @@ fn values() -> &'static [Values] {
 }
 
 /// Whether `values` ends as it is to.
-fn is_answered(alloc: Global, values: &Values) -> bool {
+fn is_answered<R: Threads + Wait + Sync>(rt: &R, alloc: Global, values: &Values) -> bool {
     let (sheets, dump, line, want) = *values;
     let files = files_of(sheets, dump);
-    ends_so(alloc, line, &files, MemDisk::new(alloc), &want)
+    ends_so(rt, alloc, line, &files, MemDisk::new(alloc), &want)
 }
 
 /// The place of the first that ends otherwise.
-fn other_values(alloc: Global, all: &[Values]) -> Option<usize> {
+fn other_values<R: Threads + Wait + Sync>(rt: &R, alloc: Global, all: &[Values]) -> Option<usize> {
     let mut place = 0usize;
     for values in all {
-        if !is_answered(alloc, values) {
+        if !is_answered(rt, alloc, values) {
             return Some(place);
         }
         place = place.saturating_add(1);
@@ -273,7 +275,7 @@ fn other_values(alloc: Global, all: &[Values]) -> Option<usize> {
 
 #[test]
 fn prints_cells_or_refuses(rt: HostRuntime) -> Result<(), Fail> {
-    none_other(other_values(rt.alloc(), values()))
+    none_other(other_values(&rt, rt.alloc(), values()))
 }
 
 /// Words that name inputs that aren't there, and the first of these.
@@ -303,10 +305,16 @@ fn two_groups() -> [NamedFile<'static>; 4] {
 }
 
 /// The place of the first of these words that are answered otherwise.
-fn other_missing(alloc: Global, files: &[NamedFile<'_>], all: &[Missing]) -> Option<usize> {
+fn other_missing<R: Threads + Wait + Sync>(
+    rt: &R,
+    alloc: Global,
+    files: &[NamedFile<'_>],
+    all: &[Missing],
+) -> Option<usize> {
     let mut place = 0usize;
     for (line, fault) in all {
         if !ends_so(
+            rt,
             alloc,
             line,
             files,
@@ -322,7 +330,7 @@ fn other_missing(alloc: Global, files: &[NamedFile<'_>], all: &[Missing]) -> Opt
 
 #[test]
 fn refuses_inputs(rt: HostRuntime) -> Result<(), Fail> {
-    none_other(other_missing(rt.alloc(), &no_parent(), missing()))
+    none_other(other_missing(&rt, rt.alloc(), &no_parent(), missing()))
 }
 
 /// The words of `values` for `v` with a last sheet that isn't there.
@@ -412,20 +420,20 @@ fn writes() -> &'static [Writes] {
 
 #[test]
 fn reads_that_fail(rt: HostRuntime) -> Result<(), Fail> {
-    none_other(untold_read(rt.alloc(), V, &two_groups(), reads()))
+    none_other(untold_read(&rt, rt.alloc(), V, &two_groups(), reads()))
 }
 
 #[test]
 fn writes_that_fail(rt: HostRuntime) -> Result<(), Fail> {
-    none_other(other_writes(rt.alloc(), V, &two_groups(), writes()))
+    none_other(other_writes(&rt, rt.alloc(), V, &two_groups(), writes()))
 }
 
 #[test]
 fn a_failed_read_before_a_missing_input(rt: HostRuntime) -> Result<(), Fail> {
-    none_other(untold_read(rt.alloc(), LACKING, &two_groups(), first_reads()))
+    none_other(untold_read(&rt, rt.alloc(), LACKING, &two_groups(), first_reads()))
 }
 
 #[test]
 fn a_failed_read_before_a_bad_sheet(rt: HostRuntime) -> Result<(), Fail> {
-    none_other(untold_read(rt.alloc(), V, &no_parent(), first_reads()))
+    none_other(untold_read(&rt, rt.alloc(), V, &no_parent(), first_reads()))
 }

@@ -1,10 +1,11 @@
-//! Words that may be repeated, which no command has yet, and one of two options; which words the commands take is tried by `run`.
+//! The words of a load and the limits that they may pass, one of two options, and a word that may come; which words the other commands take is tried by
+//! `run`.
 
 use crate::ends::none_other;
 use clap::ArgMatches;
 use command_words::job::{Job, job_of};
-use command_words::words::{Argument, given_word, read_arguments, repeated_words};
-use refusals::Refusal;
+use command_words::words::{Argument, given_word, read_arguments};
+use refusals::{Refusal, Which};
 use std::alloc::{AllocError, Global};
 use std::test::Fail;
 
@@ -20,15 +21,6 @@ fn words_of(alloc: Global, line: &str) -> Result<Vec<String>, AllocError> {
     Ok(words)
 }
 
-/// What is found behind a command that takes one dump or more, and a link.
-fn dumps_of<'a>(alloc: Global, words: &'a [String]) -> Result<ArgMatches<'a>, Refusal> {
-    let link = Argument::Option {
-        id: "link",
-        required: false,
-    };
-    read_arguments(alloc, "load", &[Argument::Repeated("dump"), link], words)
-}
-
 /// What is found behind a command that takes a sheet, and a script or none.
 fn script_of<'a>(alloc: Global, words: &'a [String]) -> Result<ArgMatches<'a>, Refusal> {
     let arguments = [Argument::Word("sheet"), Argument::Optional("script")];
@@ -37,8 +29,9 @@ fn script_of<'a>(alloc: Global, words: &'a [String]) -> Result<ArgMatches<'a>, R
 
 /// What is read of a line.
 enum Read {
-    /// The dumps, in their order; none where the words are refused.
-    Dumps(&'static [&'static str]),
+    /// The dumps of a load in their order, the number of the first one's link, and how many fillers there are.
+    Load(&'static [&'static str], u64, u64),
+    NoLoad,
     /// The file of a query by a script, or by a sheet of asks.
     Sql(&'static str),
     Ask(&'static str),
@@ -48,14 +41,16 @@ enum Read {
     NoScript,
 }
 
-fn are_dumps(alloc: Global, words: &[String], want: &[&str]) -> bool {
-    match dumps_of(alloc, words) {
-        Ok(found) => match repeated_words(&found, "dump") {
-            Ok(dumps) => !want.is_empty() && dumps == want,
-            Err(_) => false,
+fn is_load(alloc: Global, words: &[String], want: &Read) -> bool {
+    match job_of(alloc, words) {
+        Ok(Job::Load(load)) => match want {
+            Read::Load(dumps, link, fillers) => {
+                load.dumps.as_slice() == *dumps && load.link == *link && load.fillers == *fillers
+            }
+            _ => false,
         },
-        Err(Refusal::Usage) => want.is_empty(),
-        Err(_) => false,
+        Err(Refusal::Usage) => matches!(want, Read::NoLoad),
+        _ => false,
     }
 }
 
@@ -81,7 +76,7 @@ fn is_script(alloc: Global, words: &[String], want: &Read) -> bool {
 
 fn are_read(alloc: Global, words: &[String], want: &Read) -> bool {
     match want {
-        Read::Dumps(dumps) => are_dumps(alloc, words, dumps),
+        Read::Load(..) | Read::NoLoad => is_load(alloc, words, want),
         Read::Sql(_) | Read::Ask(_) | Read::NoQuery => is_query(alloc, words, want),
         Read::Script(_) | Read::NoScript => is_script(alloc, words, want),
     }
@@ -106,30 +101,111 @@ fn other_line(alloc: Global, lines: &[Line]) -> Option<&'static str> {
     None
 }
 
-const DUMPS: &[Line] = &[
-    ("a", Read::Dumps(&["a"])),
-    ("a b c", Read::Dumps(&["a", "b", "c"])),
-    ("b a b", Read::Dumps(&["b", "a", "b"])),
-    ("a --link 2 b", Read::Dumps(&["a", "b"])),
-    ("--link=2 a b", Read::Dumps(&["a", "b"])),
-    ("a -- -b --link", Read::Dumps(&["a", "-b", "--link"])),
-    ("", Read::Dumps(&[])),
-    ("--", Read::Dumps(&[])),
-    ("--link 2", Read::Dumps(&[])),
-    ("a  b", Read::Dumps(&[])),
-    ("a -b", Read::Dumps(&[])),
-    ("a b --link", Read::Dumps(&[])),
-    ("a --link 1 b --link 2", Read::Dumps(&[])),
+const LOADS: &[Line] = &[
+    ("load a", Read::Load(&["a"], 1, 1)),
+    ("load a b c", Read::Load(&["a", "b", "c"], 1, 1)),
+    ("load b a b", Read::Load(&["b", "a", "b"], 1, 1)),
+    ("load a --link 2 b", Read::Load(&["a", "b"], 2, 1)),
+    ("load --link=2 a b", Read::Load(&["a", "b"], 2, 1)),
+    ("load --fillers 8 a", Read::Load(&["a"], 1, 8)),
+    ("load --fillers=9 --link 256 a", Read::Load(&["a"], 256, 9)),
+    (
+        "load --route r --ask s --link 7 --fillers 2 a b",
+        Read::Load(&["a", "b"], 7, 2),
+    ),
+    (
+        "load a -- -b --link",
+        Read::Load(&["a", "-b", "--link"], 1, 1),
+    ),
+    (
+        "load a a a a a a a a a a a a a a a a a",
+        Read::Load(&["a"; 17], 1, 1),
+    ),
+    ("load", Read::NoLoad),
+    ("load --", Read::NoLoad),
+    ("load --link 2", Read::NoLoad),
+    ("load a  b", Read::NoLoad),
+    ("load a -b", Read::NoLoad),
+    ("load a b --link", Read::NoLoad),
+    ("load a --link 1 b --link 2", Read::NoLoad),
+    ("load --link 0 a", Read::NoLoad),
+    ("load --fillers 0 a", Read::NoLoad),
+    ("load --fillers two a", Read::NoLoad),
+    ("load --fillers= a", Read::NoLoad),
+    ("load --fillers 1 --fillers 1 a", Read::NoLoad),
+    ("load --fillers 10000000000000000000 a", Read::NoLoad),
 ];
 
 /// They are functions, as the tables below, so that they stand in no goal of their callers.
-fn dumps() -> &'static [Line] {
-    DUMPS
+fn loads() -> &'static [Line] {
+    LOADS
 }
 
 #[test]
-fn reads_repeated_words(rt: HostRuntime) -> Result<(), Fail> {
-    none_other(other_line(rt.alloc(), dumps()))
+fn reads_the_words_of_a_load(rt: HostRuntime) -> Result<(), Fail> {
+    none_other(other_line(rt.alloc(), loads()))
+}
+
+/// The words of a load, the limit that they pass before anything is opened, and the one that the numbers of its links do.
+type Limits = (&'static str, Option<Which>, Option<Which>);
+
+fn which_of(refusal: Option<Refusal>) -> Option<Which> {
+    match refusal {
+        Some(Refusal::Limit { which, .. }) => Some(which),
+        _ => None,
+    }
+}
+
+fn are_limits(alloc: Global, line: &str, of_words: Option<Which>, of_links: Option<Which>) -> bool {
+    let Ok(words) = words_of(alloc, line) else {
+        return false;
+    };
+    match job_of(alloc, words.as_slice()) {
+        Ok(Job::Load(load)) => {
+            which_of(load.limit_refusal()) == of_words && which_of(load.links_refusal()) == of_links
+        }
+        _ => false,
+    }
+}
+
+/// The first of these lines whose words pass other limits.
+fn other_limits(alloc: Global, lines: &[Limits]) -> Option<&'static str> {
+    for (line, of_words, of_links) in lines {
+        if !are_limits(alloc, line, *of_words, *of_links) {
+            return Some(*line);
+        }
+    }
+    None
+}
+
+const LIMITS: &[Limits] = &[
+    ("load --fillers 8 --link 255 a", None, None),
+    (
+        "load --link 240 a a a a a a a a a a a a a a a a",
+        None,
+        None,
+    ),
+    ("load --link 254 a b c", None, Some(Which::Links)),
+    (
+        "load --link 9999999999999999999 a b",
+        None,
+        Some(Which::Links),
+    ),
+    ("load --fillers 9 a", Some(Which::Fillers), None),
+    (
+        "load --fillers 9 a a a a a a a a a a a a a a a a a",
+        Some(Which::Dumps),
+        None,
+    ),
+];
+
+fn limits() -> &'static [Limits] {
+    LIMITS
+}
+
+#[test]
+fn passes_the_limits_of_a_load(rt: HostRuntime) -> Result<(), Fail> {
+    none_other(other_limits(rt.alloc(), limits()))
 }
 
 const QUERIES: &[Line] = &[

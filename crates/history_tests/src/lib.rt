@@ -4,6 +4,8 @@
 #[cfg(test)]
 mod archive_history_tests;
 #[cfg(test)]
+mod dump_maker_tests;
+#[cfg(test)]
 mod fill_tracker_tests;
 #[cfg(test)]
 mod histogram_tests;
@@ -19,5 +21,7 @@ mod partitions_tests;
 mod parts;
 #[cfg(test)]
 mod space_packet_tests;
+#[cfg(test)]
+mod splitter_tests;
 #[cfg(test)]
 mod yarch_table_tests;

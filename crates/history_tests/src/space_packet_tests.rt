@@ -91,7 +91,7 @@ const DUMP: &[u8] = b"\x08\x64\xC0\0\0\x06\0\0\0\x01\x80\0\x2A\
     \x08\x64\xC0\0\0\x05\0\0\x10\x62\x4D\xD3\
     \x08\x64\xC0\0\0\x04\0\0\x10\x62\x4D";
 
-fn dump() -> &'static [u8] {
+pub(crate) fn dump() -> &'static [u8] {
     DUMP
 }
 
@@ -133,7 +133,7 @@ fn other_packet(packets: &[Octets], want: &[Told]) -> Option<usize> {
     None
 }
 
-fn other_split(whole: &Split) -> Option<(&'static str, usize)> {
+pub(crate) fn other_split(whole: &Split) -> Option<(&'static str, usize)> {
     if whole.at != 67 || whole.why != Why::End {
         return Some(("a dump's rest", whole.at));
     }

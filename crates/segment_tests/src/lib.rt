@@ -7,6 +7,8 @@ mod ordered;
 #[cfg(test)]
 mod segment_codec_tests;
 #[cfg(test)]
+mod set_range_tests;
+#[cfg(test)]
 mod set_reading_tests;
 #[cfg(test)]
 mod set_tests;

@@ -4,7 +4,10 @@ ghost use Rattle.std.specs.Prelude.{◌≤◌};
 ghost use Rattle.segment_codec.specs.declared.segment.Segment.{Segment as ASegment};
 ghost use Rattle.segment_codec.specs.Segment.{HasSegmentAt, IsSegment};
 
-use segment_codec::{NotASegment, Segment, put_segment, read_column, read_segment, write_segment};
+use segment_codec::{
+    NotASegment, Segment, put_segment, read_column, read_column_in_range, read_segment,
+    write_segment,
+};
 use std::alloc::{AllocError, Global};
 use std::test::*;
 
@@ -28,6 +31,35 @@ const TWO: &[u8] = &[
     0, 0, 0, 0, 0, 0, 0x05, 0xDC, 0x08, 0x64, 0xC0, 0x00, 0x81, 0x80, 0x80, 0x80, 0x80, 0x7D, // keys
     0, 0, 0, 0, 0, 0, 0, 0, 0, 0, 0, 0, 0, 0, 0, 0, 5, // form 0: all are 5
     1, 0, 0, 0, 0, 0, 0, 0, 0, 0, 0, 0, 0, 0, 0, 0, 3, 3, 0x1C, // form 1
+];
+
+/// Raw 3 at (-2^63, 0) and 10 at (2^63 - 2, 2^32 - 1), behind the widest gap.
+const FAR: &[u8] = &[
+    0, 1, 0, 0, // one parameter: 0
+    0, 2, // two rows
+    0x80, 0, 0, 0, 0, 0, 0, 0, 0, 0, 0, 0, // the first key
+    0xFF, 0xFF, 0xFF, 0xFF, 0xEF, 0xFF, 0xFF, 0xFF, 0xFF, 0xFF, 0xFF, 0xFF, 0xFF, 0x1F, // the gap to the second
+    1, 0, 0, 0, 0, 0, 0, 0, 0, 0, 0, 0, 0, 0, 0, 0, 3, 3, 0x1C, // 3 and 10
+];
+
+/// A parameter, a range of times, and the values that a segment has of it there.
+type Span = (u16, i64, i64, &'static [i128]);
+
+const FAR_SPANS: &[Span] = &[
+    (0, i64::MIN, i64::MAX, &[3, 10]),
+    (0, i64::MIN, 0, &[3]),
+    (0, 0, i64::MAX, &[10]),
+    (0, i64::MIN + 1, i64::MAX - 1, &[]),
+    (0, 1, 0, &[]),
+];
+
+const TWO_SPANS: &[Span] = &[
+    (7, 0, 3_000, &[5, 5]),
+    (7, 1_500, 2_500, &[5]),
+    (3, 1_501, 2_501, &[10]),
+    (3, 1_500, 1_501, &[3]),
+    (3, 2_501, 9_000, &[]),
+    (3, 0, 1_500, &[]),
 ];
 
 /// A raw column's form 1, and 0 as its least value.
@@ -83,6 +115,18 @@ fn changes() -> &'static [Change] {
 
 fn bits() -> &'static [u8] {
     BITS
+}
+
+fn far() -> &'static [u8] {
+    FAR
+}
+
+fn far_spans() -> &'static [Span] {
+    FAR_SPANS
+}
+
+fn two_spans() -> &'static [Span] {
+    TWO_SPANS
 }
 
 fn from_zero() -> &'static [u8] {
@@ -413,6 +457,51 @@ fn reads_one_column(alloc: Global, octets: &[u8]) -> bool {
 #[test]
 fn one_column_of_two(rt: HostRuntime) {
     assert!(rt; reads_one_column(rt.alloc(), two()));
+}
+
+/// Whether a segment has these values of a parameter in a range of times, and a key for each.
+fn span_is(
+    alloc: Global,
+    octets: &[u8],
+    parameter: u16,
+    from: i64,
+    to: i64,
+    values: &[i128],
+) -> bool
+    requires { (s : ASegment) × HasSegmentAt octets.now 0 s }
+{
+    match read_column_in_range(alloc, octets, 0, parameter, from, to) {
+        Ok(Some(column)) => {
+            column.values.as_slice() == values && column.keys.len() == values.len()
+        }
+        _ => false,
+    }
+}
+
+/// Whether a segment has such values in each range.
+fn spans_are(alloc: Global, octets: &[u8], spans: &[Span]) -> bool
+    requires { (s : ASegment) × HasSegmentAt octets.now 0 s }
+{
+    for (parameter, from, to, values) in spans {
+        if !span_is(alloc, octets, *parameter, *from, *to, values) {
+            return false;
+        }
+    }
+    true
+}
+
+/// Whether octets spell a segment with such values.
+fn are_spans_of(alloc: Global, octets: &[u8], spans: &[Span]) -> bool {
+    match read_segment(alloc, octets, 0) {
+        Ok(_) => spans_are(alloc, octets, spans),
+        Err(_) => false,
+    }
+}
+
+#[test]
+fn columns_in_ranges(rt: HostRuntime) {
+    assert!(rt; are_spans_of(rt.alloc(), far(), far_spans()));
+    assert!(rt; are_spans_of(rt.alloc(), two(), two_spans()));
 }
 
 /// Adds the segment that octets spell.

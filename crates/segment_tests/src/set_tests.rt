@@ -5,6 +5,7 @@ ghost use Rattle.std.specs.Prelude.{◌≡◌, ◌<◌};
 ghost use Rattle.param_segments.specs.Cells.{AreValuesOf};
 
 use crate::ordered::built;
+use crate::set_range_tests::{each_range, ranges_are_asked};
 use crate::set_reading_tests::{
     are_keys_apart, are_ordered, are_segments, other_of_one_group_read,
 };
@@ -55,6 +56,20 @@ pub(crate) type Packet = (i64, u32, &'static [u8]);
 
 const WORKED_PACKETS: &[Packet] = &[(1500, 140_820_480, &[3]), (2500, 140_820_481, &[10, 7])];
 
+/// Ranges at the edges of two full segments and a row.
+const EDGES: &[(i64, i64)] = &[
+    (i64::MIN, i64::MAX),
+    (i64::MIN, 0),
+    (0, 1),
+    (4_094, 4_096),
+    (4_095, 4_097),
+    (4_096, 4_097),
+    (8_191, 8_193),
+    (8_192, i64::MAX),
+    (8_193, i64::MAX),
+    (1, 0),
+];
+
 const EMPTY_PACKET: &[Packet] = &[(1, 0, &[])];
 
 /// They are functions, so that they stand in no goal of their callers.
@@ -72,6 +87,10 @@ pub(crate) fn worked() -> &'static [u8] {
 
 fn worked_packets() -> &'static [Packet] {
     WORKED_PACKETS
+}
+
+fn edges() -> &'static [(i64, i64)] {
+    EDGES
 }
 
 fn empty_packet() -> &'static [Packet] {
@@ -232,6 +251,18 @@ fn groups_alternate(alloc: Global, mdb: &Mdb) -> bool {
     put_alternating(alloc, &mut rows, 1000).is_ok() && are_in_two_groups(alloc, &rows, mdb)
 }
 
+/// Whether all ranges of twelve rows of two groups are asked as they're of all of their cells.
+fn alternating_ranges_are_asked(alloc: Global, mdb: &Mdb) -> bool {
+    let mut rows = Rows::new(alloc);
+    match each_range(alloc, 9) {
+        Ok(ranges) => {
+            put_alternating(alloc, &mut rows, 12).is_ok()
+                && ranges_are_asked(alloc, mdb, &rows, &ranges)
+        }
+        Err(_) => false,
+    }
+}
+
 /// Adds so many rows of one group, the first at a time, all with one value where it is given.
 pub(crate) fn put_counted(
     alloc: Global,
@@ -352,6 +383,13 @@ fn takes_segments(alloc: Global, mdb: &Mdb, count: u16, segments: u32) -> bool {
         && are_in_segments(alloc, &rows, mdb, segments)
 }
 
+/// Whether ranges at the edges of two full segments and a row are asked as they're of all of their cells.
+fn edges_are_asked(alloc: Global, mdb: &Mdb) -> bool {
+    let mut rows = Rows::new(alloc);
+    put_counted(alloc, &mut rows, 0, 8193, None).is_ok()
+        && ranges_are_asked(alloc, mdb, &rows, edges())
+}
+
 /// The set under the database of one group that is built otherwise.
 fn other_of_one_group(alloc: Global, mdb: &Mdb) -> Option<&'static str> {
     if !are_in_set(
@@ -376,6 +414,9 @@ fn other_of_one_group(alloc: Global, mdb: &Mdb) -> Option<&'static str> {
     if !takes_segments(alloc, mdb, 8193, 3) {
         return Some("two full segments and a row");
     }
+    if !edges_are_asked(alloc, mdb) {
+        return Some("ranges at the edges of segments");
+    }
     None
 }
 
@@ -399,6 +440,9 @@ fn sets_of_one_group(rt: HostRuntime) {
 fn other_of_two_groups(alloc: Global, mdb: &Mdb) -> Option<&'static str> {
     if !groups_alternate(alloc, mdb) {
         return Some("groups that alternate");
+    }
+    if !alternating_ranges_are_asked(alloc, mdb) {
+        return Some("ranges of groups that alternate");
     }
     if !are_ordered(alloc, mdb) {
         return Some("segments in another order");
