@@ -18,7 +18,7 @@ _cudrakh() {
     scan) files=1 ;;
     values) files=4 ;;
     create) files=4 ;;
-    load) files=1 options='--route --ask --link' ;;
+    load) files=16 options='--route --ask --fillers --link' ;;
     query) options='--sql --ask' ;;
   esac
 
@@ -42,7 +42,7 @@ _cudrakh() {
   done
 
   if [ "$due" ]; then
-    [ "$due" != --link ] && compopt -o default
+    [ "$due" != --link ] && [ "$due" != --fillers ] && compopt -o default
   elif [ ! "$ended" ] && { [ "${current#-}" != "$current" ] || [ "$command" = query ]; }; then
     mapfile -t COMPREPLY < <(compgen -W "$options" -- "$current")
   elif [ ${#words[@]} -lt "$files" ]; then

@@ -1,13 +1,12 @@
 #!/usr/bin/env bash
-# A day of an archive, in a folder that is removed at the end: it is made of three sheets, two stations' dumps are loaded, it is asked, opened again, and compared with its packets.
+# A day of an archive, in a folder that is removed at the end: it is made of three sheets, two stations' dumps are loaded at once, it is asked, opened again, and compared with its packets.
 set -eu
 cd "$(dirname "$0")"
 folder=$(mktemp -d)
 trap 'rm -rf "$folder"' EXIT
 export YARCH_HOME=$folder/archive
 ../cudrakh create parameters.csv calibrations.csv containers.csv
-../cudrakh load --link 1 link-1.dump
-../cudrakh load --link 2 link-2.dump
+../cudrakh load link-1.dump link-2.dump
 ../cudrakh query --ask asks.csv
 ../cudrakh recover
 ../cudrakh verify
