@@ -15,8 +15,11 @@ use Rattle.segment_codec.specs.Segment.{HasSegmentAt, segment_octets}
 use Rattle.segment_codec.specs.declared.segment.Segment.{Segment}
 use Rattle.mdb_items.specs.Database.{Database}
 use Rattle.param_segments.specs.RowPlaces.{IsKnownSegment, are_known_parameters}
-use Rattle.param_segments.specs.Octets.{starts_from}
+use Rattle.param_segments.specs.Groups.{set_of}
+use Rattle.param_segments.specs.Octets.{set_octets, starts_from}
+use Rattle.param_segments.specs.Rows.{SetRow}
 use Rattle.param_segments.proofs.Contents.{number_length}
+use Rattle.param_segments.proofs.Known.{spelled_as_counted}
 use Rattle.param_segments.proofs.Steps.{starts_append}
 use Rattle.param_segments.proofs.Starts.{no_segment}
 
@@ -122,3 +125,13 @@ some_count octets segments few is none =
 pub behind_count : (octets : List ℕ) (segments : List Segment) → octets ≡ counted w32 segment_octets segments → drop 4 octets ≡ flat_map segment_octets segments
 unfolding counted
 behind_count octets segments is = ap (drop 4) is ∙ drop_at (number w32 (length segments)) (flat_map segment_octets segments) 4 (number_length (length segments))
+
+-- octets of a set end behind its segments
+pub counted_end : (ts : List SetRow) (octets : List ℕ) (ss : List Segment) → ss ≡ set_of ts → octets ≡ set_octets ts → 4 + length (flat_map segment_octets ss) ≡ length octets
+unfolding counted
+counted_end ts octets ss are same =
+    let own = set_of ts in
+    let whole : length octets ≡ length (number w32 (length own) ++ flat_map segment_octets own) = ap length (same ∙ spelled_as_counted ts) in
+    let joined = length-append (number w32 (length own)) (flat_map segment_octets own) in
+    let four = number_length (length own) in
+    ap (λ (xs : List Segment). 4 + length (flat_map segment_octets xs)) are ∙ (omega (arith, whole, joined, four))

@@ -28,3 +28,7 @@ pub mod SetAgain
 pub mod RunSteps
 pub mod RangeCells
 pub mod AskedCells
+pub mod SetRuns
+pub mod Passed
+pub mod SegmentsOfSet
+pub mod RunsComplete

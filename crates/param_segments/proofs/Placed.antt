@@ -3,10 +3,9 @@ use Rattle.std.proofs.Common.{◌≡◌, ◌∙◌, ℕ, zero, suc, ℤ, pos, �
 use Rattle.std.specs.Prelude.{flat_map, nat_eq}
 use Rattle.std.specs.Int.{w128}
 use Rattle.std.specs.Int.RustNames.{FitsSigned}
-use Rattle.std.specs.List.{AllByRecursion, IsDistinct, take-map}
+use Rattle.std.specs.List.{AllByRecursion, IsDistinct}
 use Rattle.std.specs.List.Sorted.{IsPermutation, IsSortedBy, IsStrictlySortedBy}
 use Rattle.std.specs.Ordering.{is_lt}
-use Rattle.std.specs.declared.cmp.Ordering.TheVariants.{Less}
 use Rattle.std.proofs.Math.Seq.{take-suc}
 use Rattle.std.proofs.lemmas.List.{drop_all, length-map, map-append}
 use Rattle.std.proofs.lemmas.List.Elements.{All-from_recursion, recursion_from_All}
@@ -29,7 +28,6 @@ use Rattle.param_segments.specs.RowPlaces.{IsRowPlace, numbered_segment, placed_
 use Rattle.param_segments.specs.Rows.{AreSetRows, IsSetRow, SetRow, is_earlier, set_row}
 use Rattle.param_segments.specs.Segments.{column_head, column_tail, rows_from, rows_of_segment, values_from}
 use Rattle.param_segments.proofs.Decoded.{each_at}
-use Rattle.param_segments.proofs.Known.{put_last}
 use Rattle.param_segments.proofs.Rereading.{rows_sorted}
 
 -- ---- what loops over lists keep
@@ -61,18 +59,6 @@ place_more old new total number i keys k lt is more so_far =
     let rest = places_in_segment number (i + 1) (drop (i + 1) keys) in
     ap (λ (xs : List RowPlace). xs ++ rest) more ∙ append_assoc old (p ∷ []) rest
     ∙ ap (λ (ks : List Key). old ++ places_in_segment number i ks) (sym (next_dropped keys i k lt is)) ∙ so_far
-
--- one value more of a row
-pub value_more : (old new total : List RawValue) (row i : ℕ) (ps : List ℕ) (cs : List (List ℤ)) (c : List ℤ) (raw : ℤ) → i < length ps → i < length cs → c ≡ get_or cs i c → raw ≡ raw_in_row row c →
-    (let v : RawValue = record { parameter = get_or ps i 0; raw = raw } in new ≡ old ++ v ∷ []) → old ++ values_in_row row (drop i ps) (drop i cs) ≡ total → new ++ values_in_row row (drop (i + 1) ps) (drop (i + 1) cs) ≡ total
-value_more old new total row i ps cs c raw lp lc is own more so_far =
-    let v : RawValue = record { parameter = get_or ps i 0; raw = raw } in
-    let w : ℤ → RawValue = λ z. record { parameter = get_or ps i 0; raw = z } in
-    let rest = values_in_row row (drop (i + 1) ps) (drop (i + 1) cs) in
-    ap (λ (xs : List RawValue). xs ++ rest) more ∙ append_assoc old (v ∷ []) rest
-    ∙ ap (λ (z : ℤ). old ++ w z ∷ rest) own
-    ∙ ap (λ (xs : List ℕ). old ++ values_in_row row xs (c ∷ drop (i + 1) cs)) (sym (drop-cons ps i 0 lp ∙ ap (λ (k : ℕ). get_or ps i 0 ∷ drop k ps) (sym (add-one i))))
-    ∙ ap (λ (xs : List (List ℤ)). old ++ values_in_row row (drop i ps) xs) (sym (next_dropped cs i c lc is)) ∙ so_far
 
 -- ---- the rows at the places of a segment
 
@@ -255,39 +241,6 @@ placed_is_row segments p all is =
       parameters = subst (AllByRecursion (λ n. n < 2 ^ 16)) (sym parameters) own.parameters;
       key = is.key;
       raws = subst (AllByRecursion (FitsSigned w128)) (sym (raws_again s.parameters raws len)) (raws_fit p.row (length s.keys) s.columns is.row own.columns);
-    }
-
--- ---- the loop over places
-
-take_later : (k : Key) (n : ℕ) (ks : List Key) → AllByRecursion (λ y. key_cmp k y ≡ Less) ks → AllByRecursion (λ y. key_cmp k y ≡ Less) (take n ks)
-take_later k zero ks all = tt
-take_later k (suc n) [] all = tt
-take_later k (suc n) (x ∷ xs) all = (all.0, take_later k n xs all.1)
-
-front_rises : (n : ℕ) (ks : List Key) → IsStrictlySortedBy key_cmp ks → IsStrictlySortedBy key_cmp (take n ks)
-unfolding IsStrictlySortedBy
-front_rises zero ks up = tt
-front_rises (suc n) [] up = tt
-front_rises (suc n) (k ∷ ks) up = (take_later k n ks up.0, front_rises n ks up.1)
-
-pub next_row : (segments : List Segment) (places : List RowPlace) (i : ℕ) (p : RowPlace) (old : List SetRow) → i < length places → p ≡ get_or places i p → old ≡ map (placed_row segments) (take i places) → old ++ placed_row segments p ∷ [] ≡ map (placed_row segments) (take (i + 1) places)
-next_row segments places i p old lt is so_far =
-    let f = placed_row segments in
-    ap (λ (rows : List SetRow). rows ++ f p ∷ []) so_far ∙ sym (map-append f (take i places) (p ∷ [])) ∙ ap (map f) (sym (next_taken places i p lt is))
-
-pub place_at : (segments : List Segment) (places : List RowPlace) (i : ℕ) (p : RowPlace) → AllByRecursion (IsRowPlace segments) places → i < length places → p ≡ get_or places i p → IsRowPlace segments p
-place_at segments places i p all lt is = subst (IsRowPlace segments) (sym is) (each_at (IsRowPlace segments) places i p all lt)
-
--- the rows so far with the next one are rows of a set
-pub rows_with_next : (segments : List Segment) (places : List RowPlace) (i : ℕ) (p : RowPlace) (old : List SetRow) → AllByRecursion IsSegment segments → AllByRecursion (IsRowPlace segments) places → IsStrictlySortedBy key_cmp (map (λ (q : RowPlace). q.key) places) →
-    i < length places → p ≡ get_or places i p → old ≡ map (placed_row segments) (take i places) → AllByRecursion IsSetRow old → AreSetRows (old ++ placed_row segments p ∷ [])
-rows_with_next segments places i p old all inside up lt is so_far each =
-    let key : RowPlace → Key = λ q. q.key in
-    let keys : map (λ (t : SetRow). t.key) (old ++ placed_row segments p ∷ []) ≡ take (i + 1) (map key places) =
-    ap (map (λ (t : SetRow). t.key)) (next_row segments places i p old lt is so_far) ∙ placed_keys segments (take (i + 1) places) ∙ sym (take-map key (i + 1) places) in
-    record {
-      each = put_last IsSetRow old (placed_row segments p) each (placed_is_row segments p all (place_at segments places i p inside lt is));
-      rising = subst (IsStrictlySortedBy key_cmp) (sym keys) (front_rises (i + 1) (map key places) up);
     }
 
 -- ---- the set

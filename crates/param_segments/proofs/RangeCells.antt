@@ -43,7 +43,7 @@ through : (a b c : ℤ) → a ≤ℤ b → b ≤ℤ c → a ≤ℤ c
 through a b c h k = omega (arith, ints)
 
 -- a key above another has no earlier time
-times_rise : (a b : Key) → key_cmp a b ≡ Less → a.time ≤ℤ b.time
+pub times_rise : (a b : Key) → key_cmp a b ≡ Less → a.time ≤ℤ b.time
 times_rise a b less =
     by_lt_z b.time a.time
     (λ lt. absurd (

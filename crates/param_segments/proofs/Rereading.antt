@@ -60,3 +60,11 @@ are_pieces (t ∷ ts) some =
     let first = row_cases (record { full = []; last = [] }) t (eqb 0 4096) refl start in
     let all = cut_from (with_next_row (record { full = []; last = [] }) t) ts first.0 first.1 in
     all_pieces (cut_rows (t ∷ ts)).full (cut_rows (t ∷ ts)).last all.0.full (all.1, all.0.last)
+
+-- all but the last piece are full
+pub full_pieces : (rows : List SetRow) → AllByRecursion (λ q. length q ≡ 4096) (cut_rows rows).full
+full_pieces [] = tt
+full_pieces (t ∷ ts) =
+    let start : ArePieces (record { full = []; last = [] }) = record { full = tt; last = omega arith } in
+    let first = row_cases (record { full = []; last = [] }) t (eqb 0 4096) refl start in
+    (cut_from (with_next_row (record { full = []; last = [] }) t) ts first.0 first.1).0.full

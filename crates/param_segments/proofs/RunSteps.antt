@@ -224,6 +224,15 @@ one_number seen n ns le =
     below : (n seen : ℕ) → n ≤ seen → (n == seen) ≡ false → n < seen
     below n seen le f = grind arith
 
+not_same : (n seen : ℕ) → seen < n → (n == seen) ≡ false
+not_same n seen lt = grind arith
+
+-- a number that comes too early
+pub too_high : (seen n : ℕ) (ns : List ℕ) → seen < n → count_in_order seen (n ∷ ns) ≡ None
+too_high seen n ns lt =
+    let not_less : nat_lt n seen ≡ false = le-ltb n seen (omega (arith, lt)) in
+    ap (λ (b : Bool). if b then count_in_order seen ns else (if n == seen then count_in_order (seen + 1) ns else None)) not_less ∙ ap (λ (b : Bool). if b then count_in_order (seen + 1) ns else None) (not_same n seen lt)
+
 pub next_number : (numbers : List ℕ) (places : List RowPlace) (i seen : ℕ) (p : RowPlace) → i < length places → p ≡ get_or places i p → place_group numbers p ≤ seen →
     count_in_order (if place_group numbers p == seen then seen + 1 else seen) (numbers_at numbers (drop (i + 1) places)) ≡ count_in_order seen (numbers_at numbers (drop i places))
 next_number numbers places i seen p lt is le =

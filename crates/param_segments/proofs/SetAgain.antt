@@ -149,7 +149,7 @@ full_pieces : (ss : List Segment) → AllByRecursion (λ s. length s.keys ≡ mo
 full_pieces [] all = tt
 full_pieces (s ∷ ss) all = (row_count s ∙ all.0, full_pieces ss all.1)
 
-last_holds : {X : Type 0} (P : X → Type 0) (xs : List X) (x : X) → AllByRecursion P (xs ++ x ∷ []) → P x
+pub last_holds : {X : Type 0} (P : X → Type 0) (xs : List X) (x : X) → AllByRecursion P (xs ++ x ∷ []) → P x
 last_holds P [] x all = all.0
 last_holds P (y ∷ ys) x all = last_holds P ys x all.1
 
@@ -206,7 +206,7 @@ other_runs g (h ∷ hs) (r ∷ runs) apart of are =
     ∙ other_runs g hs runs apart.1 of.1 both.1
 
 -- the rows of each group are those of its run
-abbrev HasRuns : List SetRow → List (List ℕ) → List Run → Type 0
+abbrev pub HasRuns : List SetRow → List (List ℕ) → List Run → Type 0
 HasRuns rows [] [] = Unit {0}
 HasRuns rows [] (r ∷ runs) = ⊥
 HasRuns rows (g ∷ gs) [] = ⊥
@@ -220,7 +220,7 @@ none_behind g front own (h ∷ hs) of apart none = (
   none_behind g front own hs of apart.1 none.1,
 )
 
-runs_in : (front : List SetRow) (gs : List (List ℕ)) (runs : List Run) → IsDistinct (pointwise nat_eq) gs → AllByRecursion (λ g. filter (is_of_group g) front ≡ []) gs → AreRunsOf gs runs → AllByRecursion IsSegment (flat_map run_segments runs) →
+pub runs_in : (front : List SetRow) (gs : List (List ℕ)) (runs : List Run) → IsDistinct (pointwise nat_eq) gs → AllByRecursion (λ g. filter (is_of_group g) front ≡ []) gs → AreRunsOf gs runs → AllByRecursion IsSegment (flat_map run_segments runs) →
     HasRuns (front ++ flat_map rows_of_segment (flat_map run_segments runs)) gs runs
 runs_in front [] [] distinct none of are = tt
 runs_in front [] (r ∷ runs) distinct none of are = absurd of
@@ -247,7 +247,7 @@ keys_of_rows (s ∷ ss) =
     ∙ ap (λ (ks : List Key). s.keys ++ ks) (keys_of_rows ss)
 
 -- so they are in the order of the keys
-runs_sorted : (mixed sorted : List SetRow) (gs : List (List ℕ)) (runs : List Run) → IsRising is_earlier sorted → IsPermutation mixed sorted → AreRunsOf gs runs → HasRuns mixed gs runs → HasRuns sorted gs runs
+pub runs_sorted : (mixed sorted : List SetRow) (gs : List (List ℕ)) (runs : List Run) → IsRising is_earlier sorted → IsPermutation mixed sorted → AreRunsOf gs runs → HasRuns mixed gs runs → HasRuns sorted gs runs
 runs_sorted mixed sorted [] [] up same of has = tt
 runs_sorted mixed sorted [] (r ∷ runs) up same of has = absurd of
 runs_sorted mixed sorted (g ∷ gs) [] up same of has = absurd of
@@ -256,7 +256,7 @@ runs_sorted mixed sorted (g ∷ gs) (r ∷ runs) up same of has =
     let rises = rising_rows own (subst (IsStrictlySortedBy key_cmp) (sym (keys_of_rows (run_segments r))) of.0.rising) in
     (filtered_is (λ (t : SetRow). t.key) (is_of_group g) mixed sorted own (keep_rising (is_of_group g) sorted up) rises same has.0, runs_sorted mixed sorted gs runs up same of.1 has.1)
 
-runs_again : (rows : List SetRow) (gs : List (List ℕ)) (runs : List Run) → AreRunsOf gs runs → HasRuns rows gs runs → AllByRecursion IsSegment (flat_map run_segments runs) → flat_map (group_segments rows) gs ≡ flat_map run_segments runs
+pub runs_again : (rows : List SetRow) (gs : List (List ℕ)) (runs : List Run) → AreRunsOf gs runs → HasRuns rows gs runs → AllByRecursion IsSegment (flat_map run_segments runs) → flat_map (group_segments rows) gs ≡ flat_map run_segments runs
 runs_again rows [] [] of has are = refl
 runs_again rows [] (r ∷ runs) of has are = absurd of
 runs_again rows (g ∷ gs) [] of has are = absurd of
@@ -266,15 +266,15 @@ runs_again rows (g ∷ gs) (r ∷ runs) of has are =
 
 -- ---- groups in the order of their first rows
 
-or_first : (a b : Bool) → a ≡ true → (a || b) ≡ true
+pub or_first : (a b : Bool) → a ≡ true → (a || b) ≡ true
 or_first true b e = refl
 or_first false b e = cc
 
-or_second : (a b : Bool) → b ≡ true → (a || b) ≡ true
+pub or_second : (a b : Bool) → b ≡ true → (a || b) ≡ true
 or_second true b e = refl
 or_second false b e = e
 
-or_neither : (a b : Bool) → a ≡ false → b ≡ false → (a || b) ≡ false
+pub or_neither : (a b : Bool) → a ≡ false → b ≡ false → (a || b) ≡ false
 or_neither true b e f = cc
 or_neither false b e f = f
 
@@ -293,10 +293,10 @@ none_taken (g ∷ gs) (suc n) distinct lt =
     let apart = each_at (λ (y : List ℕ). pointwise nat_eq g y ≡ false) gs n [] (IsDistinct-head (pointwise nat_eq) g gs distinct) (omega arith) in
     or_neither (pointwise nat_eq h g) (list_any (pointwise nat_eq h) (take n gs)) (nat_list_eq_equiv.symm h g ∙ apart) (none_taken gs n (IsDistinct-tail (pointwise nat_eq) g gs distinct) (omega arith))
 
-known_group : (gs : List (List ℕ)) (n m : ℕ) → m < n → m < length gs → with_group (take n gs) (get_or gs m []) ≡ take n gs
+pub known_group : (gs : List (List ℕ)) (n m : ℕ) → m < n → m < length gs → with_group (take n gs) (get_or gs m []) ≡ take n gs
 known_group gs n m lt within = ap (λ (b : Bool). if b then take n gs else take n gs ++ get_or gs m [] ∷ []) (any_taken gs n m lt within)
 
-next_group : (gs : List (List ℕ)) (n : ℕ) → IsDistinct (pointwise nat_eq) gs → n < length gs → with_group (take n gs) (get_or gs n []) ≡ take (n + 1) gs
+pub next_group : (gs : List (List ℕ)) (n : ℕ) → IsDistinct (pointwise nat_eq) gs → n < length gs → with_group (take n gs) (get_or gs n []) ≡ take (n + 1) gs
 next_group gs n distinct lt =
     ap (λ (b : Bool). if b then take n gs else take n gs ++ get_or gs n [] ∷ []) (none_taken gs n distinct lt) ∙ sym (ap (λ (k : ℕ). take k gs) (add-one n) ∙ take-suc gs n [] lt)
 
@@ -337,20 +337,20 @@ placed_group segments gs numbers p sound is numbered =
     let own = segment_there segments p sound is in
     parameters_again s.parameters (map (raw_in_row p.row) s.columns) (length-map s.columns (raw_in_row p.row) ∙ own.column_count) ∙ sym (numbered_parameters segments gs numbers p.segment is.segment numbered)
 
-placed_groups : (segments : List Segment) (gs : List (List ℕ)) (numbers : List ℕ) (places : List RowPlace) → AllByRecursion IsSegment segments → AllByRecursion (IsRowPlace segments) places → map (numbered_group gs) numbers ≡ map (λ s. s.parameters) segments →
+pub placed_groups : (segments : List Segment) (gs : List (List ℕ)) (numbers : List ℕ) (places : List RowPlace) → AllByRecursion IsSegment segments → AllByRecursion (IsRowPlace segments) places → map (numbered_group gs) numbers ≡ map (λ s. s.parameters) segments →
     map row_parameters (map (placed_row segments) places) ≡ map (numbered_group gs) (map (place_group numbers) places)
 placed_groups segments gs numbers [] sound are numbered = refl
 placed_groups segments gs numbers (p ∷ ps) sound are numbered =
     ap (λ (g : List ℕ). g ∷ map row_parameters (map (placed_row segments) ps)) (placed_group segments gs numbers p sound are.0 numbered)
     ∙ ap (λ (hs : List (List ℕ)). numbered_group gs (place_group numbers p) ∷ hs) (placed_groups segments gs numbers ps sound are.1 numbered)
 
-groups_within : (segments : List Segment) (gs : List (List ℕ)) (numbers : List ℕ) (places : List RowPlace) → length numbers ≡ length segments → AllByRecursion (λ m. m < length gs) numbers → AllByRecursion (IsRowPlace segments) places →
+pub groups_within : (segments : List Segment) (gs : List (List ℕ)) (numbers : List ℕ) (places : List RowPlace) → length numbers ≡ length segments → AllByRecursion (λ m. m < length gs) numbers → AllByRecursion (IsRowPlace segments) places →
     AllByRecursion (λ m. m < length gs) (map (place_group numbers) places)
 groups_within segments gs numbers [] len within are = tt
 groups_within segments gs numbers (p ∷ ps) len within are =
     (each_at (λ (m : ℕ). m < length gs) numbers p.segment 0 within (let lt = are.0.segment in omega (arith, lt, len)), groups_within segments gs numbers ps len within are.1)
 
-nothing_in : (gs : List (List ℕ)) → AllByRecursion (λ g. filter (is_of_group g) [] ≡ []) gs
+pub nothing_in : (gs : List (List ℕ)) → AllByRecursion (λ g. filter (is_of_group g) [] ≡ []) gs
 nothing_in [] = tt
 nothing_in (g ∷ gs) = (refl, nothing_in gs)
 
@@ -376,7 +376,7 @@ set_again segments places gs numbers sound are same up runs order =
 
 -- ---- spelled as they were
 
-each_placed : (segments : List Segment) (places : List RowPlace) → AllByRecursion IsSegment segments → AllByRecursion (IsRowPlace segments) places → AllByRecursion IsSetRow (map (placed_row segments) places)
+pub each_placed : (segments : List Segment) (places : List RowPlace) → AllByRecursion IsSegment segments → AllByRecursion (IsRowPlace segments) places → AllByRecursion IsSetRow (map (placed_row segments) places)
 each_placed segments [] sound are = tt
 each_placed segments (p ∷ ps) sound are = (placed_is_row segments p sound are.0, each_placed segments ps sound are.1)
 

@@ -84,6 +84,11 @@ module _ {X : Type 0} (key : X → Key) where
   contains_from z (x ∷ xs) (inl e) = (0, omega arith, sym e)
   contains_from z (x ∷ xs) (inr m) = let h = contains_from z xs m in (suc h.0, omega (arith, h.1), h.2)
 
+  -- two rising lists of the same items are one
+  pub permuted_is : (xs ys : List X) → IsRising earlier xs → IsRising earlier ys → IsPermutation xs ys → xs ≡ ys
+  permuted_is xs ys ux uy same =
+      rising_is xs ys ux uy (λ z m. item_of z ys (Contains-permutation xs ys z same (contains_from z xs m))) (λ z m. item_of z xs (Contains-permutation ys xs z (IsPermutation-sym xs ys same) (contains_from z ys m)))
+
   -- ---- a part of them
 
   in_cases : (p : X → Bool) (x z : X) (xs : List X) (b : Bool) → p x ≡ b → (IsItem z (filter p xs) → IsItem z xs × (p z ≡ true)) → IsItem z (cond b (x ∷ filter p xs) (filter p xs)) → IsItem z (x ∷ xs) × (p z ≡ true)

@@ -20,7 +20,8 @@ as_range_asks range cells = truncated range.limit (in_direction range.direction 
 
 -- the cells of a parameter that a range asks of rows
 abbrev pub cells_in_range : Database → ℕ → CellRange → List SetRow → List Cell
-cells_in_range db q range rows = as_range_asks range (filter (is_cell_in_range range.from range.to) (set_cells db q rows))
+cells_in_range db q range rows =
+    as_range_asks range (filter (is_cell_in_range range.from range.to) (set_cells db q rows))
 
 -- ---- before they are calibrated
 

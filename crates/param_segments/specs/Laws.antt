@@ -1,14 +1,16 @@
 -- What holds of segment sets.
-use Rattle.std.specs.Prelude.{◌≡◌, ◌<◌, ◌^◌, ℕ, List, flat_map, length, map}
+use Rattle.std.specs.Prelude.{◌≡◌, ◌↔◌, ◌<◌, ◌^◌, ℕ, List, flat_map, length, map}
 use Rattle.std.specs.List.{AllByRecursion}
 use Rattle.std.specs.List.Sorted.{IsStrictlySortedBy}
 use Rattle.arch_types.specs.Order.{key_cmp, order_by}
 use Rattle.mdb_items.specs.Database.{Database}
 use Rattle.segment_codec.specs.Segment.{IsSegment}
+use Rattle.segment_codec.specs.declared.segment.Segment.{Segment}
 use Rattle.param_segments.specs.Cells.{AreValuesOf, is_cell_before, is_cell_earlier, set_cells, set_raw_cells, with_eng}
 use Rattle.param_segments.specs.Rows.{SetRow, AreSetRows}
 use Rattle.param_segments.specs.Groups.{set_of}
 use Rattle.param_segments.specs.Segments.{rows_of_segment, rows_of_segments}
+use Rattle.param_segments.specs.SetSegments.{AreSetSegments}
 use Rattle.param_segments.specs.Octets.{rows_of_numbered_segment, set_octets}
 
 -- the rows of the segments of rows are these rows
@@ -18,6 +20,11 @@ SetHasItsRows = (rows : List SetRow) → AreSetRows rows → rows_of_segments (s
 -- they are segments, each of 1 to 4,096 rows
 abbrev pub SetIsSegments : Type 0
 SetIsSegments = (rows : List SetRow) → AreSetRows rows → AllByRecursion IsSegment (set_of rows)
+
+-- segments are those of some rows exactly where they are a run of each group of their rows
+abbrev pub SegmentsAreOfASet : Type 0
+SegmentsAreOfASet = (segments : List Segment) →
+    AreSetSegments segments ↔ ((rows : List SetRow) × AreSetRows rows × (set_of rows ≡ segments))
 
 -- rows have one spelling
 abbrev pub SpellingIsOne : Type 0

@@ -8,6 +8,7 @@ pub mod CellRange
 pub mod Extracted
 pub mod GroupContents
 pub mod RowPlaces
+pub mod SetSegments
 pub mod Laws
 pub mod Plans
 pub mod Runs

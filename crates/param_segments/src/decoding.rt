@@ -4,7 +4,7 @@ ghost use Rattle.std.specs.Prelude.{◌≡◌, ◌+◌, ◌<◌, ◌≤◌, ◌^
 ghost use Rattle.std.specs.Int.{w32};
 ghost use Rattle.std.specs.List.{AllByRecursion};
 ghost use Rattle.octet_fields.specs.Spelling.{counted};
-ghost use Rattle.param_segments.specs.RowPlaces.{IsKnownSegment, are_known_parameters, places_from, places_in_segment, raw_in_row, values_in_row};
+ghost use Rattle.param_segments.specs.RowPlaces.{IsKnownSegment, are_known_parameters, places_from, places_in_segment};
 ghost use Rattle.param_segments.specs.Octets.{starts_from};
 ghost use Rattle.segment_codec.specs.Segment.{HasSegmentAt, IsSegment, most_rows, segment_octets};
 ghost use Rattle.octet_fields.specs.declared.fault.DecodeError.TheVariants.{OutOfMemory};
@@ -13,10 +13,9 @@ ghost use Rattle.segment_codec.specs.declared.segment.Segment.{Segment as ASegme
 use crate::asking::are_known_parameters;
 use crate::row_place::RowPlace;
 use arch_types::key::Key;
-use container_extract::values::RawValue;
 use mdb_model::Mdb;
 use octet_fields::{room_for, u32_at};
-use segment_codec::{NotASegment, RawColumn, Segment, read_parameters, read_segment};
+use segment_codec::{NotASegment, Segment, read_parameters, read_segment};
 use std::alloc::{AllocError, Global};
 
 /// The octets of the count of the segments, which stands before them.
@@ -68,6 +67,7 @@ fn segments_at(
     ensures spelled { IfOk result (λ read.
         drop 4 octets.now ≡ flat_map segment_octets read.segments.items ++ drop read.end octets.now) }
     ensures starts { IfOk result (λ read. read.starts.items ≡ starts_from 4 read.segments.items) }
+    ensures end { IfOk result (λ read. read.end ≡ 4 + length (flat_map segment_octets read.segments.items)) }
     ensures each { (segments : List ASegment) → AllByRecursion (IsKnownSegment mdb.now) segments →
         count ≡ length segments → drop 4 octets.now ≡ flat_map segment_octets segments →
         MatchResult result (λ read. read.segments.items ≡ segments) (λ e. e ≡ OutOfMemory) }
@@ -104,6 +104,7 @@ pub(crate) fn counted_segments(
     ensures whole { IfOk result (λ read. read.end ≡ length octets.now →
         octets.now ≡ counted w32 segment_octets read.segments.items) }
     ensures starts { IfOk result (λ read. read.starts.items ≡ starts_from 4 read.segments.items) }
+    ensures end { IfOk result (λ read. read.end ≡ 4 + length (flat_map segment_octets read.segments.items)) }
     ensures each { (segments : List ASegment) → AllByRecursion (IsKnownSegment mdb.now) segments →
         length segments < 2 ^ 32 → octets.now ≡ counted w32 segment_octets segments →
         MatchResult result (λ read. read.segments.items ≡ segments) (λ e. e ≡ OutOfMemory) }
@@ -141,33 +142,4 @@ pub(crate) fn places_of(alloc: Global, segments: &[Segment]) -> Result<Vec<RowPl
         put_places(&mut places, i as u32, segments[i].keys.as_slice())?;
     }
     Ok(places)
-}
-
-/// A column's raw number in a row.
-fn raw_in_row(row: usize, column: &RawColumn) -> i128
-    requires { row < length column.now }
-    ensures { result ≡ raw_in_row row column.now }
-{
-    column.as_slice()[row]
-}
-
-/// Writes the values of parameters in a row of their columns in place of what a buffer has.
-pub(crate) fn write_values(
-    values: &mut Vec<RawValue>,
-    parameters: &[u16],
-    columns: &[RawColumn],
-    row: usize,
-) -> Result<(), AllocError>
-    requires columns { length columns.now ≡ length parameters.now }
-    requires rows { AllByRecursion (λ column. row < length column) columns.now }
-    ensures { OnOk result (values.new.items ≡ values_in_row row parameters.now columns.now) }
-{
-    values.clear();
-    for i in 0..parameters.len() {
-        values.push(RawValue {
-            parameter: parameters[i],
-            raw: raw_in_row(row, &columns[i]),
-        })?;
-    }
-    Ok(())
 }

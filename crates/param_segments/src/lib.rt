@@ -4,10 +4,10 @@
 //! specs/Rows.antt). Groups, pieces of 4,096 rows and segments are in the spelling alone: `set_of` of specs/Groups.antt
 //! says which segments rows have, so rows have one spelling. A `SetBuilder` takes rows one after the other and gives
 //! their set whenever it's asked; `SegSet::build` extracts the rows of an interval and builds over them; `from_bytes`
-//! reads the rows that octets hold, and accepts the octets that their set spells: where the segments stand as those of a
-//! set they are these (`runs`, proofs/SetAgain.antt), else the set is built again and compared; `cells` is what an
-//! extraction of these rows would give of a parameter, read from the columns, and `cells_in_range` what a range asks of
-//! them. Called by whoever fills an interval, and by retrievals, whose `Plan` and its parts stand here.
+//! accepts octets whose segments are those of the set of their rows, and asks so where they stand (`runs`,
+//! `laws::segments_are_of_a_set`); `cells` is what an extraction of these rows would give of a parameter, read from the
+//! columns, and `cells_in_range` what a range asks of them. Called by whoever fills an interval, and by retrievals,
+//! whose `Plan` and its parts stand here.
 //!
 //! The one idea of the proof: the rows of the segments of rows are these rows (`laws::set_has_its_rows`). So what a
 //! parameter's columns give, group by group, are its cells in some order, and by their keys in the one order

@@ -1,10 +1,12 @@
-//! The cells of a parameter in a range of times, in the segments of a set.
+//! The cells of a parameter in a range of times, in the segments of a set. Segments before the range are passed over.
 
-ghost use Rattle.std.specs.Prelude.{◌≡◌, ◌++◌, flat_map, IfOk, OnOk};
+ghost use Rattle.std.specs.Prelude.{◌≡◌, ◌<◌, ◌<ℤ◌, ◌++◌, flat_map, length, true, IfOk, OnOk};
+ghost use Rattle.std.specs.List.{AllByRecursion};
 ghost use Rattle.arch_types.specs.Directions.{in_direction, truncated};
 ghost use Rattle.param_segments.specs.CellRange.{as_range_asks, raw_cells_in_range, segment_cells_in_range};
 ghost use Rattle.param_segments.specs.Groups.{set_of};
 ghost use Rattle.param_segments.specs.Octets.{IsSpelledSet, rows_in_octets};
+ghost use Rattle.param_segments.specs.RowPlaces.{numbered_segment};
 ghost use Rattle.segment_codec.specs.Segment.{HasSegmentAt};
 ghost use Rattle.segment_codec.specs.declared.segment.Segment.{Segment};
 
@@ -12,7 +14,7 @@ use crate::cell_range::CellRange;
 use crate::cells::{are_sorted, put_column};
 use crate::raw_cell::RawCell;
 use arch_types::direction::Direction;
-use segment_codec::read_column_in_range;
+use segment_codec::{read_column_in_range, read_head};
 use std::alloc::{AllocError, Global};
 
 /// Adds the raw cells that a parameter has in a range of times in the segment that stands in octets from a place on.
@@ -34,6 +36,59 @@ fn put_range_cells(
     }
 }
 
+/// Whether a segment lies before a time, as the next one shows: it has the same parameters and begins before that.
+fn ends_before(
+    alloc: Global,
+    octets: &[u8],
+    starts: &[u32],
+    number: usize,
+    time: i64,
+) -> Result<bool, AllocError>
+    requires spelled { IsSpelledSet octets.now starts.now }
+    requires within { number < length starts.now }
+    ensures { IfOk result (λ before. before ≡ true → AllByRecursion (λ key. key.time <ℤ time)
+        (numbered_segment (set_of (rows_in_octets octets.now)) number).keys) }
+{
+    let next = number + 1;
+    if next >= starts.len() {
+        return Ok(false);
+    }
+    let behind = read_head(alloc, octets, starts[next] as usize)?;
+    if behind.first.time >= time {
+        return Ok(false);
+    }
+    let own = read_head(alloc, octets, starts[number] as usize)?;
+    Ok(own.parameters.as_slice() == behind.parameters.as_slice())
+}
+
+/// Adds those in the segment with a number. One before the range isn't read.
+fn put_numbered_cells(
+    alloc: Global,
+    cells: &mut Vec<RawCell>,
+    octets: &[u8],
+    starts: &[u32],
+    number: usize,
+    parameter: u16,
+    range: CellRange,
+) -> Result<(), AllocError>
+    requires spelled { IsSpelledSet octets.now starts.now }
+    requires within { number < length starts.now }
+    ensures { OnOk result (cells.new.items ≡ cells.old.items ++ segment_cells_in_range parameter range.from range.to
+        (numbered_segment (set_of (rows_in_octets octets.now)) number)) }
+{
+    if ends_before(alloc, octets, starts, number, range.from)? {
+        return Ok(());
+    }
+    put_range_cells(
+        alloc,
+        cells,
+        octets,
+        starts[number] as usize,
+        parameter,
+        range,
+    )
+}
+
 /// The raw cells of a parameter in a range of times, segment by segment.
 fn gathered_range_cells(
     alloc: Global,
@@ -47,8 +102,8 @@ fn gathered_range_cells(
         (set_of (rows_in_octets octets.now))) }
 {
     let mut cells = Vec::new(alloc);
-    for start in starts {
-        put_range_cells(alloc, &mut cells, octets, *start as usize, parameter, range)?;
+    for number in 0..starts.len() {
+        put_numbered_cells(alloc, &mut cells, octets, starts, number, parameter, range)?;
     }
     Ok(cells)
 }
@@ -73,8 +128,8 @@ fn sorted_range_cells(
     Ok(cells)
 }
 
-/// Turns cells, where the last are to come first.
-fn turn(cells: &mut Vec<RawCell>, direction: Direction)
+/// Puts cells in a direction.
+fn put_in_direction(cells: &mut Vec<RawCell>, direction: Direction)
     ensures { cells.new.items ≡ in_direction direction cells.old.items }
 {
     match direction {
@@ -106,7 +161,7 @@ pub(crate) fn range_cells(
         (raw_cells_in_range parameter range.from range.to (rows_in_octets octets.now))) }
 {
     let mut cells = sorted_range_cells(alloc, octets, starts, parameter, range)?;
-    turn(&mut cells, range.direction);
+    put_in_direction(&mut cells, range.direction);
     keep_first(&mut cells, range.limit);
     Ok(cells)
 }

@@ -1,7 +1,7 @@
-//! Reads a set back: the set of the rows that octets hold has to be spelled by just these octets. Where their segments
-//! stand as those of a set it is; else it's built again, so that no rule of groups and pieces can be forgotten.
+//! Reads a set back: the segments that octets spell have to be those of the set of their rows. They are asked where
+//! they stand, and nothing is built.
 
-ghost use Rattle.std.specs.Prelude.{◌≡◌, ◌<◌, ◌^◌, List, length, map, slice_get, true, Some, IfOk, MatchResult};
+ghost use Rattle.std.specs.Prelude.{◌≡◌, ◌<◌, ◌^◌, List, length, map, true, IfErr, IfOk, MatchResult};
 ghost use Rattle.std.specs.List.{AllByRecursion};
 ghost use Rattle.std.specs.Int.{w32};
 ghost use Rattle.std.specs.List.Sorted.{IsPermutation, IsStrictlySortedBy};
@@ -14,12 +14,12 @@ ghost use Rattle.param_segments.specs.Groups.{set_of};
 ghost use Rattle.param_segments.specs.Octets.{rows_in_octets, set_octets, starts_from};
 ghost use Rattle.param_segments.specs.RowPlaces.{IsRowPlace, IsSegmentOf, placed_row, places_from};
 ghost use Rattle.param_segments.specs.Rows.{SetRow};
+ghost use Rattle.param_segments.specs.SetSegments.{AreSetSegments};
 ghost use Rattle.segment_codec.specs.Segment.{IsSegment, segment_octets};
 ghost use Rattle.octet_fields.specs.declared.fault.DecodeError.TheVariants.{OutOfMemory};
 
 use crate::asking::{are_inside, are_rising, are_segments_of};
-use crate::builder::SetBuilder;
-use crate::decoding::{ReadSegments, counted_segments, places_of, write_values};
+use crate::decoding::{ReadSegments, counted_segments, places_of};
 use crate::row_place::RowPlace;
 use crate::runs::are_set_segments;
 use crate::set::SegSet;
@@ -28,41 +28,6 @@ use intervals::{Exponent, Interval};
 use mdb_model::Mdb;
 use segment_codec::{NotASegment, Segment};
 use std::alloc::{AllocError, Global};
-
-/// The segment with a number.
-fn numbered_segment(segments: &[Segment], number: u32) -> &Segment
-    requires { number < length segments.now }
-    ensures { slice_get segments.now number ≡ Some result.now }
-{
-    &segments[number as usize]
-}
-
-/// A builder of the rows at places of segments.
-fn rows_built(
-    alloc: Global,
-    segments: &[Segment],
-    places: &[RowPlace],
-) -> Result<SetBuilder, AllocError>
-    requires sound { AllByRecursion IsSegment segments.now }
-    requires placed { AllByRecursion (IsRowPlace segments.now) places.now }
-    requires rising { IsStrictlySortedBy key_cmp (map (λ p. p.key) places.now) }
-    ensures { IfOk result (λ built. built ≡ map (placed_row segments.now) places.now) }
-{
-    let mut builder = SetBuilder::with_capacity(alloc, places.len());
-    let mut values = Vec::new(alloc);
-    for place in places {
-        let segment = numbered_segment(segments, place.segment);
-        write_values(
-            &mut values,
-            segment.parameters.as_slice(),
-            segment.columns.as_slice(),
-            usize::from(place.row),
-        )?;
-        builder.rows_are_sound();
-        builder.push(alloc, place.key, &values)?;
-    }
-    Ok(builder)
-}
 
 /// The places of the rows of segments in the order of their keys, where they're rows of a set of the interval and the
 /// database.
@@ -99,14 +64,14 @@ fn sorted_places(
     Ok(places)
 }
 
-/// The set of the rows at places of segments, which are all of their rows. Where they stand as those of a set do it's
-/// over these octets, else it's built again: its octets tell whether they do (D-164).
-fn set_at(
+/// The set over octets of the rows at places of the segments that were read, which are all of their rows: where
+/// segments are those of a set, and octets end with them (D-164).
+fn set_over(
     alloc: Global,
     octets: &Octets,
     read: ReadSegments,
     places: &[RowPlace],
-) -> Result<SegSet, AllocError>
+) -> Result<SegSet, NotASegment>
     requires sound { AllByRecursion IsSegment read.segments.items }
     requires few { length read.segments.items < 2 ^ 32 }
     requires spelled { read.end ≡ length octets.now → octets.now ≡ counted w32 segment_octets read.segments.items }
@@ -114,17 +79,24 @@ fn set_at(
     requires placed { AllByRecursion (IsRowPlace read.segments.items) places.now }
     requires whole { IsPermutation (places_from 0 read.segments.items) places.now }
     requires rising { IsStrictlySortedBy key_cmp (map (λ p. p.key) places.now) }
-    ensures { IfOk result (λ set. set ≡ map (placed_row read.segments.items) places.now) }
+    ensures set { IfOk result (λ set. set ≡ map (placed_row read.segments.items) places.now) }
+    ensures spelled { IfOk result (λ set. octets.now ≡ set_octets set) }
+    ensures each { read.end ≡ length octets.now → AreSetSegments read.segments.items →
+        IfErr result (λ e. e ≡ OutOfMemory) }
 {
     let ReadSegments {
         segments,
         starts,
         end,
     } = read;
-    if end == octets.len() && are_set_segments(alloc, &segments, places)? {
-        return Ok(SegSet::of_spelling(octets.copy()?, starts));
+    if end != octets.len() {
+        return Err(NotASegment::Malformed);
     }
-    rows_built(alloc, &segments, places)?.set(alloc)
+    if !are_set_segments(alloc, &segments, places)? {
+        return Err(NotASegment::Malformed);
+    }
+    let own = octets.copy()?;
+    Ok(SegSet::of_spelling(own, starts))
 }
 
 /// The set of the rows of segments, where they're rows of a set of the interval and the database.
@@ -141,11 +113,13 @@ fn set_of_read(
     requires spelled { read.end ≡ length octets.now → octets.now ≡ counted w32 segment_octets read.segments.items }
     requires starts { read.starts.items ≡ starts_from 4 read.segments.items }
     ensures sound { IfOk result (IsSetOf mdb.now exponent interval.0) }
+    ensures spelled { IfOk result (λ set. octets.now ≡ set_octets set) }
     ensures each { (rows : List SetRow) → IsSetOf mdb.now exponent interval.0 rows →
-        read.segments.items ≡ set_of rows → MatchResult result (λ set. set ≡ rows) (λ e. e ≡ OutOfMemory) }
+        read.segments.items ≡ set_of rows → read.end ≡ length octets.now →
+        MatchResult result (λ set. set ≡ rows) (λ e. e ≡ OutOfMemory) }
 {
     let places = sorted_places(alloc, interval, exponent, &read.segments, mdb)?;
-    let set = set_at(alloc, octets, read, &places)?;
+    let set = set_over(alloc, octets, read, &places)?;
     Ok(set)
 }
 
@@ -173,10 +147,6 @@ fn spelled_set(
     }
     let read = counted_segments(alloc, octets.as_slice(), mdb)?;
     let set = set_of_read(alloc, interval, exponent, octets, read, mdb)?;
-    let own = set.to_bytes()?;
-    if own.as_slice() != octets.as_slice() {
-        return Err(NotASegment::Malformed);
-    }
     Ok(set)
 }
 

@@ -1,7 +1,7 @@
 //! Whether segments stand as those of a set: the rows of each group in full segments but for the last, and groups in the
 //! order of their first rows. Then the set of their rows is spelled as they are, and nothing has to be built again.
 
-ghost use Rattle.std.specs.Prelude.{◌≡◌, ◌+◌, ◌<◌, ◌≤◌, ◌++◌, ◌∷◌, [], List, length, map, nat_eq, if◌then◌else◌, ◌==◌, None, Some, true, IfOk, IfSome, OnOk};
+ghost use Rattle.std.specs.Prelude.{◌≡◌, ◌+◌, ◌<◌, ◌≤◌, ◌↔◌, ◌++◌, ◌∷◌, [], List, length, map, nat_eq, if◌then◌else◌, ◌==◌, None, Some, false, true, IfOk, IfSome, OnOk};
 ghost use Rattle.std.specs.List.{AllByRecursion, position};
 ghost use Rattle.std.specs.List.Sorted.{IsPermutation, IsStrictlySortedBy};
 ghost use Rattle.std.specs.Ordering.{is_lt};
@@ -11,7 +11,8 @@ ghost use Rattle.segment_codec.specs.Segment.{IsSegment, most_rows};
 ghost use Rattle.segment_codec.specs.declared.segment.Segment.{Segment as ASegment};
 ghost use Rattle.param_segments.specs.Groups.{set_of};
 ghost use Rattle.param_segments.specs.RowPlaces.{IsRowPlace, placed_row, places_from};
-ghost use Rattle.param_segments.specs.Runs.{AreRuns, AreRunsSoFar, IsLast, count_in_order, place_group};
+ghost use Rattle.param_segments.specs.Runs.{AreRunsSoFar, IsLast, count_in_order, place_group};
+ghost use Rattle.param_segments.specs.SetSegments.{AreSetSegments};
 
 use crate::group_numbers::GroupNumbers;
 use crate::row_place::RowPlace;
@@ -56,6 +57,8 @@ fn goes_on(runs: &Runs, number: usize, first: Key) -> bool
     ensures group { result ≡ true → number + 1 ≡ runs.now.count }
     ensures full { result ≡ true → runs.now.rows ≡ most_rows }
     ensures rising { result ≡ true → is_lt (key_cmp runs.now.last first) ≡ true }
+    ensures each { number + 1 ≡ runs.now.count → runs.now.rows ≡ most_rows →
+        is_lt (key_cmp runs.now.last first) ≡ true → result ≡ true }
 {
     if number >= runs.count || runs.count - number != 1 {
         return false;
@@ -115,8 +118,10 @@ impl Runs {
     /// Takes a segment behind the others, where it may stand there, and tells whether it may.
     fn take_next(&mut self, alloc: Global, segment: &Segment) -> Result<bool, AllocError>
         requires { IsSegment segment.now }
-        ensures { IfOk result (λ taken. taken ≡ true → (before : List ASegment) → AreRunsSoFar before self.old →
+        ensures taken { IfOk result (λ taken. taken ≡ true → (before : List ASegment) → AreRunsSoFar before self.old →
             AreRunsSoFar (before ++ segment.now ∷ []) self.new) }
+        ensures refused { IfOk result (λ taken. taken ≡ false → (before after : List ASegment) →
+            AreRunsSoFar before self.old → AreSetSegments (before ++ segment.now ∷ after) → ⊥) }
     {
         match self.groups.number(segment.parameters.as_slice()) {
             None => {
@@ -138,7 +143,8 @@ impl Runs {
 /// The groups of segments, where these stand group by group.
 fn runs_of(alloc: Global, segments: &[Segment]) -> Result<Option<Runs>, AllocError>
     requires { AllByRecursion IsSegment segments.now }
-    ensures { IfOk result (λ found. IfSome found (λ runs. AreRunsSoFar segments.now runs)) }
+    ensures found { IfOk result (λ found. IfSome found (λ runs. AreRunsSoFar segments.now runs)) }
+    ensures none { IfOk result (λ found. found ≡ None → AreSetSegments segments.now → ⊥) }
 {
     let mut runs = Runs::none(alloc);
     for segment in segments {
@@ -159,13 +165,14 @@ fn seen_with(seen: usize, number: usize) -> usize
 
 /// Whether so many groups come in the order of their numbers, where rows stand at places.
 fn come_in_order(numbers: &[usize], count: usize, places: &[RowPlace]) -> bool
-    requires { AllByRecursion (λ p. p.segment < length numbers.now) places.now }
-    ensures { result ≡ true → count_in_order 0 (map (place_group numbers.now) places.now) ≡ Some count }
+    requires placed { AllByRecursion (λ p. p.segment < length numbers.now) places.now }
+    requires within { AllByRecursion (λ number. number < count) numbers.now }
+    ensures { result ≡ true ↔ (count_in_order 0 (map (place_group numbers.now) places.now) ≡ Some count) }
 {
     let mut seen = 0;
     for place in places {
         let number = numbers[place.segment as usize];
-        if number >= count || number > seen {
+        if number > seen {
             return false;
         }
         seen = seen_with(seen, number);
@@ -173,8 +180,7 @@ fn come_in_order(numbers: &[usize], count: usize, places: &[RowPlace]) -> bool
     seen == count
 }
 
-/// The segments are those of the set of their rows, which stand at places in the order of their keys. Where they are, it
-/// most often tells so.
+/// Whether segments are those of the set of their rows, which stand at places in the order of their keys.
 pub(crate) fn are_set_segments(
     alloc: Global,
     segments: &[Segment],
@@ -184,7 +190,8 @@ pub(crate) fn are_set_segments(
     requires placed { AllByRecursion (IsRowPlace segments.now) places.now }
     requires whole { IsPermutation (places_from 0 segments.now) places.now }
     requires rising { IsStrictlySortedBy key_cmp (map (λ p. p.key) places.now) }
-    ensures { IfOk result (λ are. are ≡ true → set_of (map (placed_row segments.now) places.now) ≡ segments.now) }
+    ensures same { IfOk result (λ are. are ≡ true → set_of (map (placed_row segments.now) places.now) ≡ segments.now) }
+    ensures each { IfOk result (λ are. AreSetSegments segments.now → are ≡ true) }
 {
     match runs_of(alloc, segments)? {
         None => Ok(false),

@@ -67,8 +67,8 @@ impl SegSet {
         calibrated_cells(alloc, mdb, parameter, &raw)
     }
 
-    /// The cells of a parameter that a range asks: those with `from <= time < to`, the last first where it's descending,
-    /// up to its limit. No value outside the range is unpacked, and none behind the limit is calibrated.
+    /// The cells of a parameter that a range asks: those with `from <= time < to`, the last first where it's
+    /// descending, up to its limit. No value outside the range is unpacked, and none behind the limit is calibrated.
     pub fn cells_in_range(
         &self,
         alloc: Global,
@@ -122,7 +122,8 @@ impl SegSet {
         calibrated_cells(alloc, mdb, parameter, &raw)
     }
 
-    /// The raw numbers of a parameter at the keys of its rows, in the order of these: its cells before they are calibrated.
+    /// The raw numbers of a parameter at the keys of its rows, in the order of these: its cells before they are
+    /// calibrated.
     pub fn raw_cells(&self, alloc: Global, parameter: u16) -> Result<RawCells, AllocError>
         ensures { IfOk result (λ cells. cells ≡ set_raw_cells parameter self.now) }
     {

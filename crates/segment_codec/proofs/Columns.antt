@@ -28,11 +28,11 @@ wide_exact = exact_i128
 -- ---- least and greatest
 
 -- low is among the values, and not above any
-abbrev IsAmong : ℤ → List ℤ → Type 0
+abbrev pub IsAmong : ℤ → List ℤ → Type 0
 IsAmong low [] = ⊥
 IsAmong low (v ∷ vs) = (low ≡ v) ⊎ IsAmong low vs
 
-refl_le : (v : ℤ) → v ≤ℤ v
+pub refl_le : (v : ℤ) → v ≤ℤ v
 refl_le v = omega (arith, ints)
 
 both_above : (low v x : ℤ) → low ≤ℤ v → low ≤ℤ x → low ≤ℤ int_min v x
@@ -56,7 +56,7 @@ among_min low v x vs h k (inl e) = inl (sym (min_is low v x h k (inl e)))
 among_min low v x vs h k (inr (inl e)) = inl (sym (min_is low v x h k (inr e)))
 among_min low v x vs h k (inr (inr more)) = inr more
 
-least_is : (low v : ℤ) (vs : List ℤ) → low ≤ℤ v → AllByRecursion (λ x. low ≤ℤ x) vs → IsAmong low (v ∷ vs) → fold int_min v vs ≡ low
+pub least_is : (low v : ℤ) (vs : List ℤ) → low ≤ℤ v → AllByRecursion (λ x. low ≤ℤ x) vs → IsAmong low (v ∷ vs) → fold int_min v vs ≡ low
 least_is low v [] le all (inl e) = sym e
 least_is low v [] le all (inr never) = absurd never
 least_is low v (x ∷ vs) le all among = least_is low (int_min v x) vs (both_above low v x le all.0) all.1 (among_min low v x vs le all.0 among)
@@ -152,7 +152,7 @@ and_true false b e = absurd cc
 
 -- ---- where all values are equal, none lies above the least
 
-all_same : (v : ℤ) (m : ℕ) → AllByRecursion (λ x. v ≤ℤ x) (replicate m v)
+pub all_same : (v : ℤ) (m : ℕ) → AllByRecursion (λ x. v ≤ℤ x) (replicate m v)
 all_same v zero = tt
 all_same v (suc m) = (refl_le v, all_same v m)
 
@@ -221,19 +221,19 @@ int_lt_true a b e = grind (arith, ints)
 true_int_lt : (a b : ℤ) → a <ℤ b → int_lt a b ≡ true
 true_int_lt a b h = grind (arith, ints)
 
-raised_above : (low : ℤ) (ds : List ℕ) → AllByRecursion (λ x. low ≤ℤ x) (map (λ d. low +ℤ pos d) ds)
+pub raised_above : (low : ℤ) (ds : List ℕ) → AllByRecursion (λ x. low ≤ℤ x) (map (λ d. low +ℤ pos d) ds)
 raised_above low [] = tt
 raised_above low (d ∷ ds) = ((omega (arith, ints)), raised_above low ds)
 
 test_false : (n : ℕ) → 0 < n → eqb n 0 ≡ false
 test_false n h = grind arith
 
-any_among : (low : ℤ) (ds : List ℕ) → list_any (λ d. eqb d 0) ds ≡ true → IsAmong low (map (λ d. low +ℤ pos d) ds)
+pub any_among : (low : ℤ) (ds : List ℕ) → list_any (λ d. eqb d 0) ds ≡ true → IsAmong low (map (λ d. low +ℤ pos d) ds)
 any_among low [] e = absurd cc
 any_among low (zero ∷ ds) e = inl (omega (arith, ints))
 any_among low (suc d ∷ ds) e = let t = test_false (suc d) (omega arith) in let more = rw t at e in inr (any_among low ds more)
 
-fits_between : (low : ℤ) (top d : ℕ) → FitsSigned w128 low → (low +ℤ pos top) <ℤ pos (2 ^ 127) → d ≤ top → FitsSigned w128 (low +ℤ pos d)
+pub fits_between : (low : ℤ) (top d : ℕ) → FitsSigned w128 low → (low +ℤ pos top) <ℤ pos (2 ^ 127) → d ≤ top → FitsSigned w128 (low +ℤ pos d)
 fits_between low top d h lt le = let s = h.sfits in let high = lt.lt in record { sfits = grind (arith, ints) }
 
 below_high : (v : ℤ) → FitsSigned w128 v → v <ℤ pos (2 ^ 127)
@@ -489,7 +489,7 @@ read_varied count octets r1 r2 r3 low w kept h a b one most d =
 
 -- ---- the test of what was kept
 
-high_of : (low : ℤ) (top : ℕ) → FitsSigned w128 low → top ≤ unsigned_abs (pos (2 ^ 127 - 1) -ℤ low) → (low +ℤ pos top) <ℤ pos (2 ^ 127)
+pub high_of : (low : ℤ) (top : ℕ) → FitsSigned w128 low → top ≤ unsigned_abs (pos (2 ^ 127 - 1) -ℤ low) → (low +ℤ pos top) <ℤ pos (2 ^ 127)
 high_of low top h le = let s = h.sfits in grind (arith, ints)
 
 pub not_false : (b : Bool) → not b ≡ false → b ≡ true

@@ -15,3 +15,5 @@ pub mod Ranges
 pub mod Skipped
 pub mod RangeColumns
 pub mod Places
+pub mod Heads
+pub mod Outlines

@@ -9,7 +9,7 @@ use Rattle.segment_codec.specs.OneColumn.{column_at_place, column_of_parts, colu
 use Rattle.segment_codec.specs.RangeColumn.{IsSpanOf, is_key_in_range, keys_before, rows_in_range}
 use Rattle.segment_codec.specs.RawColumn.{raw_column_at}
 use Rattle.segment_codec.specs.declared.one_column.ParameterColumn.{ParameterColumn}
-use Rattle.segment_codec.specs.declared.range_column.KeySpan.{KeySpan}
+use Rattle.segment_codec.specs.declared.range_column.KeysInRange.{KeysInRange}
 
 -- where a column was read at a place, its keys were, and its values behind the columns before it
 pub read_parts : (rows place : ℕ) (octets : List ℕ) (column : ParameterColumn) → column_at_place rows (Some place) octets ≡ Some (Some column) →
@@ -29,7 +29,7 @@ read_parts rows place octets column e =
     )
 
 -- the keys of a span and the values beside them are the rows of the range
-pub span_rows : (low high : ℤ) (column found : ParameterColumn) (span : KeySpan) (count : ℕ) → IsSpanOf low high column.keys span → count ≡ length span.keys → found.keys ≡ span.keys → found.values ≡ take count (drop span.before column.values) →
+pub span_rows : (low high : ℤ) (column found : ParameterColumn) (span : KeysInRange) (count : ℕ) → IsSpanOf low high column.keys span → count ≡ length span.keys → found.keys ≡ span.keys → found.values ≡ take count (drop span.before column.values) →
     found ≡ rows_in_range low high column
 span_rows low high column found span count is long keys values =
     let all = column.keys in

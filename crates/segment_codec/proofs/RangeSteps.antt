@@ -11,7 +11,7 @@ use Rattle.arch_types.specs.declared.key.Key.{Key}
 use Rattle.segment_codec.specs.KeyColumn.{is_gap, key_after, key_after_at, keys_after_at}
 use Rattle.segment_codec.specs.RangeColumn.{AreKeysUpTo, IsSpanOf, is_key_in_range, keys_before}
 use Rattle.segment_codec.specs.Varint.{short_varint_at}
-use Rattle.segment_codec.specs.declared.range_column.KeySpan.{KeySpan}
+use Rattle.segment_codec.specs.declared.range_column.KeysInRange.{KeysInRange}
 
 -- ---- one key more
 
@@ -26,7 +26,7 @@ and_false true = refl
 and_false false = refl
 
 -- a key before the range
-pub span_before : (low high : ℤ) (keys : List Key) (key : Key) (span new : KeySpan) → int_lt key.time low ≡ true → new.before ≡ span.before + 1 → new.keys ≡ span.keys →
+pub span_before : (low high : ℤ) (keys : List Key) (key : Key) (span new : KeysInRange) → int_lt key.time low ≡ true → new.before ≡ span.before + 1 → new.keys ≡ span.keys →
     IsSpanOf low high keys span → IsSpanOf low high (keys ++ key ∷ []) new
 span_before low high keys key span new below more same is =
     let test : Key → Bool = λ k. int_lt k.time low in
@@ -38,7 +38,7 @@ span_before low high keys key span new below more same is =
     }
 
 -- one in it
-pub span_inside : (low high : ℤ) (keys : List Key) (key : Key) (span new : KeySpan) → int_lt key.time low ≡ false → int_lt key.time high ≡ true → new.before ≡ span.before → new.keys ≡ span.keys ++ key ∷ [] →
+pub span_inside : (low high : ℤ) (keys : List Key) (key : Key) (span new : KeysInRange) → int_lt key.time low ≡ false → int_lt key.time high ≡ true → new.before ≡ span.before → new.keys ≡ span.keys ++ key ∷ [] →
     IsSpanOf low high keys span → IsSpanOf low high (keys ++ key ∷ []) new
 span_inside low high keys key span new from below same more is =
     let inside : is_key_in_range low high key ≡ true = ap (λ (b : Bool). not b && int_lt key.time high) from ∙ below in
@@ -48,7 +48,7 @@ span_inside low high keys key span new from below same more is =
     }
 
 -- one behind it
-pub span_behind : (low high : ℤ) (keys : List Key) (key : Key) (span new : KeySpan) → int_lt key.time low ≡ false → int_lt key.time high ≡ false → new.before ≡ span.before → new.keys ≡ span.keys →
+pub span_behind : (low high : ℤ) (keys : List Key) (key : Key) (span new : KeysInRange) → int_lt key.time low ≡ false → int_lt key.time high ≡ false → new.before ≡ span.before → new.keys ≡ span.keys →
     IsSpanOf low high keys span → IsSpanOf low high (keys ++ key ∷ []) new
 span_behind low high keys key span new from above same kept is =
     let outside : is_key_in_range low high key ≡ false = ap (λ (b : Bool). not b && int_lt key.time high) from ∙ above in
@@ -57,7 +57,7 @@ span_behind low high keys key span new from above same kept is =
       inside = kept ∙ is.inside ∙ sym (left_key (is_key_in_range low high) keys key outside);
     }
 
-pub no_keys : (low high : ℤ) (span : KeySpan) → span.before ≡ 0 → span.keys ≡ [] → IsSpanOf low high [] span
+pub no_keys : (low high : ℤ) (span : KeysInRange) → span.before ≡ 0 → span.keys ≡ [] → IsSpanOf low high [] span
 no_keys low high span none same = record { before = none; inside = same }
 
 -- ---- they're no more than all
@@ -72,7 +72,7 @@ count_within low high [] = omega arith
 count_within low high (k ∷ keys) =
     count_cases (int_lt k.time low) (int_lt k.time high) k (filter (λ (x : Key). int_lt x.time low) keys) (filter (is_key_in_range low high) keys) (length keys) (count_within low high keys)
 
-pub span_within : (low high : ℤ) (keys : List Key) (span : KeySpan) → IsSpanOf low high keys span → span.before + length span.keys ≤ length keys
+pub span_within : (low high : ℤ) (keys : List Key) (span : KeysInRange) → IsSpanOf low high keys span → span.before + length span.keys ≤ length keys
 span_within low high keys span is = omega (arith, is.before, ap length is.inside, count_within low high keys)
 
 -- ---- the keys behind one
@@ -117,7 +117,7 @@ none_inside low high (k ∷ keys) all =
     ap (λ (b : Bool). cond b (k ∷ filter (is_key_in_range low high) keys) (filter (is_key_in_range low high) keys)) outside ∙ none_inside low high keys all.1
 
 -- where the other keys are behind the range, those so far are all
-span_whole : (low high : ℤ) (front others : List Key) (span : KeySpan) → IsSpanOf low high front span → AllByRecursion (λ (k : Key). low ≤ℤ k.time) others → AllByRecursion (λ (k : Key). high ≤ℤ k.time) others → IsSpanOf low high (front ++ others) span
+span_whole : (low high : ℤ) (front others : List Key) (span : KeysInRange) → IsSpanOf low high front span → AllByRecursion (λ (k : Key). low ≤ℤ k.time) others → AllByRecursion (λ (k : Key). high ≤ℤ k.time) others → IsSpanOf low high (front ++ others) span
 span_whole low high front others span is above behind =
     let test : Key → Bool = λ k. int_lt k.time low in
     let inside = is_key_in_range low high in
@@ -136,7 +136,7 @@ parted front keys read after e =
     (p.0.0, p.1 ∙ ap (λ (y : List Key × List ℕ). Some (p.0.0, y.1)) same, sym (ap (λ (y : List Key × List ℕ). y.0) same))
 
 -- where the last key is behind the range, the keys in it are found
-pub walk_ends : (low high : ℤ) (left : ℕ) (last : Key) (front keys : List Key) (rest after : List ℕ) (span : KeySpan) → low ≤ℤ last.time → high ≤ℤ last.time → IsSpanOf low high front span →
+pub walk_ends : (low high : ℤ) (left : ℕ) (last : Key) (front keys : List Key) (rest after : List ℕ) (span : KeysInRange) → low ≤ℤ last.time → high ≤ℤ last.time → IsSpanOf low high front span →
     with_front front (keys_after_at left last rest) ≡ Some (keys, after) → IsSpanOf low high keys span
 walk_ends low high left last front keys rest after span from to is e =
     let p = parted front keys (keys_after_at left last rest) after e in
@@ -150,7 +150,7 @@ walk_leaves left last front keys rest after e =
     (last, p.0, p.1)
 
 -- where no key is left, the front is all
-pub walk_done : (low high : ℤ) (last : Key) (front keys : List Key) (rest after : List ℕ) (span : KeySpan) → IsSpanOf low high front span → with_front front (keys_after_at 0 last rest) ≡ Some (keys, after) → IsSpanOf low high keys span
+pub walk_done : (low high : ℤ) (last : Key) (front keys : List Key) (rest after : List ℕ) (span : KeysInRange) → IsSpanOf low high front span → with_front front (keys_after_at 0 last rest) ≡ Some (keys, after) → IsSpanOf low high keys span
 walk_done low high last front keys rest after span is e =
     let p = parted front keys (keys_after_at 0 last rest) after e in
     let made : List Key × List ℕ = ([], rest) in

@@ -19,7 +19,7 @@ use Rattle.segment_codec.proofs.Leaves.{mapped_as}
 
 -- ---- the key column
 
-first_exact : IsExact IsKey first_key first_key_at
+pub first_exact : IsExact IsKey first_key first_key_at
 unfolding first_key_at
 first_exact = mapped_as IsKey first_key key_of_fields (λ k. (k.time, k.seq)) (IsExact-both exact_i64 (λ _ _. exact32)) (λ p fits. (record { time = fits.0; seq = fits.1 }, refl)) (λ k fits. ((fits.time, fits.seq), refl, refl))
 

@@ -6,4 +6,6 @@ pub mod RawColumn
 pub mod Segment
 pub mod OneColumn
 pub mod RangeColumn
+pub mod SegmentHead
+pub mod Outline
 pub mod Laws

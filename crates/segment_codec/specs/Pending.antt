@@ -42,4 +42,5 @@ HasUnpacked number pending octets next rest = number * 2 ^ unread_bits next rest
 
 -- octets end with the bits that are next, and octets behind them
 abbrev pub IsBehind : List ℕ → Pending → List ℕ → Type 0
-IsBehind octets next rest = (high : ℕ) × (high * 2 ^ unread_bits next rest + unread_number next rest ≡ number_from_digits 8 octets)
+IsBehind octets next rest =
+    (high : ℕ) × (high * 2 ^ unread_bits next rest + unread_number next rest ≡ number_from_digits 8 octets)

@@ -4,7 +4,7 @@ use Rattle.arch_types.specs.declared.key.Key.{Key}
 use Rattle.segment_codec.specs.KeyColumn.{keys_after_at}
 use Rattle.segment_codec.specs.OneColumn.{column_in, column_of_parts}
 use Rattle.segment_codec.specs.declared.one_column.ParameterColumn.{ParameterColumn}
-use Rattle.segment_codec.specs.declared.range_column.KeySpan.{KeySpan}
+use Rattle.segment_codec.specs.declared.range_column.KeysInRange.{KeysInRange}
 use Rattle.segment_codec.specs.declared.segment.Segment.{Segment}
 
 -- whether a key's time lies in a half-open range
@@ -28,10 +28,11 @@ column_in_range parameter low high s = option_map (rows_in_range low high) (colu
 -- ---- reading
 
 -- the keys of a range among keys, and how many are before it
-pub record IsSpanOf (low high : ℤ) (keys : List Key) (span : KeySpan) : Type 0 where
+pub record IsSpanOf (low high : ℤ) (keys : List Key) (span : KeysInRange) : Type 0 where
   pub before : span.before ≡ keys_before low keys
   pub inside : span.keys ≡ filter (is_key_in_range low high) keys
 
 -- so many keys, each behind the one before, stand at the front, and behind them these octets
 abbrev pub AreKeysUpTo : ℕ → List ℕ → List ℕ → Type 0
-AreKeysUpTo count octets after = (last : Key) × (keys : List Key) × (keys_after_at count last octets ≡ Some (keys, after))
+AreKeysUpTo count octets after =
+    (last : Key) × (keys : List Key) × (keys_after_at count last octets ≡ Some (keys, after))

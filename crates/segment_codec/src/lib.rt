@@ -4,9 +4,10 @@
 //! for each parameter. `IsSegment` of specs/Segment.antt says which segments the format admits by itself, and
 //! `segment_octets` what each is spelled as: `write_segment` gives just that, `read_segment` accepts these spellings
 //! and nothing else, from any octets and any place in them, and no spelling begins another (`laws`). `read_column`
-//! decodes the keys and one column alone, `read_column_in_range` of these the rows of a range of times, and
-//! `read_parameters` the parameters alone. That times lie in an interval, and values in the width of a database's
-//! parameters, isn't asked here: a set of segments asks it.
+//! decodes the keys and one column alone, `read_column_in_range` of these the rows of a range of times, `read_head` the
+//! parameters and the first key, `read_outline` all but the values, and `read_parameters` the parameters alone. That
+//! times lie in an interval, and values in the width of a database's parameters, isn't asked here: a set of segments
+//! asks it.
 //!
 //! The one idea of the proof: what is read is a composition of exact readers (octet_fields); the code mirrors it. By
 //! hand are the leaves of this crate: the varint (proofs/Varints.antt), numbers of a width without gaps (Numbers and
@@ -20,23 +21,29 @@
 #![tactic(auto)]
 
 mod bits;
+mod column_range;
 mod fault;
 mod key_column;
 pub mod laws;
 mod one_column;
+mod outline;
 mod parameters;
 mod range_column;
 mod raw_column;
 mod reading;
 mod segment;
+mod segment_head;
 mod unpack;
 mod varint;
 mod writing;
 
+pub use column_range::ColumnRange;
 pub use fault::NotASegment;
 pub use one_column::{ParameterColumn, read_column};
+pub use outline::{RangeList, SegmentOutline, read_outline};
 pub use parameters::read_parameters;
 pub use range_column::read_column_in_range;
 pub use reading::read_segment;
 pub use segment::{ColumnList, KeyList, MOST_ROWS, ParameterList, RawColumn, Segment};
+pub use segment_head::{SegmentHead, read_head};
 pub use writing::{put_segment, write_segment};

@@ -1,5 +1,5 @@
-//! Reads what a segment has of a parameter in a range of times. Its keys are walked to the range's end, those behind it are
-//! passed over, and no value of a row outside is unpacked.
+//! Reads what a segment has of a parameter in a range of times. Its keys are walked to the range's end, those behind it
+//! are passed over, and no value of a row outside is unpacked.
 
 ghost use Rattle.std.specs.Prelude.{◌≡◌, ◌+◌, ◌<◌, ◌≤◌, ◌++◌, ◌∷◌, [], List, ℕ, length, option_map, Option, Some, IfOk, OnOk};
 ghost use Rattle.arch_types.specs.declared.key.Key.{Key as AKey};
@@ -23,14 +23,14 @@ use std::alloc::{AllocError, Global};
 
 /// The keys of a segment in a range of times.
 #[derive(Drop)]
-pub(crate) struct KeySpan {
+pub(crate) struct KeysInRange {
     /// How many keys of the segment are before the range.
     pub(crate) before: u16,
     /// Those in it.
     pub(crate) keys: KeyList,
 }
 
-impl KeySpan {
+impl KeysInRange {
     /// Takes the next key of the segment.
     fn take(&mut self, from: i64, to: i64, key: Key) -> Result<(), AllocError>
         requires { self.old.before < 65535 }
@@ -48,15 +48,15 @@ impl KeySpan {
     }
 }
 
-/// The keys of a range among so many that stand at the front; how many behind its end were not read; and the octets where
-/// these stand.
+/// The keys of a range among so many that stand at the front; how many behind its end were not read; and the octets
+/// where these stand.
 fn walked_keys(
     alloc: Global,
     count: u16,
     from: i64,
     to: i64,
     octets: &[u8],
-) -> Result<(KeySpan, u16, &[u8]), DecodeError>
+) -> Result<(KeysInRange, u16, &[u8]), DecodeError>
     requires { 1 ≤ count }
     ensures within { IfOk result (λ x. x.0.before + length x.0.keys ≤ count) }
     ensures span { (keys : List AKey) (after : List ℕ) → keys_at count octets.now ≡ Some (keys, after) →
@@ -65,7 +65,7 @@ fn walked_keys(
         IfOk result (λ x. AreKeysUpTo x.1 x.2.now after) }
 {
     let (first, after_first) = first_key_at(octets)?;
-    let mut span = KeySpan {
+    let mut span = KeysInRange {
         before: 0,
         keys: KeyList::new(alloc),
     };
@@ -96,7 +96,8 @@ fn gaps_end(count: u16, octets: &[u8]) -> Result<&[u8], Short>
     Ok(rest)
 }
 
-/// The rows of a range of times of the column at a place, where so many keys stand at the front, and the columns behind.
+/// The rows of a range of times of the column at a place, where so many keys stand at the front, and the columns
+/// behind.
 fn column_rows(
     alloc: Global,
     rows: u16,
@@ -111,7 +112,7 @@ fn column_rows(
         IfOk result (λ found. found ≡ rows_in_range from to column) }
 {
     let (span, unread, rest) = walked_keys(alloc, rows, from, to, octets)?;
-    let KeySpan { before, keys } = span;
+    let KeysInRange { before, keys } = span;
     let count = keys.len();
     if count == 0 {
         let values = RawColumn::new(alloc);

@@ -64,7 +64,8 @@ pub(crate) fn raw_column_at(
     }
 }
 
-/// The values of so many rows from a row on, where a raw column of so many rows stands at the front. No other is unpacked.
+/// The values of so many rows from a row on, where a raw column of so many rows stands at the front. No other is
+/// unpacked.
 pub(crate) fn values_in_rows(
     alloc: Global,
     rows: u16,

@@ -97,7 +97,7 @@ fn take(rest: &[u8], pending: Pending, width: u32) -> (u64, Pending, &[u8])
 }
 
 /// The next number of up to 128 bits.
-fn take_wide(rest: &[u8], pending: Pending, width: u32) -> (u128, Pending, &[u8])
+pub(crate) fn take_wide(rest: &[u8], pending: Pending, width: u32) -> (u128, Pending, &[u8])
     requires pending { IsPending pending }
     requires width { width ≤ 128 }
     requires enough { width ≤ unread_bits pending rest.now }
@@ -185,8 +185,8 @@ fn behind_bits(octets: &[u8], bits: usize) -> (Pending, &[u8])
     (Pending { bits, count }, after)
 }
 
-/// The values of so many rows from a row on, where the numbers of so many rows stand at the front, of a width each. No other
-/// number is unpacked.
+/// The values of so many rows from a row on, where the numbers of so many rows stand at the front, of a width each. No
+/// other number is unpacked.
 pub(crate) fn unpacked_rows(
     alloc: Global,
     octets: &[u8],

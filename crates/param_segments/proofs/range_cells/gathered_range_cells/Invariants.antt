@@ -5,5 +5,5 @@ use Rattle.param_segments.specs.Groups.{set_of}
 use Rattle.param_segments.specs.Octets.{rows_in_octets}
 use Rattle.param_segments.proofs.range_cells.gathered_range_cells.Given as goal
 
-abbrev pub invariant-loop-start : goal.invariant-loop-start
-invariant-loop-start l = l.cells.items ≡ flat_map (segment_cells_in_range l.parameter l.range.from l.range.to) (take l.start-index (set_of (rows_in_octets l.octets)))
+abbrev pub invariant-loop-number : goal.invariant-loop-number
+invariant-loop-number l = l.cells.items ≡ flat_map (segment_cells_in_range l.parameter l.range.from l.range.to) (take l.number (set_of (rows_in_octets l.octets)))

@@ -1,19 +1,9 @@
-use Rattle.std.proofs.Common.{◌≡◌, ◌∙◌, ◌<◌, ◌^◌, ℕ, List, Bool, true, false, length, refl, ap, sym, subst}
-use Rattle.std.specs.Prelude.{not}
-use Rattle.std.specs.Cmp.Lexicographic.{other_text, same_text}
+use Rattle.std.proofs.Common.{◌∙◌, ◌<◌, ◌^◌, ℕ, List, length, ap, sym, subst}
 use Rattle.std.proofs.lemmas.Result.{err_from_is_err_and}
 use Rattle.param_segments.specs.Groups.{set_of}
-use Rattle.param_segments.specs.Octets.{set_octets}
+use Rattle.param_segments.proofs.Decoded.{counted_end}
 use Rattle.param_segments.proofs.Known.{few_segments, known_segments, spelled_as_counted}
 use Rattle.param_segments.proofs.reading.spelled_set.Goals as goal
-
-unlike : (b : Bool) → not b ≡ true → false ≡ b
-unlike false e = refl
-unlike true e = cc
-
-alike : (b : Bool) → not b ≡ false → true ≡ b
-alike true e = refl
-alike false e = cc
 
 pub returns-in_err-read-clause-each : goal.returns-in_err-read-clause-each
 returns-in_err-read-clause-each c = λ rows is same.
@@ -37,24 +27,16 @@ pub returns-in_err-set-clause-each : goal.returns-in_err-set-clause-each
 returns-in_err-set-clause-each c = λ rows is same.
     let short = subst (λ (o : List ℕ). length o < 2 ^ 32) c.as_slice.ensures (c.fits_u32.ensures c.if-not-fits_u32.false) in
     let segments = c.in_ok-read.ensures.each (set_of rows) (known_segments c.args.mdb.now c.args.exponent c.args.interval.0 rows is) (few_segments rows c.args.octets.now short same) (c.as_slice-2.ensures ∙ same ∙ spelled_as_counted rows) in
+    let ends = c.in_ok-read.ensures.end ∙ counted_end rows c.args.octets.now c.in_ok-read.read.segments.items segments same in
     let p = err_from_is_err_and c.from_residual-in_err-set.result c.from_residual-in_err-set.ensures.1 in
-    rw (p.1, p.2) (c.in_err-set.ensures.each rows is segments)
-
-pub returns-then-ne-clause-each : goal.returns-then-ne-clause-each
-returns-then-ne-clause-each c = λ rows is same. absurd (
-    let short = subst (λ (o : List ℕ). length o < 2 ^ 32) c.as_slice.ensures (c.fits_u32.ensures c.if-not-fits_u32.false) in
-    let segments = c.in_ok-read.ensures.each (set_of rows) (known_segments c.args.mdb.now c.args.exponent c.args.interval.0 rows is) (few_segments rows c.args.octets.now short same) (c.as_slice-2.ensures ∙ same ∙ spelled_as_counted rows) in
-    let made = c.in_ok-set.ensures.each rows is segments in
-    let own : c.as_slice-3.result.now ≡ c.as_slice-4.result.now = c.as_slice-3.ensures ∙ c.in_ok-own.ensures.spelled ∙ ap set_octets made ∙ sym same ∙ sym c.as_slice-4.ensures in
-    other_text c.as_slice-3.result.now c.as_slice-4.result.now (unlike _ (sym c.ne.ensures ∙ c.if-ne.true)) own)
+    rw (p.1, p.2) (c.in_err-set.ensures.each rows is segments ends)
 
 pub returns-clause-spelled : goal.returns-clause-spelled
-returns-clause-spelled c =
-    let own : c.as_slice-3.result.now ≡ c.as_slice-4.result.now = same_text c.as_slice-3.result.now c.as_slice-4.result.now (alike _ (sym c.ne.ensures ∙ c.if-ne.false)) in
-    (c.in_ok-set.ensures.sound, sym c.as_slice-4.ensures ∙ sym own ∙ c.as_slice-3.ensures ∙ c.in_ok-own.ensures.spelled)
+returns-clause-spelled c = (c.in_ok-set.ensures.sound, c.in_ok-set.ensures.spelled)
 
 pub returns-clause-each : goal.returns-clause-each
 returns-clause-each c = λ rows is same.
     let short = subst (λ (o : List ℕ). length o < 2 ^ 32) c.as_slice.ensures (c.fits_u32.ensures c.if-not-fits_u32.false) in
     let segments = c.in_ok-read.ensures.each (set_of rows) (known_segments c.args.mdb.now c.args.exponent c.args.interval.0 rows is) (few_segments rows c.args.octets.now short same) (c.as_slice-2.ensures ∙ same ∙ spelled_as_counted rows) in
-    c.in_ok-set.ensures.each rows is segments
+    let ends = c.in_ok-read.ensures.end ∙ counted_end rows c.args.octets.now c.in_ok-read.read.segments.items segments same in
+    c.in_ok-set.ensures.each rows is segments ends
