@@ -1,2 +1,2 @@
 pub mod AskSheets
-pub mod KeptTexts
+pub mod CollectedTexts

@@ -1,2 +1,2 @@
 pub mod Asks
-pub mod Kept
+pub mod Collected

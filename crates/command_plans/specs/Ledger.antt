@@ -28,8 +28,8 @@ given_more (suc n) count = min (count + suc n) (2 ^ 64 - 1)
 
 -- ---- inputs
 
--- What a call did to inputs that gave so many sources, by whether a call of them failed: each source is closed again, also where all of them were open at
--- once, and the files are as they were.
+-- What a call did to inputs that gave so many sources, by whether a call of them failed: each source is closed again,
+-- also where all of them were open at once, and the files are as they were.
 pub record UsedInputs (old new : InputsState) (sources : ℕ) (failed : Bool) : Type 0 where
   pub files : new.files ≡ old.files
   pub closed : old.open_sources + max 1 sources < 2 ^ 64 → new.open_sources ≡ old.open_sources
@@ -45,8 +45,8 @@ pub record UsedOutput (old new : OutputState) (failed : Bool) : Type 0 where
 
 -- ---- a disk
 
--- What a call did to a disk's counts: that of faults rose where the call answers that the disk failed, and nowhere else; of its writes at least `fewest`
--- failed, and at most `most`.
+-- What a call did to a disk's counts: that of faults rose where the call answers that the disk failed, and nowhere
+-- else; of its writes at least `fewest` failed, and at most `most`.
 pub record UsedDisk {D : Type 0} (device : Device D) (old new : D) (failed : Bool) (fewest most : ℕ) : Type 0 where
   pub faults : RoseIf failed (device.fault_count old) (device.fault_count new)
   pub writes : (n : ℕ) × (fewest ≤ n) × (n ≤ most) × (device.failed_writes new ≡ raised_by n (device.failed_writes old))
@@ -61,7 +61,8 @@ WritesFailedAtMost most device old new failed = UsedDisk device old new failed 0
 
 -- ---- a clock
 
--- What a call did to a clock: its next moment is known where it was, and a clock that stands still goes on standing at the same moment.
+-- What a call did to a clock: its next moment is known where it was, and a clock that stands still goes on standing at
+-- the same moment.
 pub record UsedClock (old new : ClockState) : Type 0 where
   pub known : StaysKnown old.next new.next
   pub stands : old.stands → new.stands × (new.next ≡ old.next)

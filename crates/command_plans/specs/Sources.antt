@@ -20,7 +20,8 @@ opened_if_there name sources next false = Stop sources (Some (Missing name))
 abbrev pub opening_all_plan : Option Files → List (List ℕ) → ℕ → CommandPlan ℕ (Unit {0})
 opening_all_plan files [] sources = Return tt
 opening_all_plan files (name ∷ names) sources =
-    May OfMemory sources (Question (IsThereAs files name) (opened_if_there name sources (opening_all_plan files names (sources + 1))))
+    May OfMemory sources (Question (IsThereAs files name)
+    (opened_if_there name sources (opening_all_plan files names (sources + 1))))
 
 -- A source was given for a name, and nothing was read of it yet: it has what the files have there.
 pub record IsNewSource (inputs : InputsState) (name : List ℕ) (source : SourceState) : Type 0 where
@@ -44,7 +45,8 @@ pub record GaveSources (old new : InputsState) (sources : ℕ) : Type 0 where
   pub reliable : old.never_fails → new.never_fails
 
 -- Named inputs were opened by their plan, whatever was opened before, and their sources are out.
-pub record WereOpened {S : Type 0} (state : S → SourceState) (names : List (List ℕ)) (sources : List S) (old new : InputsState) : Type 0 where
+pub record WereOpened {S : Type 0} (state : S → SourceState) (names : List (List ℕ)) (sources : List S)
+    (old new : InputsState) : Type 0 where
   pub allows : (before : ℕ) → Allows (opening_all_plan old.files names before) (Returned tt)
   pub gave : GaveSources old new (length names)
   pub are_new : AreNewSources state old names sources
@@ -84,7 +86,8 @@ pub record UsedSources {S : Type 0} (state : S → SourceState) (olds news : Lis
 abbrev pub have_failed : {S : Type 0} → (S → SourceState) → List S → Bool
 have_failed state sources = list_any (λ source. nat_lt 0 (state source).faults) sources
 
--- Inputs took sources back: these are closed, the files are as they were, and the count of faults rose where one of the sources had failed.
+-- Inputs took sources back: these are closed, the files are as they were, and the count of faults rose where one of the
+-- sources had failed.
 pub record TookSources {S : Type 0} (state : S → SourceState) (sources : List S) (old new : InputsState) : Type 0 where
   pub files : new.files ≡ old.files
   pub are_closed : new.open_sources ≡ old.open_sources - length sources

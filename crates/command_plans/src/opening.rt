@@ -8,7 +8,8 @@ use outer_traits::inputs::Inputs;
 use refusals::Refusal;
 use std::alloc::Global;
 
-/// The sources of named inputs, opened in the order of the names. Where one isn't opened, those before it are closed again.
+/// The sources of named inputs, opened in the order of the names. Where one isn't opened, those before it are closed
+/// again.
 pub fn open_all<I: Inputs>(
     alloc: Global,
     inputs: &mut I,

@@ -21,11 +21,15 @@ pub record HasFieldsOf (seed place : ℕ) (p : List ℕ) : Type 0 where
   pub time : (rectime : ℤ) → generation_time p rectime ≡ pos (1000 * (1704067200 + 2 * place))
   pub value : number_of_4 p 12 ≡ (seed + 7919 * place) % 2 ^ 32
 
+-- each packet that is made has the fields of its place
 abbrev pub MadePacketsHaveFields : Type 0
 MadePacketsHaveFields = (seed place : ℕ) → place < 2 ^ 24 → HasFieldsOf seed place (made_packet seed place)
 
+-- packets that are made, joined, are a dump of them with no rest
 abbrev pub MadeDumpsAreSplit : Type 0
-MadeDumpsAreSplit = (seed first count : ℕ) → first + count ≤ 2 ^ 24 → IsDump (concat (made_packets seed first count)) (made_packets seed first count) []
+MadeDumpsAreSplit = (seed first count : ℕ) → first + count ≤ 2 ^ 24 →
+    IsDump (concat (made_packets seed first count)) (made_packets seed first count) []
 
+-- the sheets that are made spell a mission database
 abbrev pub MadeSheetsAreSound : Type 0
 MadeSheetsAreSound = (sheets_fault made_sheets ≡ None) × (limit_passed (sheets_database made_sheets) ≡ None)

@@ -23,4 +23,5 @@ shift_of packets = 27 * packets / 50
 -- the dumps of so many links, each of so many packets; the last link begins with the first packet
 abbrev pub made_dumps : ℕ → ℕ → ℕ → List (List ℕ)
 made_dumps seed packets zero = []
-made_dumps seed packets (suc behind) = concat (made_packets seed (shift_of packets * behind) packets) ∷ made_dumps seed packets behind
+made_dumps seed packets (suc behind) =
+    concat (made_packets seed (shift_of packets * behind) packets) ∷ made_dumps seed packets behind

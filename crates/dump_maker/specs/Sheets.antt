@@ -38,5 +38,6 @@ made_containers =
     ∷ six (codes "SCI") (codes "HDR") (codes "") (codes "yes") (codes "level") (codes "96")
     ∷ []
 
+-- the three of them
 abbrev pub made_sheets : RawMdb
 made_sheets = record { parameters = made_parameters; calibrations = made_calibrations; containers = made_containers }

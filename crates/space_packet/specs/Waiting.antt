@@ -36,7 +36,8 @@ pub record IsIncomplete (octets : List ℕ) : Type 0 where
   pub no_packet : BeginsWithNoPacket octets
   pub no_version : why_of octets ≡ rests.Version → ⊥
 
--- a version fault names the place of what waits, which begins with another packet version number; want of memory is free
+-- a version fault names the place of what waits, which begins with another packet version number; want of memory is
+-- free
 abbrev pub IsFaultOf : Waiting → SplitFault → Type 0
 IsFaultOf waiting (Version at) = (at ≡ waiting.at) × (why_of waiting.octets ≡ rests.Version)
 IsFaultOf waiting OutOfMemory = Unit {0}

@@ -92,8 +92,8 @@ impl Splitter {
         Ok(())
     }
 
-    /// The next packet, or `None` where none waits whole. A packet that lies in one piece is a part of it; one that crosses
-    /// pieces is copied. A version fault is the answer from then on, and takes no memory.
+    /// The next packet, or `None` where none waits whole. A packet that lies in one piece is a part of it; one that
+    /// crosses pieces is copied. A version fault is the answer from then on, and takes no memory.
     pub fn next_packet(&mut self) -> Result<Option<Octets>, SplitFault>
         ensures packet { IfOk result (λ next. IfSome next (λ packet. IsTaken self.old packet self.new)) }
         ensures none { IfOk result (λ next. IfNone next (IsIncomplete self.old.octets)) }

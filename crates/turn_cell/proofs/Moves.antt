@@ -14,7 +14,7 @@ use Rattle.turn_cell.specs.declared.view.View.{View}
 use Rattle.turn_cell.specs.declared.view.Stage.{Stage}
 use Rattle.turn_cell.specs.declared.view.Stage.TheVariants.{Idle, Waits, Turn}
 use Rattle.turn_cell.specs.Lists.{first_list, ListKept}
-use Rattle.turn_cell.specs.Turn.{HasTicket, StageFits, tickets_at, HasNoTurn, history_of, fills_of, share_of, tickets_of, Unused, Fits, first_view, spent_view, Settled, both_views, kept_view, given_view, Home, Away, Slot, Kept, Served, Looked, found_view, left_view, seen_more, HasGrown, Told, FrontFound, Wrote, Drawn, Passed, FrontRead}
+use Rattle.turn_cell.specs.Turn.{HasTicket, StageFits, tickets_at, HasNoTurn, history_of, fills_of, share_of, tickets_of, Unused, Fits, first_view, spent_view, Settled, both_views, kept_view, given_view, Home, Away, Slot, Kept, Served, Looked, found_view, left_view, seen_more, HasGrown, FrontTold, FrontFound, Wrote, Drawn, Passed, FrontRead}
 use Rattle.turn_cell.proofs.Fronts.{prefix_self, prefix_shorter}
 use Rattle.turn_cell.proofs.Lists.{total-append, total_alone, sum_set, at_here, at_only, each_set, each_more, list_opens, list_sees, list_same, list_grows, list_more, list_joins, list_closes, both_begin}
 
@@ -439,7 +439,7 @@ module _ {T I F : Type 0} (history_in : T → List I) (fills_in : T → List F) 
   closed_as x id v words slots o y final all idle e is = let k = closed_with x id v words slots o final all idle e in subst (Whole history_in fills_in goes_on x v) (some_is o k.0 y k.1 is) k.2
 
 module _ {T I F : Type 0} (history_in : T → List I) (fills_in : T → List F) where
-  pub front_hit : (slots n k : ℕ) (m m' : Me (Option T) (View I F T)) → FrontFound history_in fills_in (step slots 2 0 0 maybe.none) m n m' → HasGrown history_in fills_in m k → n ≡ k → Told history_in fills_in m m'
+  pub front_hit : (slots n k : ℕ) (m m' : Me (Option T) (View I F T)) → FrontFound history_in fills_in (step slots 2 0 0 maybe.none) m n m' → HasGrown history_in fills_in m k → n ≡ k → FrontTold history_in fills_in m m'
   front_hit slots n k m m' found grown hit z e =
       let same : grown.1 ≡ z = ap (hand_of grown.1) (sym grown.3 ∙ e) in
       let is : n ≡ length (history_in z) = hit ∙ (grown.6 ∙ ap (λ (z : T). length (history_in z)) same) in

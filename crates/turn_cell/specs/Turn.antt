@@ -107,8 +107,8 @@ module _ {T I F : Type 0} (history_in : T → List I) (fills_in : T → List F) 
   abbrev pub Slot : T → List I → List F → ℕ → List (maybe.Option (Option T)) → List (View I F T) → Type 0
   Slot x history fills serving homes views = Home x history fills homes views ⊎ Away history fills serving homes views
 
-  -- The cell was made of x. There are one history and one fill list, which the value has, or whoever has the turn. No ticket
-  -- is out twice, and as many are out as were drawn and not yet served.
+  -- The cell was made of x. There are one history and one fill list, which the value has, or whoever has the turn. No
+  -- ticket is out twice, and as many are out as were drawn and not yet served.
   pub record Kept (x : T) (s : State (Option T) (View I F T)) : Type 0 where
     pub ticket : ℕ
     pub serving : ℕ
@@ -144,14 +144,15 @@ module _ {T I F : Type 0} (history_in : T → List I) (fills_in : T → List F) 
   abbrev pub HasGrown : Me (Option T) (View I F T) → ℕ → Type 0
   HasGrown m n =
       (t : ℕ) × (y : T) × (m.0.stage ≡ Turn t) × (m.1 ≡ (0, Some y) ∷ [])
-      × IsPrefix m.0.history.list.seen (history_in y) × IsPrefix m.0.fills.list.seen (fills_in y) × (n ≡ length (history_in y))
+      × IsPrefix m.0.history.list.seen (history_in y) × IsPrefix m.0.fills.list.seen (fills_in y)
+      × (n ≡ length (history_in y))
 
   -- the lists of the value in hand are those seen from now on
-  abbrev pub Told : Me (Option T) (View I F T) → Me (Option T) (View I F T) → Type 0
-  Told m m' = (y : T) → m.1 ≡ (0, Some y) ∷ [] → m' ≡ (left_view m.0 (history_in y) (fills_in y), m.1)
+  abbrev pub FrontTold : Me (Option T) (View I F T) → Me (Option T) (View I F T) → Type 0
+  FrontTold m m' = (y : T) → m.1 ≡ (0, Some y) ∷ [] → m' ≡ (left_view m.0 (history_in y) (fills_in y), m.1)
 
   abbrev pub Wrote : Step (Option T) → Me (Option T) (View I F T) → ℕ → Me (Option T) (View I F T) → Type 0
-  Wrote st m n m' = Told m m'
+  Wrote st m n m' = FrontTold m m'
 
   -- a history as long as the front read needs no telling, and of a longer one nothing was told
   abbrev pub FrontFound : Step (Option T) → Me (Option T) (View I F T) → ℕ → Me (Option T) (View I F T) → Type 0

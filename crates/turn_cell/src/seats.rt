@@ -2,8 +2,8 @@
 
 ghost use Rattle.std.specs.Prelude.{◌≡◌, ◌<◌, ◌^◌, ◌+◌, [], length};
 ghost use mathlib.Core.List.{IsPrefix};
-ghost use Rattle.turn_cell.specs.declared.view.Stage.TheVariants.{Idle, Waits};
-ghost use Rattle.turn_cell.specs.Turn.{IsCell, IsSeatOf, IsAtRest, Served, HasGrown, Told, both_views, seen_more};
+ghost use Rattle.turn_cell.specs.declared.view.Stage.TheVariants.{Waits};
+ghost use Rattle.turn_cell.specs.Turn.{IsCell, IsSeatOf, IsAtRest, Served, HasGrown, FrontTold, both_views, seen_more};
 
 use crate::growing::Growing;
 use crate::steps::{Draw, FindFront, Look, ReadFront, Settle, Turns, Unite, WriteFront};
@@ -13,13 +13,13 @@ use crossbeam_utils::Backoff;
 use std::snapshot::Snapshot;
 use std::sync::Wait;
 
-/// How often a caller looks whether the turn is free before it draws a ticket all the same. Callers that draw at once would
-/// hand the value, and with it each octet that a turn touches, from processor to processor at every turn.
+/// How often a caller looks whether the turn is free before it draws a ticket all the same. Callers that draw at once
+/// would hand the value, and with it each octet that a turn touches, from processor to processor at every turn.
 const LOOKS: u32 = 256;
 
 /// Draws a ticket, once the turn is free or was looked for often enough. After the last ticket it goes on for ever.
-/// It isn't inlined, nor is `wait`: beside their atomic steps the compiler would keep the zeros that it writes to a place
-/// before a value is moved there.
+/// It isn't inlined, nor is `wait`: beside their atomic steps the compiler would keep the zeros that it writes to a
+/// place before a value is moved there.
 #[inline(never)]
 pub(crate) fn draw<T: Growing, R: Wait>(
     rt: &R,
@@ -87,7 +87,7 @@ pub(crate) fn tell_front<T: Growing>(
     requires own { IsSeatOf shared.now.table_id shared.now.key.value seat.old.table_id seat.old.me }
     requires grown { HasGrown T.history T.fills seat.old.me front }
     ensures same { (seat.new.table_id ≡ seat.old.table_id) × (seat.new.id ≡ seat.old.id) }
-    ensures told { Told T.history T.fills seat.old.me seat.new.me }
+    ensures told { FrontTold T.history T.fills seat.old.me seat.new.me }
 {
     if shared.load::<FindFront>(seat, 2) == front {
         return;

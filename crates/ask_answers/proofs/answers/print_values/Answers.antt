@@ -2,9 +2,11 @@ use Rattle.std.proofs.Common.{◌++◌, List, ℕ, refl, subst}
 use Rattle.std.proofs.lemmas.Result.{err_from_is_err_and}
 use Rattle.asks.specs.declared.ask.Ask.TheVariants.{Values}
 use Rattle.archive_store.specs.StoreView.{filled_of}
+use Rattle.archive_store.proofs.UnreadRows.{read_same, refusal_same}
 use Rattle.line_buffer.specs.Printed.{IsCutOff, IsPrinted}
+use Rattle.refusals.specs.Refusal.{refusal_of_rows}
 use Rattle.line_buffer.proofs.LineBuffers.{buffered_front, buffered_none}
-use Rattle.retrieval.proofs.PrintFaults.{unprinted_is_memory}
+use Rattle.retrieval.proofs.PrintFaults.{unread_is_unprinted}
 use Rattle.ask_answers.specs.Asks.{archive_ask_text}
 use Rattle.ask_answers.proofs.AskSheets.{found_text}
 use Rattle.ask_answers.proofs.answers.print_values.Goals as goal
@@ -14,8 +16,7 @@ pub returns-in-Err-clause-printed : goal.returns-in-Err-clause-printed
 returns-in-Err-clause-printed g c =
     let first = (g.K.Sink.state c.args.sink.now).written in
     let all = c.args.line_buffer.now ++ archive_ask_text (filled_of c.args.store.now) c.args.k (Values c.args.found.now.request) in
-    let e = c.in-Err.ensures in
-    rw (unprinted_is_memory g.D.Disk.device c.args.store.now c.answer_request.new.store c.in-Err.fault c.print_fault_of.result e.refused e.same c.print_fault_of.ensures)
+    rw (unread_is_unprinted g.D.Disk.device c.args.store.now c.answer_request.new.store c.in-Err.fault c.print_fault_of.result c.in-Err.ensures.refused c.print_fault_of.ensures)
     (record { some = buffered_front first first all all (buffered_none first all); no_fault = refl })
 
 pub returns-in_err-print_found-in-Ok-clause-printed : goal.returns-in_err-print_found-in-Ok-clause-printed
@@ -32,3 +33,14 @@ returns-in_ok-print_found-in-Ok-clause-printed g c =
     let after = g.K.Sink.state c.print_found.new.sink in
     let text = found_text (filled_of c.args.store.now) c.args.k c.args.found.now c.in-Ok.answer c.requires.found c.in-Ok.ensures.filled in
     subst (λ (t : List ℕ). IsPrinted before after (c.args.line_buffer.now ++ t) c.print_found.new.line_buffer) text c.in_ok-print_found-in-Ok.ensures
+
+-- ---- the store is as it was
+
+pub returns-in-Err-clause-same : goal.returns-in-Err-clause-same
+returns-in-Err-clause-same g c = refusal_same g.D.Disk.device c.args.store.now c.answer_request.new.store (refusal_of_rows c.in-Err.fault) c.in-Err.ensures.same
+
+pub returns-in_err-print_found-in-Ok-clause-same : goal.returns-in_err-print_found-in-Ok-clause-same
+returns-in_err-print_found-in-Ok-clause-same g c = read_same g.D.Disk.device c.args.store.now c.answer_request.new.store c.in-Ok.ensures.same
+
+pub returns-in_ok-print_found-in-Ok-clause-same : goal.returns-in_ok-print_found-in-Ok-clause-same
+returns-in_ok-print_found-in-Ok-clause-same g c = read_same g.D.Disk.device c.args.store.now c.answer_request.new.store c.in-Ok.ensures.same

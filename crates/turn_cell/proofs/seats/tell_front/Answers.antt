@@ -1,5 +1,5 @@
 use Rattle.std.proofs.Common.{rules, subst}
-use Rattle.turn_cell.specs.Turn.{Told}
+use Rattle.turn_cell.specs.Turn.{FrontTold}
 use Rattle.turn_cell.proofs.Moves.{finds, front_hit, front_miss, writes}
 use Rattle.turn_cell.proofs.seats.tell_front.Goals as goal
 
@@ -26,4 +26,4 @@ store-requires g c =
 pub returns-clause-told : goal.returns-clause-told
 returns-clause-told g c =
     let still = front_miss g.T.Growing.history g.T.Growing.fills c.args.shared.now.table_id.slots _ c.args.front _ _ c.load.ensures.2 c.requires.grown c.if-load-front.false in
-    subst (λ m. Told g.T.Growing.history g.T.Growing.fills m c.store.new.seat.me) still c.store.ensures.2
+    subst (λ m. FrontTold g.T.Growing.history g.T.Growing.fills m c.store.new.seat.me) still c.store.ensures.2

@@ -1,4 +1,4 @@
--- Answers that are kept until all jobs have ended: over which histories they were given, and their text.
+-- Answers that are collected until all jobs have ended: over which histories they were given, and their text.
 use Rattle.std.specs.Prelude.{ℕ, suc, List, [], ◌∷◌, ◌++◌, unwrap_or}
 use Rattle.asks.specs.declared.ask.Ask.{Ask}
 use Rattle.asks.specs.declared.ask.Ask.TheVariants.{Values, Replay}
@@ -8,7 +8,7 @@ use Rattle.history_items.specs.Databases.{database_in, names_in}
 use Rattle.archive_store.specs.declared.head.Head.{Head}
 use Rattle.archive_store.specs.Entries.{Archive}
 use Rattle.live_asks.specs.declared.answered.AskAnswer.{AskAnswer}
-use Rattle.live_asks.specs.declared.answered.AskAnswer.TheVariants as kept
+use Rattle.live_asks.specs.declared.answered.AskAnswer.TheVariants as collected
 use Rattle.live_asks.specs.LiveAsks.{IsAnsweredInTurn}
 use Rattle.retrieval.specs.declared.found_asks.FoundAsk.{FoundAsk}
 use Rattle.retrieval.specs.AnswerText.{answer_lines}
@@ -17,18 +17,19 @@ use Rattle.retrieval.specs.ReplayText.{replay_lines}
 -- ---- over which histories
 
 -- each ask was answered over a history that goes on from the first one and with which the last one begins
-abbrev pub EachAnswered : (Type 0 → Type 0) → Head → List Item → List Item → List FoundAsk → List AskAnswer → Type 0
-EachAnswered Where head first last [] [] = Unit {0}
-EachAnswered Where head first last (ask ∷ asks) (answer ∷ answers) =
-    IsAnsweredInTurn Where head first last ask answer × EachAnswered Where head first last asks answers
-EachAnswered Where head first last asks answers = ⊥
+abbrev pub AreAnsweredInTurns : (Type 0 → Type 0) → Head → List Item → List Item → List FoundAsk → List AskAnswer
+    → Type 0
+AreAnsweredInTurns Where head first last [] [] = Unit {0}
+AreAnsweredInTurns Where head first last (ask ∷ asks) (answer ∷ answers) =
+    IsAnsweredInTurn Where head first last ask answer × AreAnsweredInTurns Where head first last asks answers
+AreAnsweredInTurns Where head first last asks answers = ⊥
 
 -- ---- their text
 
 -- an answer is one to such an ask: values to one for values, rows to one for a replay
 abbrev pub IsAnswerTo : Ask → AskAnswer → Type 0
-IsAnswerTo (Values request) (kept.Values answer) = Unit {0}
-IsAnswerTo (Replay request) (kept.Replay replayed) = Unit {0}
+IsAnswerTo (Values request) (collected.Values answer) = Unit {0}
+IsAnswerTo (Replay request) (collected.Replay replayed) = Unit {0}
 IsAnswerTo ask other = ⊥
 
 -- each ask has its answer
@@ -39,16 +40,16 @@ AreAnswersTo asks answers = ⊥
 
 -- the text of the answer to the ask with a number, by the parameters and the packet names of an archive: its front, its
 -- cells or rows, and how many there are
-abbrev pub kept_answer_text : Archive → ℕ → Ask → AskAnswer → List ℕ
-kept_answer_text archive k (Values request) (kept.Values answer) =
+abbrev pub collected_answer_text : Archive → ℕ → Ask → AskAnswer → List ℕ
+collected_answer_text archive k (Values request) (collected.Values answer) =
     let db = database_in archive.head.mdb archive.history in
     answer_lines k answer.front db (unwrap_or (parameter_number db request.parameter) 0) answer.cells
-kept_answer_text archive k (Replay request) (kept.Replay replayed) =
+collected_answer_text archive k (Replay request) (collected.Replay replayed) =
     replay_lines k replayed.front (names_in archive.head.mdb archive.history) request.table replayed.rows
-kept_answer_text archive k ask other = []
+collected_answer_text archive k ask other = []
 
 -- the texts of the answers to asks, numbered from k on
-abbrev pub kept_answers_text : Archive → ℕ → List Ask → List AskAnswer → List ℕ
-kept_answers_text archive k (ask ∷ asks) (answer ∷ answers) =
-    kept_answer_text archive k ask answer ++ kept_answers_text archive (suc k) asks answers
-kept_answers_text archive k asks answers = []
+abbrev pub collected_answers_text : Archive → ℕ → List Ask → List AskAnswer → List ℕ
+collected_answers_text archive k (ask ∷ asks) (answer ∷ answers) =
+    collected_answer_text archive k ask answer ++ collected_answers_text archive (suc k) asks answers
+collected_answers_text archive k asks answers = []

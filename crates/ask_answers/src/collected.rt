@@ -5,7 +5,7 @@ ghost use Rattle.archive_store.specs.StoreView.{archive_of};
 ghost use Rattle.retrieval.specs.FoundAsks.{AreFound, IsAskFound, ask_found, asks_found};
 ghost use Rattle.line_buffer.specs.LineRoom.{HasLineRoom};
 ghost use Rattle.line_buffer.specs.Printed.{PrintsText};
-ghost use Rattle.ask_answers.specs.Kept.{AreAnswersTo, IsAnswerTo, kept_answer_text, kept_answers_text};
+ghost use Rattle.ask_answers.specs.Collected.{AreAnswersTo, IsAnswerTo, collected_answer_text, collected_answers_text};
 
 use arch_disk::Disk;
 use archive_store::Store;
@@ -18,8 +18,9 @@ use retrieval::found_asks::FoundAsk;
 use retrieval::replay::print_replayed;
 use std::alloc::Global;
 
-/// Prints answers in the order of their asks, numbered from 1, of which the last may still be buffered. Where there's none it always succeeds.
-pub fn print_kept_answers<D: Disk, K: Sink>(
+/// Prints answers in the order of their asks, numbered from 1, of which the last may still be buffered. Where there's
+/// none it always succeeds.
+pub fn print_collected_answers<D: Disk, K: Sink>(
     alloc: Global,
     asks: &[FoundAsk],
     answers: &[AskAnswer],
@@ -31,11 +32,11 @@ pub fn print_kept_answers<D: Disk, K: Sink>(
     requires answered { AreAnswersTo (asks_found asks.now) answers.now }
     requires empty { line_buffer.old ≡ [] }
     ensures printed { PrintsText result (K.state sink.old) (K.state sink.new)
-        (kept_answers_text (archive_of store.now) 1 (asks_found asks.now) answers.now) line_buffer.new }
+        (collected_answers_text (archive_of store.now) 1 (asks_found asks.now) answers.now) line_buffer.new }
     ensures asked { OnErr result (0 < length (asks_found asks.now)) }
 {
     for (i, ask) in asks.iter().enumerate() {
-        print_kept(
+        print_collected_answer(
             alloc,
             i as u64 + 1,
             ask,
@@ -49,7 +50,7 @@ pub fn print_kept_answers<D: Disk, K: Sink>(
 }
 
 /// Prints the answer to the ask with number `k`, counted from 1. The answer's end may still be buffered.
-fn print_kept<D: Disk, K: Sink>(
+fn print_collected_answer<D: Disk, K: Sink>(
     alloc: Global,
     k: u64,
     ask: &FoundAsk,
@@ -62,7 +63,7 @@ fn print_kept<D: Disk, K: Sink>(
     requires answered { IsAnswerTo (ask_found ask.now) answer.now }
     requires room { HasLineRoom line_buffer.old }
     ensures { PrintsText result (K.state sink.old) (K.state sink.new)
-        (line_buffer.old ++ kept_answer_text (archive_of store.now) k (ask_found ask.now) answer.now)
+        (line_buffer.old ++ collected_answer_text (archive_of store.now) k (ask_found ask.now) answer.now)
         line_buffer.new }
 {
     match (ask, answer) {
