@@ -1,5 +1,5 @@
--- Why rows aren't read, where all stand in memory.
-use Rattle.std.proofs.Common.{◌≡◌, List, [], ◌∷◌, ◌++◌, length, Result, Ok, Err, IfErr, refl, sym, ap, ◌∙◌, subst, arith, length-append}
+-- Rows that aren't read, and what reading them leaves, where all stand in memory.
+use Rattle.std.proofs.Common.{◌≡◌, inl, inr, List, Result, Ok, Err, IfErr, refl, sym, ap, ◌∙◌, subst, arith}
 use Rattle.std.specs.Prelude.{IsErrAnd}
 use Rattle.arch_disk.specs.Disk.{Device}
 use Rattle.arch_types.specs.declared.row_fault.RowFault.{RowFault}
@@ -7,26 +7,23 @@ use Rattle.arch_types.specs.declared.row_fault.RowFault.TheVariants.{DiskFault, 
 use Rattle.refusals.specs.declared.refusal.Refusal.{Refusal}
 use Rattle.refusals.specs.declared.refusal.Refusal.TheVariants as refused
 use Rattle.refusals.specs.Refusal.{refusal_of_rows}
-use Rattle.history_items.specs.declared.fills.Fill.{Fill}
 use Rattle.history_items.specs.declared.items.Item.{Item}
 use Rattle.replay_merge.specs.RowSource.{IsRowFault}
-use Rattle.archive_store.specs.UnreadRows.{IsReadFault, IsReadRefusal}
+use Rattle.archive_store.specs.UnreadRows.{IsLeftByAnswer, IsLeftByRead, IsLeftByRefusal, IsReadFault, IsReadRefusal, ReadsRows}
 use Rattle.archive_store.specs.Replays.{memory_state}
 use Rattle.archive_store.specs.StoreView.{StoreView}
 
--- no list is itself with one item more
-longer : (fills : List Fill) (fill : Fill) → fills ≡ fills ++ fill ∷ [] → ⊥
-longer fills fill is = let more = ap (λ (l : List Fill). length l) is in omega (arith, more, length-append fills (fill ∷ []))
-
 module _ {D : Type 0} (device : Device D) (old new : StoreView D) where
-  -- a call that changed nothing found memory wanting
-  pub unread_is_memory : (fault : RowFault) → IsReadFault device old new fault → new ≡ old → fault ≡ OutOfMemory
-  unread_is_memory DiskFault is same = absurd (longer old.fills _ (sym (ap (λ (s : StoreView D). s.fills) same) ∙ is.fills))
-  unread_is_memory (Damaged file at) is same = absurd cc
-  unread_is_memory OutOfMemory is same = refl
+  -- ---- why
 
-  pub refusal_is_memory : (refusal : Refusal) → IsReadRefusal device old new refusal → new ≡ old → refusal ≡ refused.OutOfMemory
-  refusal_is_memory refusal (fault, is, of) same = of ∙ ap refusal_of_rows (unread_is_memory fault is same)
+  -- memory is wanting, and nothing else
+  pub unread_is_memory : (fault : RowFault) → IsReadFault device old new fault → fault ≡ OutOfMemory
+  unread_is_memory DiskFault is = absurd is.0
+  unread_is_memory (Damaged file at) is = absurd is.0
+  unread_is_memory OutOfMemory is = refl
+
+  pub refusal_is_memory : (refusal : Refusal) → IsReadRefusal device old new refusal → refusal ≡ refused.OutOfMemory
+  refusal_is_memory refusal (fault, is, of) = of ∙ ap refusal_of_rows (unread_is_memory fault is)
 
   -- memory that is wanting is why
   pub memory_unread : {X : Type 0} (r : Result X RowFault) → IsErrAnd r (λ e. e ≡ OutOfMemory) → IfErr r (IsReadFault device old new)
@@ -39,3 +36,35 @@ module _ {D : Type 0} (device : Device D) (old new : StoreView D) where
   rows_unread (Err DiskFault) before after is = absurd (omega (arith, is))
   rows_unread (Err (Damaged file at)) before after is = absurd cc
   rows_unread (Err OutOfMemory) before after is = tt
+
+  -- ---- what is left
+
+  -- all is as it was
+  pub read_same : ReadsRows device old new → new ≡ old
+  read_same (inl same) = same
+  read_same (inr pages) = absurd pages.0.paged
+
+  pub refusal_same : (refusal : Refusal) → IsLeftByRefusal device old new refusal → new ≡ old
+  refusal_same refused.DiskFault left = absurd left.paged
+  refusal_same _ left = read_same left
+
+  pub answer_same : {X : Type 0} (answer : Result X Refusal) → IsLeftByAnswer device old new answer → new ≡ old
+  answer_same (Ok x) left = read_same left
+  answer_same (Err refusal) left = refusal_same refusal left
+
+  pub unread_same : {X : Type 0} (answer : Result X RowFault) → IsLeftByRead device old new answer → new ≡ old
+  unread_same (Ok x) left = read_same left
+  unread_same (Err fault) left = refusal_same (refusal_of_rows fault) left
+
+  -- so a call leaves it that changed nothing and met no failed read
+  pub left_by : (refusal : Refusal) → (refusal ≡ refused.DiskFault → ⊥) → new ≡ old → IsLeftByRefusal device old new refusal
+  left_by refused.DiskFault other same = absurd (other refl)
+  left_by _ other same = inl same
+
+  pub left_by_memory : {X : Type 0} (answer : Result X Refusal) → IsErrAnd answer (λ e. e ≡ refused.OutOfMemory) → new ≡ old → IsLeftByAnswer device old new answer
+  left_by_memory (Ok x) is same = inl same
+  left_by_memory (Err refusal) is same = subst (IsLeftByRefusal device old new) (sym is) (inl same)
+
+  pub left_by_read : {X : Type 0} (answer : Result X RowFault) → IfErr answer (IsReadFault device old new) → new ≡ old → IsLeftByRead device old new answer
+  left_by_read (Ok x) is same = inl same
+  left_by_read (Err fault) is same = subst (λ (f : RowFault). IsLeftByRefusal device old new (refusal_of_rows f)) (sym (unread_is_memory fault is)) (inl same)

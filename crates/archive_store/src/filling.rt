@@ -1,6 +1,6 @@
 //! Late intervals and their fills.
 
-ghost use Rattle.std.specs.Prelude.{◌≡◌, ◌↔◌, ◌<◌, ◌≤◌, length, IfOk, IfErr, IfSome, OnOk, OnErr, IsTrue};
+ghost use Rattle.std.specs.Prelude.{◌≡◌, ◌↔◌, ◌<◌, ◌≤◌, length, IfOk, IfErr, IfSome, OnOk, IsTrue};
 ghost use Rattle.std.specs.Arc.{arc_value};
 ghost use Rattle.history_items.specs.Late.{IsLate};
 ghost use Rattle.interval_fills.specs.Intervals.{rows_of_interval};
@@ -78,7 +78,7 @@ fn prepare_task(
 }
 
 impl<D: Disk> Store<D> {
-    ghost use Rattle.archive_store.specs.UnreadRows.{IsReadRefusal};
+    ghost use Rattle.archive_store.specs.UnreadRows.{IsLeftByRefusal, IsReadRefusal};
     ghost use Rattle.archive_store.specs.StoreView.{OnlyAppends};
     ghost use Rattle.archive_store.specs.Tasks.{IsFillBegun};
 
@@ -98,9 +98,9 @@ impl<D: Disk> Store<D> {
         ensures in_order { IfOk result (λ begun. IfSome begun (λ task.
             IsTaskRows task.exponent task.interval task.rows)) }
 
-        // Refused, where its rows aren't read, all is as it was.
+        // Refused, where its rows aren't read, all but a disk that was read, and its fault, is as it was.
         ensures refused { IfErr result (IsReadRefusal D.device self.old self.new) }
-        ensures same { OnErr result (self.new ≡ self.old) }
+        ensures same { IfErr result (IsLeftByRefusal D.device self.old self.new) }
         ensures grows { OnlyAppends self.old self.new }
     {
         let Some(interval) = self.tracker.next() else {

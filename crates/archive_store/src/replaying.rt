@@ -94,7 +94,7 @@ fn cursor_at_front(
 }
 
 impl<D: Disk> Store<D> {
-    ghost use Rattle.archive_store.specs.UnreadRows.{IsReadFault};
+    ghost use Rattle.archive_store.specs.UnreadRows.{IsLeftByRead, IsReadFault};
     ghost use Rattle.archive_store.specs.Replays.{ArePartitions, IsNamedPartition, IsReplayOpened};
     ghost use Rattle.replay_merge.specs.Cursor.{AsksTheSame, steps_at_most, EndsExactly, IsRowAsked};
 
@@ -132,7 +132,7 @@ impl<D: Disk> Store<D> {
         ensures asked { AsksTheSame cursor.old cursor.new }
         ensures refused { IfErr result (IsReadFault D.device self.old self.new) }
         ensures unmoved { OnErr result (cursor.new ≡ cursor.old) }
-        ensures same { self.new ≡ self.old }
+        ensures same { IsLeftByRead D.device self.old self.new result }
     {
         let mut source = self.source();
         cursor.next(alloc, &mut source, limit)

@@ -59,7 +59,7 @@ fn parts_of<D: Disk>(
 
 impl<D: Disk> Store<D> {
     ghost use Rattle.archive_store.specs.Plans.{IsPlanOver, late_rows_of_range};
-    ghost use Rattle.archive_store.specs.UnreadRows.{IsReadFault};
+    ghost use Rattle.archive_store.specs.UnreadRows.{IsLeftByRead, IsReadFault};
 
     /// The intervals that a retrieval reads: those that have rows of table `tm` and meet the request's range, in the
     /// order of their numbers. The one error is want of memory.
@@ -139,7 +139,7 @@ impl<D: Disk> Store<D> {
         ensures steps { IfOk result (λ plan. length (rows_of_parts plan.parts) ≤ length (late_rows_of_range
             self.old.exponent self.old.history self.old.fills found.now.request.from found.now.request.to)) }
         ensures refused { IfErr result (IsReadFault D.device self.old self.new) }
-        ensures same { self.new ≡ self.old }
+        ensures same { IsLeftByRead D.device self.old self.new result }
     {
         let mdb = Arc::try_clone(&found.mdb)?;
         Ok(self.planned(alloc, &found.request, mdb)?)

@@ -25,7 +25,7 @@ use Rattle.archive_verify.specs.declared.differences.CellDifference.{CellDiffere
 use Rattle.archive_verify.specs.declared.compared_sets.SetDifference.{SetDifference}
 use Rattle.archive_verify.specs.Differences.{IsFirstDifference}
 use Rattle.archive_verify.specs.ComparedSets.{IsFirstSetDifference}
-use Rattle.archive_verify.specs.Verified.{HoldBelow, HoldCurrentFills, HoldsInterval, HoldsWhereCurrent, IsCurrentFill, IsFirstMismatch, IsIntervalMismatch, IsMismatchOf, TellsMismatch, database_of_archive, replayed_cells}
+use Rattle.archive_verify.specs.Verified.{HoldBelow, HoldCurrentFills, HoldsInterval, HoldsWhereCurrent, IsCurrentFill, IsFirstMismatch, IsIntervalMismatch, IsMismatchOf, ReportsMismatch, database_of_archive, replayed_cells}
 use Rattle.archive_verify.proofs.FirstDifferences.{differ_not_same, one_difference}
 
 some_is : {A : Type 0} (x y : A) → ◌≡◌ {A = Option A} (Some x) (Some y) → x ≡ y
@@ -176,7 +176,7 @@ first_of_all store is interval d filled here below = record {
 
 -- the refusal that names it is one of the archive
 pub named_refusal : {D : Type 0} (store : StoreView D) (is : List Interval) (interval : Interval) (d : SetDifference) (refusal : Refusal) → ((j : Interval) → IsSome (fillings_in store.filled j) → list_any (is_same j) is ≡ true)
-    → IsIntervalMismatch (filled_of store) interval d → HoldBelow (filled_of store) is interval → IsMismatchOf (database_of_archive (filled_of store)) interval d refusal → TellsMismatch (filled_of store) refusal
+    → IsIntervalMismatch (filled_of store) interval d → HoldBelow (filled_of store) is interval → IsMismatchOf (database_of_archive (filled_of store)) interval d refusal → ReportsMismatch (filled_of store) refusal
 named_refusal store is interval d (Mismatch i name key stored replayed) filled here below of =
     let first = first_of_all store is interval d filled here below in record {
       parameter = d.parameter;

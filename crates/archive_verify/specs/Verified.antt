@@ -91,15 +91,15 @@ pub record IsNamedMismatch (filled : FilledArchive) (interval : Interval) (name 
   pub first : IsFirstMismatch filled interval (record { parameter = parameter; cells = d })
   pub named : slice_get (map (λ p. p.name) (database_of_archive filled).parameters) parameter ≡ Some name
 
--- the refusal that tells of the first mismatch
-abbrev pub TellsMismatch : FilledArchive → Refusal → Type 0
-TellsMismatch filled (Mismatch interval name key stored replayed) =
+-- a refusal reports the first mismatch
+abbrev pub ReportsMismatch : FilledArchive → Refusal → Type 0
+ReportsMismatch filled (Mismatch interval name key stored replayed) =
     IsNamedMismatch filled interval name (record { key = key; stored = stored; replayed = replayed })
-TellsMismatch filled _ = ⊥
+ReportsMismatch filled _ = ⊥
 
 -- why an archive is not found sound: its first mismatch, or that its rows aren't read
 abbrev pub IsVerifyRefusal : {D : Type 0} → Device D → StoreView D → StoreView D → Refusal → Type 0
-IsVerifyRefusal device old new refusal = TellsMismatch (filled_of old) refusal ⊎ IsReadRefusal device old new refusal
+IsVerifyRefusal device old new refusal = ReportsMismatch (filled_of old) refusal ⊎ IsReadRefusal device old new refusal
 
 -- ---- how much there is
 

@@ -5,6 +5,7 @@ ghost use Rattle.std.specs.List.{AllByRecursion};
 ghost use Rattle.history_items.specs.Late.{is_late_in, last_in};
 ghost use Rattle.interval_walks.specs.Turns.{IntervalsRise};
 ghost use Rattle.archive_store.specs.StoreView.{filled_of};
+ghost use Rattle.archive_store.specs.UnreadRows.{IsLeftByAnswer};
 ghost use Rattle.archive_verify.specs.Verified.{HoldBelow, HoldCurrentFills, HoldsWhereCurrent, IsCounted, IsIntervalMismatch, IsMismatchOf, IsVerifyRefusal};
 
 use crate::compared_sets::{SetDifference, set_difference};
@@ -132,8 +133,8 @@ pub fn verify<D: Disk>(alloc: Global, store: &mut Store<D>) -> Result<Sound, Ref
     // Refused: the first cell that is stored otherwise than rows give it, or rows that aren't read.
     ensures refused { IfErr result (IsVerifyRefusal D.device store.old store.new) }
 
-    // Whatever it answers, it has changed nothing.
-    ensures same { store.new ≡ store.old }
+    // Whatever it answers, all but a disk that was read, and the fault of a failed read, is as it was.
+    ensures same { IsLeftByAnswer D.device store.old store.new result }
 {
     let rows = store.row_count();
     let intervals = store.intervals(alloc)?;

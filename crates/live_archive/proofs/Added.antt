@@ -30,6 +30,7 @@ use Rattle.archive_store.specs.StoreView.{StoreView, AddsFault}
 use Rattle.archive_store.specs.Calls.{IsIngestRefusal}
 use Rattle.archive_store.specs.Installs.{IsAbandoned, IsInstallRefusal, IsStoreInstalled}
 use Rattle.archive_store.specs.Tasks.{IsFillBegun}
+use Rattle.archive_store.proofs.UnreadRows.{refusal_same}
 use Rattle.live_archive.specs.Added.{Adds, AddsTo, AbandonsAdd, AreFaults, AsksAddNothing, BeginsAdd, IngestNotes, IngestsAdd, InstallNotes, InstallsAdd, begin_notes, flight_begun, flight_ended, items_put}
 use Rattle.live_archive.specs.Answers.{SaysBegun, SaysIngested, SaysInstalled}
 use Rattle.live_archive.specs.Turns.{Turned}
@@ -106,7 +107,7 @@ module _ {D T : Type 0} (device : Device D) (first before after : StoreView D) (
 
   began : Turned device first before after old new → (answer : Result (Option FillTask) Refusal) → SaysBegun device answer before after → AddsTo before old new [] (begin_notes answer)
   began t (Ok o) i = begun t o i
-  began t (Err e) i = nothing t i.1
+  began t (Err e) i = nothing t (refusal_same device before after e i.1)
 
   abbrev Filled : BuiltFill → Result Installed Refusal → Type 0
   Filled done answer = (noted : List Fill) × InstallNotes before.fills done answer noted × AddsTo before old new [] noted

@@ -37,7 +37,8 @@ use Rattle.store_fills.specs.LastFills.{fillings_in, fill_over}
 use Rattle.store_fills.specs.Sound.{Filling, Fillings}
 use Rattle.store_fills.proofs.RightFills.{right_fill_stays}
 use Rattle.archive_store.specs.declared.head.Head.{Head}
-use Rattle.archive_store.specs.UnreadRows.{IsReadRefusal}
+use Rattle.archive_store.specs.UnreadRows.{IsLeftByRefusal, IsReadRefusal}
+use Rattle.archive_store.proofs.UnreadRows.{refusal_same}
 use Rattle.archive_store.specs.StoreView.{StoreView, OnlyAppends, AddsFault, filled_of}
 use Rattle.archive_store.specs.Stands.{StandsFilled}
 use Rattle.archive_store.specs.Calls.{AreIngested, CrashLeavesEither, IsIngestRefusal, archive_with}
@@ -346,6 +347,6 @@ module _ {D : Type 0} (device : Device D) where
   goes_install a b done (Ok o) g right crash i = goes_installed a b done o g right crash i
   goes_install a b done (Err e) g right crash i = goes_install_refused a b done e g crash i
 
-  pub goes_begin : (a b : StoreView D) (r : Result (Option FillTask) Refusal) → MatchResult r (IsFillBegun a b) (λ e. IsReadRefusal device a b e × (b ≡ a)) → GoesOn device a b
+  pub goes_begin : (a b : StoreView D) (r : Result (Option FillTask) Refusal) → MatchResult r (IsFillBegun a b) (λ e. IsReadRefusal device a b e × IsLeftByRefusal device a b e) → GoesOn device a b
   goes_begin a b (Ok o) i = goes_begun a b o i
-  goes_begin a b (Err e) i = goes_same a b i.1
+  goes_begin a b (Err e) i = goes_same a b (refusal_same device a b e i.1)

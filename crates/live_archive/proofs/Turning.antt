@@ -1,5 +1,5 @@
 -- A turn, from its beginning and its end.
-use Rattle.std.proofs.Common.{◌≡◌, ℕ, ◌-◌, ◌≤◌, List, [], ◌∷◌, ◌++◌, length, take, Result, Ok, Err, IfOk, IfErr, OnErr, MatchResult, refl, sym, ap, ◌∙◌, subst}
+use Rattle.std.proofs.Common.{◌≡◌, ℕ, ◌-◌, ◌≤◌, List, [], ◌∷◌, ◌++◌, length, take, Result, Ok, Err, IfOk, IfErr, MatchResult, refl, sym, ap, ◌∙◌, subst}
 use Rattle.std.specs.Prelude.{IsErrAnd}
 use Rattle.std.specs.List.{range_with_len}
 use mathlib.Core.List.{IsPrefix}
@@ -19,10 +19,10 @@ pub matched : {X E : Type 0} (r : Result X E) (P : X → Type 0) (Q : E → Type
 matched (Ok x) P Q p q = p
 matched (Err e) P Q p q = q
 
--- and of a refusal that changed nothing
-pub matched_same : {X E : Type 0} (r : Result X E) (P : X → Type 0) (Q : E → Type 0) (Same : Type 0) → IfOk r P → IfErr r Q → OnErr r Same → MatchResult r P (λ e. Q e × Same)
-matched_same (Ok x) P Q Same p q same = p
-matched_same (Err e) P Q Same p q same = (q, same)
+-- and, of a refusal, twice
+pub matched_both : {X E : Type 0} (r : Result X E) (P : X → Type 0) (Q S : E → Type 0) → IfOk r P → IfErr r Q → IfErr r S → MatchResult r P (λ e. Q e × S e)
+matched_both (Ok x) P Q S p q s = p
+matched_both (Err e) P Q S p q s = (q, s)
 
 -- a refusal that is handed on
 pub handed_on : {X E : Type 0} (r : Result X E) (refusal : E) (P : X → Type 0) (Q : E → Type 0) → IsErrAnd r (λ e. e ≡ refusal) → Q refusal → MatchResult r P Q

@@ -17,7 +17,7 @@ use Rattle.archive_store.specs.declared.batch.Ingested.{Ingested}
 use Rattle.archive_store.specs.Calls.{AreIngested, IsIngestRefusal}
 use Rattle.archive_store.specs.CurrentSets.{IsCurrentSet}
 use Rattle.archive_store.specs.Installs.{IsInstallRefusal, IsStoreInstalled}
-use Rattle.archive_store.specs.UnreadRows.{IsReadRefusal}
+use Rattle.archive_store.specs.UnreadRows.{IsLeftByRefusal, IsReadRefusal}
 use Rattle.archive_store.specs.Stands.{IsSoundImage}
 use Rattle.archive_store.specs.StoreView.{StoreView}
 use Rattle.archive_store.specs.Tasks.{IsFillBegun}
@@ -32,7 +32,8 @@ SaysIngested device rows answer before after =
 -- of the beginning of a fill
 abbrev pub SaysBegun : {D : Type 0} → Device D → Result (Option FillTask) Refusal → StoreView D → StoreView D → Type 0
 SaysBegun device answer before after =
-    MatchResult answer (IsFillBegun before after) (λ refusal. IsReadRefusal device before after refusal × (after ≡ before))
+    MatchResult answer (IsFillBegun before after)
+    (λ refusal. IsReadRefusal device before after refusal × IsLeftByRefusal device before after refusal)
 
 -- of a fill that is installed
 abbrev pub SaysInstalled

@@ -72,8 +72,8 @@ HasFillOrNew old new interval =
 
 -- Both lists go on from the first ones, under one database. Each record more is one of an item or of a fill, and each
 -- fill more has one. One call of the disk failed at most, a write, and while a failed write is pending no row comes.
--- Where the disk is transparent, each interval has the fill that it had, or a right one since; and what power lost since
--- an earlier store leaves lies between that store and this one, if it did up to the first.
+-- Where the disk is transparent, each interval has the fill that it had, or a right one since; and what power lost
+-- since an earlier store leaves lies between that store and this one, if it did up to the first.
 pub record GoesOn {D : Type 0} (device : Device D) (first now : StoreView D) : Type 0 where
   pub appends : OnlyAppends first now
   pub database : SameDatabase first now

@@ -4,7 +4,7 @@ ghost use Rattle.std.specs.Prelude.{◌≡◌, ◌≤◌, ◌<◌, ◌++◌, [],
 ghost use Rattle.std.specs.List.{AllByRecursion};
 ghost use Rattle.replay_merge.specs.Cursor.{AsksTheSame, steps_at_most, EndsExactly, IsRowAsked, rest_of};
 ghost use Rattle.archive_store.specs.Finding.{IsReplayFound};
-ghost use Rattle.archive_store.specs.UnreadRows.{IsReadFault};
+ghost use Rattle.archive_store.specs.UnreadRows.{IsLeftByRead, IsReadFault};
 ghost use Rattle.archive_store.specs.Replays.{IsReplayOpened, rows_below};
 ghost use Rattle.turn_cell.specs.Pass.{IsFree};
 ghost use Rattle.live_archive.specs.Turns.{TookTurn};
@@ -56,7 +56,7 @@ impl<D: Disk> LiveOver<HeldStore<D>> {
         requires front { cursor.old.front ≤ length pass.old.history.seen }
         ensures free { IsFree self.now.cell pass.new }
         ensures turn { TookTurn D.device self.now.cell.first.store pass.old pass.new (λ before after.
-            (after ≡ before) × IfErr result (IsReadFault D.device before after)) }
+            IsLeftByRead D.device before after result × IfErr result (IsReadFault D.device before after)) }
 
         // The rows are those of the history that the caller has seen, whatever came to it since.
         ensures rows { IfOk result (λ rows. rows ++ rest_of cursor.new (rows_below pass.old.history.seen)

@@ -2,6 +2,7 @@
 
 ghost use Rattle.std.specs.Prelude.{◌≡◌, ◌≤◌, MatchResult, IfOk, IfErr};
 ghost use Rattle.turn_cell.specs.Pass.{IsFree};
+ghost use Rattle.archive_store.specs.UnreadRows.{IsLeftByAnswer};
 ghost use Rattle.live_archive.specs.Retrievals.{IsAnswerIn, IsNotAnswered, IsPlannedIn, steps_allowed};
 ghost use Rattle.live_archive.specs.Turns.{TookTurn};
 
@@ -29,7 +30,7 @@ impl<D: Disk> HeldStore<D> {
     pub(crate) fn planned(&mut self, alloc: Global, request: Request) -> Result<Planned, Refusal>
         ensures planned { IfOk result (IsPlannedIn D.device self.old.store request) }
         ensures refused { IfErr result (IsNotAnswered D.device self.old.store self.new.store request) }
-        ensures same { self.new.store ≡ self.old.store }
+        ensures same { IsLeftByAnswer D.device self.old.store self.new.store result }
     {
         self.store.is_kept();
         let found = self.store.find(request)?;
@@ -49,7 +50,8 @@ impl<D: Disk> LiveOver<HeldStore<D>> {
     ) -> Result<Planned, Refusal>
         requires free { IsFree self.now.cell pass.old }
         ensures free { IsFree self.now.cell pass.new }
-        ensures turn { TookTurn D.device self.now.cell.first.store pass.old pass.new (λ before after. (after ≡ before)
+        ensures turn { TookTurn D.device self.now.cell.first.store pass.old pass.new (λ before after.
+            IsLeftByAnswer D.device before after result
             × MatchResult result (IsPlannedIn D.device before request) (IsNotAnswered D.device before after request)) }
     {
         let mut held = self.cell.enter(rt, pass);
@@ -69,7 +71,8 @@ impl<D: Disk> LiveOver<HeldStore<D>> {
     ) -> Result<Answer, Refusal>
         requires free { IsFree self.now.cell pass.old }
         ensures free { IsFree self.now.cell pass.new }
-        ensures turn { TookTurn D.device self.now.cell.first.store pass.old pass.new (λ before after. (after ≡ before)
+        ensures turn { TookTurn D.device self.now.cell.first.store pass.old pass.new (λ before after.
+            IsLeftByAnswer D.device before after result
             × MatchResult result (IsAnswerIn D.device before request) (IsNotAnswered D.device before after request)
             × (steps.new ≤ steps_allowed before request steps.old)) }
     {

@@ -36,11 +36,11 @@ use Rattle.live_asks.specs.declared.answered.AskAnswer.TheVariants as answered
 use Rattle.live_asks.specs.LiveAsks.{IsAnsweredInTurn, OnlySees}
 use Rattle.live_asks.proofs.Sees.{found_begins, found_is_seen, sees_turn}
 
--- a request that was found is refused for want of memory alone, where nothing changed
-memory_alone : {D : Type 0} (device : Device D) (before after : StoreView D) → RequestHasAnswerExactly → (found : FoundRequest) (refusal : Refusal) → IsRequestFound (in_force before) found → after ≡ before
+-- a request that was found is refused for want of memory alone
+memory_alone : {D : Type 0} (device : Device D) (before after : StoreView D) → RequestHasAnswerExactly → (found : FoundRequest) (refusal : Refusal) → IsRequestFound (in_force before) found
     → IsNotAnswered device before after found.request refusal → refusal ≡ OutOfMemory
-memory_alone device before after exactly found refusal is same (inr unread) = refusal_is_memory device before after refusal unread same
-memory_alone device before after exactly found refusal is same (inl not) =
+memory_alone device before after exactly found refusal is (inr unread) = refusal_is_memory device before after refusal unread
+memory_alone device before after exactly found refusal is (inl not) =
     let none : request_refusal (in_force before) found.request ≡ None = (exactly (in_force before) found.request).1 ((λ no. absurd (cc (no, is.number))), is.range) in
     subst (λ (o : Option AskRefusal). IsNotFound o refusal) none not
 
@@ -82,7 +82,7 @@ module _ {D T : Type 0} (device : Device D) (first : StoreView D) (old new : Pas
       pub retrieval_refuses : RequestHasAnswerExactly → (refusal : Refusal) → IsRequestFound (database_in first.head.mdb first.history) found → Retrieves (Err refusal) → refusal ≡ OutOfMemory
       retrieval_refuses exactly refusal is turn =
           let t = of_found (Err refusal) turn in
-          memory_alone device t.before t.after exactly found refusal (subst (λ (db : Database). IsRequestFound db found) (sym t.turned.found.database.in_force) is) t.said.0 t.said.1
+          memory_alone device t.before t.after exactly found refusal (subst (λ (db : Database). IsRequestFound db found) (sym t.turned.found.database.in_force) is) t.said.1
 
   -- ---- replays
   abbrev Opens : FoundReplay → CursorView → Type 0

@@ -46,7 +46,7 @@ dones_rise noted fills p = let d = sym (ap dones p.1) ∙ dones-append noted p.0
 
 module _ {D T : Type 0} (device : Device D) (first : StoreView D) (old new : PassView Item Fill T) where
   pub begin_cause : (refusal : Refusal) → BeginsInTurn device first old (Err refusal) new → IsRefusalOf first new refusal
-  begin_cause refusal turn = subst (IsRefusalOf first new) (sym (refusal_is_memory device turn.before turn.after refusal turn.said.0 turn.said.1)) tt
+  begin_cause refusal turn = subst (IsRefusalOf first new) (sym (refusal_is_memory device turn.before turn.after refusal turn.said.0)) tt
 
   -- a log that had no place left in a turn
   log_full : (before after : StoreView D) (noted : List Fill) → Turned device first before after old new → AddsTo before old new [] noted → limit_of Records ≤ before.records → IsLogFull first new.history.seen new.fills.seen

@@ -12,5 +12,4 @@ pub mod OverRows
 pub mod OneList
 pub mod FilledAnswers
 pub mod LateRows
-pub mod AddedFills
 pub mod PrintFaults

@@ -1,6 +1,5 @@
 -- What the definitions come to.
 use Rattle.std.specs.Prelude.{◌≡◌, ℕ, List}
-use Rattle.asks.specs.declared.ask.Ask.{Ask}
 use Rattle.asks.specs.declared.ask.Request.{Request}
 use Rattle.history_items.specs.declared.items.Item.{Item}
 use Rattle.history_items.specs.Databases.{database_in}
@@ -14,9 +13,7 @@ use Rattle.store_fills.specs.Filled.{HoldsRows}
 use Rattle.store_fills.specs.Sound.{AreSound, Fillings}
 use Rattle.archive_store.specs.declared.head.Head.{Head}
 use Rattle.archive_store.specs.Plans.{IsPlanOver}
-use Rattle.archive_store.specs.AddedFills.{AddsRightFills}
 use Rattle.container_extract.specs.Answer.{answer_of}
-use Rattle.retrieval.specs.AskText.{asks_text}
 use Rattle.retrieval.specs.FilledAnswer.{filled_answer}
 use Rattle.retrieval.specs.Parameter.{limit_of_database}
 use Rattle.retrieval.specs.PartCells.{answer_over_parts}
@@ -27,12 +24,6 @@ abbrev pub FilledIsAnswered : Type 0
 FilledIsAnswered = (db : Database) (exponent : ℕ) (history : List Item) (fillings : Fillings (List SetRow))
     (request : Request) (number : ℕ) → AreSound exponent (HoldsRows db) history fillings →
     filled_answer db number request exponent history fillings ≡ answer_of db number request (rows_in history)
-
--- right fills of late intervals change nothing of what asks are answered
-abbrev pub AddedFillsAnswerAlike : Type 0
-AddedFillsAnswerAlike = (head : Head) (exponent : ℕ) (history : List Item) (old new : Fillings (List SetRow)) →
-    AddsRightFills head exponent history old new → (k : ℕ) (asks : List Ask) →
-    asks_text head exponent history new k asks ≡ asks_text head exponent history old k asks
 
 -- what is answered over the parts of a store's plan is the answer over its whole history
 abbrev pub PlannedIsAnswered : Type 0

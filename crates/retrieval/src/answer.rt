@@ -11,7 +11,7 @@ ghost use Rattle.param_segments.specs.Plans.{ArePartsOver, HasValuesOf, rows_of_
 ghost use Rattle.store_fills.specs.LastFills.{fillings_in};
 ghost use Rattle.archive_store.specs.Finding.{IsRequestFound};
 ghost use Rattle.archive_store.specs.Plans.{late_rows_of_range};
-ghost use Rattle.archive_store.specs.UnreadRows.{IsReadFault};
+ghost use Rattle.archive_store.specs.UnreadRows.{IsLeftByRead, IsReadFault};
 ghost use Rattle.archive_store.specs.Stands.{IsSoundImage};
 ghost use Rattle.container_extract.specs.Answer.{answer_of};
 ghost use Rattle.retrieval.specs.FilledAnswer.{IsFilledAnswer};
@@ -80,7 +80,7 @@ pub fn answer_request<D: Disk, L: Ledger>(
         answer_of (database_in store.old.head.mdb store.old.history) found.now.number found.now.request
         (rows_in store.old.history)) }
     ensures refused { IfErr result (IsReadFault D.device store.old store.new) }
-    ensures same { store.new ≡ store.old }
+    ensures same { IsLeftByRead D.device store.old store.new result }
 
     // No row of a filled interval takes one.
     ensures steps { steps.new ≤ steps.old + length (filter

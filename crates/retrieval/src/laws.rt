@@ -1,6 +1,6 @@
 //! Laws of the definitions, carried by functions that do nothing.
 
-ghost use Rattle.retrieval.specs.Laws.{AddedFillsAnswerAlike, DatabaseLimitsAgree, FilledIsAnswered, PlannedIsAnswered};
+ghost use Rattle.retrieval.specs.Laws.{DatabaseLimitsAgree, FilledIsAnswered, PlannedIsAnswered};
 
 /// What is answered over the parts of a store's plan is the answer over its whole history.
 pub fn planned_is_answered()
@@ -10,11 +10,6 @@ pub fn planned_is_answered()
 /// Where the fills of a history are sound, what is answered over it with them is the answer over the history.
 pub fn filled_is_answered()
     ensures { FilledIsAnswered }
-{}
-
-/// Right fills of late intervals change nothing of what asks are answered.
-pub fn added_fills_answer_alike()
-    ensures { AddedFillsAnswerAlike }
 {}
 
 /// The limits of a database are those of the archive.

@@ -113,7 +113,8 @@ fn range_left(request: &Request, direction: Direction, cells: &[Cell]) -> CellRa
     }
 }
 
-/// Adds the cells of a set in a direction, up to a limit of all. The set reads none outside the range or behind the limit.
+/// Adds the cells of a set in a direction, up to a limit of all. The set reads none outside the range or behind the
+/// limit.
 fn add_set_cells(
     alloc: Global,
     mdb: &Mdb,

@@ -5,8 +5,8 @@ ghost use Rattle.history_items.specs.Databases.{names_in};
 ghost use Rattle.archive_store.specs.Finding.{IsReplayFound};
 ghost use Rattle.archive_store.specs.Replays.{rows_below};
 ghost use Rattle.line_buffer.specs.Printed.{BuffersText, PrintsText};
-ghost use Rattle.outer_traits.specs.declared.print_fault.PrintFault.TheVariants.{OutOfMemory};
 ghost use Rattle.replay_merge.specs.Cursor.{steps_at_most, rest_of};
+ghost use Rattle.retrieval.specs.PrintFaults.{IsLeftByPrint, IsUnprinted};
 ghost use Rattle.retrieval.specs.ReplayText.{packet_lines, replay_lines, replay_text};
 ghost use Rattle.line_buffer.specs.LineRoom.{HasLineRoom};
 
@@ -25,8 +25,8 @@ use replay_merge::cursor::Cursor;
 use replay_merge::laws::end_has_no_rest;
 use std::alloc::{AllocError, Global};
 
-/// Prints the replay of a request over the whole history of a store in which its table was found, the ask with number `k`.
-/// Rows are printed as they come, so no more than a day's are held. The end may still be buffered.
+/// Prints the replay of a request over the whole history of a store in which its table was found, the ask with number
+/// `k`. Rows are printed as they come, so no more than a day's are held. The end may still be buffered.
 pub fn print_replay<D: Disk, K: Sink>(
     alloc: Global,
     k: u64,
@@ -109,8 +109,8 @@ fn next_rows<D: Disk>(
         rows ++ rest_of cursor.new (rows_below store.old.history) ≡ rest_of cursor.old (rows_below store.old.history)) }
     ensures end { IfOk result (λ rows. rows ≡ [] → rest_of cursor.new (rows_below store.old.history) ≡ []) }
     ensures nearer { IfOk result (λ rows. (rows ≡ [] → ⊥) → steps_at_most cursor.new < steps_at_most cursor.old) }
-    ensures refused { IfErr result (λ fault. fault ≡ OutOfMemory) }
-    ensures same { store.new ≡ store.old }
+    ensures refused { IfErr result (IsUnprinted D.device store.old store.new) }
+    ensures same { IsLeftByPrint D.device store.old store.new result }
 {
     end_has_no_rest();
     match store.replay_step(alloc, cursor, u64::MAX) {
@@ -138,7 +138,8 @@ fn print_rows<K: Sink>(
     Ok(())
 }
 
-/// Prints the rows that a replay of the first `front` items of a history gave, the ask with number `k`. The end may still be buffered.
+/// Prints the rows that a replay of the first `front` items of a history gave, the ask with number `k`. The end may
+/// still be buffered.
 pub fn print_replayed<K: Sink>(
     k: u64,
     front: u64,

@@ -1,4 +1,4 @@
-use Rattle.std.proofs.Common.{◌≡◌, ◌∙◌, inl, inr, length, List, Result, Ok, Err, IfErr, ap, subst}
+use Rattle.std.proofs.Common.{◌≡◌, ◌∙◌, inl, inr, length, List, Result, Ok, Err, IfErr, refl, ap, subst}
 use Rattle.std.specs.Prelude.{IfNone, IfSome, IsErrAnd, filter}
 use Rattle.std.specs.List.{AllByRecursion}
 use Rattle.arch_disk.specs.Disk.{Device}
@@ -9,7 +9,10 @@ use Rattle.mdb_items.specs.Database.{Database}
 use Rattle.refusals.specs.declared.refusal.Refusal.{Refusal}
 use Rattle.refusals.specs.declared.refusal.Refusal.TheVariants.{OutOfMemory}
 use Rattle.archive_store.specs.StoreView.{StoreView, filled_of}
-use Rattle.archive_verify.specs.Verified.{HoldBelow, HoldsWhereCurrent, IsIntervalMismatch, IsMismatchOf, IsVerifyRefusal}
+use Rattle.archive_store.specs.UnreadRows.{IsLeftByRefusal}
+use Rattle.archive_store.proofs.UnreadRows.{left_by, left_by_memory}
+use Rattle.archive_verify.specs.declared.compared_sets.SetDifference.{SetDifference}
+use Rattle.archive_verify.specs.Verified.{HoldBelow, HoldsWhereCurrent, IsIntervalMismatch, IsMismatchOf, IsVerifyRefusal, database_of_archive}
 use Rattle.archive_verify.proofs.Counting.{as_many_intervals, as_many_passed}
 use Rattle.archive_verify.proofs.Currents.{all_held, named_refusal}
 use Rattle.archive_verify.proofs.verified.verify.Goals as goal
@@ -18,6 +21,10 @@ use Rattle.archive_verify.proofs.verified.verify.Goals as goal
 wanting : {D X : Type 0} (device : Device D) (store : StoreView D) (r : Result X Refusal) → IsErrAnd r (λ e. e ≡ OutOfMemory) → IfErr r (IsVerifyRefusal device store store)
 wanting device store (Ok x) is = tt
 wanting device store (Err e) is = inr (unread.OutOfMemory, tt, is)
+
+-- a mismatch is no failed read
+mismatch_left : {D : Type 0} (device : Device D) (store : StoreView D) (db : Database) (interval : Interval) (d : SetDifference) (refusal : Refusal) → IsMismatchOf db interval d refusal → IsLeftByRefusal device store store refusal
+mismatch_left device store db interval d refusal is = left_by device store store refusal (λ failed. subst (IsMismatchOf db interval d) failed is) refl
 
 pub returns-in_err-intervals-clause-refused : goal.returns-in_err-intervals-clause-refused
 returns-in_err-intervals-clause-refused g c = wanting g.D.Disk.device c.args.store.now c.from_residual.result c.from_residual.ensures.1
@@ -54,3 +61,27 @@ returns-in-Some-clause-refused g c =
     let d = c.in-Some.difference in
     let found = subst (λ o. IfSome o (λ x. IsIntervalMismatch (filled_of store) x.interval x.sets × HoldBelow (filled_of store) c.as_slice.result.now x.interval)) c.in-Some.is c.in_ok-difference.ensures.some in
     inl (named_refusal store is d.interval d.sets c.in_ok-mismatch_of.field-0 c.in_ok-intervals.ensures.filled found.0 (subst (λ (l : List Interval). HoldBelow (filled_of store) l d.interval) c.as_slice.ensures.value found.1) (subst (λ (db : Database). IsMismatchOf db d.interval d.sets c.in_ok-mismatch_of.field-0) c.mdb.ensures c.in_ok-mismatch_of.ensures))
+
+-- ---- what it leaves
+
+pub returns-in_err-intervals-clause-same : goal.returns-in_err-intervals-clause-same
+returns-in_err-intervals-clause-same g c = left_by_memory g.D.Disk.device c.args.store.now c.args.store.now c.from_residual.result c.from_residual.ensures.1 refl
+
+pub returns-in_err-difference-clause-same : goal.returns-in_err-difference-clause-same
+returns-in_err-difference-clause-same g c =
+    left_by_memory g.D.Disk.device c.args.store.now c.args.store.now c.from_residual-in_err-difference.result c.from_residual-in_err-difference.ensures.1 refl
+
+pub returns-in_err-mismatch_of-clause-same : goal.returns-in_err-mismatch_of-clause-same
+returns-in_err-mismatch_of-clause-same g c =
+    left_by_memory g.D.Disk.device c.args.store.now c.args.store.now c.from_residual-in_err-mismatch_of.result c.from_residual-in_err-mismatch_of.ensures.1 refl
+
+pub returns-in-Some-clause-same : goal.returns-in-Some-clause-same
+returns-in-Some-clause-same g c =
+    let store = c.args.store.now in
+    let d = c.in-Some.difference in
+    let refusal = c.in_ok-mismatch_of.field-0 in
+    mismatch_left g.D.Disk.device store (database_of_archive (filled_of store)) d.interval d.sets refusal
+    (subst (λ (db : Database). IsMismatchOf db d.interval d.sets refusal) c.mdb.ensures c.in_ok-mismatch_of.ensures)
+
+pub returns-clause-same : goal.returns-clause-same
+returns-clause-same g c = inl refl

@@ -4,7 +4,7 @@ use Rattle.std.proofs.lemmas.Result.{err_from_is_err_and}
 use Rattle.arch_types.specs.declared.row.Row.{Row}
 use Rattle.refusals.specs.Refusal.{refusal_of_rows}
 use Rattle.archive_store.specs.Replays.{rows_below}
-use Rattle.archive_store.proofs.UnreadRows.{unread_is_memory}
+use Rattle.archive_store.proofs.UnreadRows.{read_same, refusal_same, unread_is_memory}
 use Rattle.replay_merge.specs.Cursor.{rest_of}
 use Rattle.live_asks.proofs.Sees.{sees_on, sees_same, sees_turn, still_within}
 use Rattle.live_asks.proofs.Taken.{all_taken, taken_more}
@@ -30,13 +30,13 @@ pub returns-then-len-eq0-clause-sees : goal.returns-then-len-eq0-clause-sees
 returns-then-len-eq0-clause-sees g c =
     let turn = c.in_ok-piece.ensures.turn in
     sees_on c.args.pass.now c.steps.pass c.replay_next.new.pass c.steps.invariant.sees
-    (sees_turn g.D.Disk.device c.args.live.now.cell.first.store turn.before turn.after c.steps.pass c.replay_next.new.pass turn.turned turn.said.0)
+    (sees_turn g.D.Disk.device c.args.live.now.cell.first.store turn.before turn.after c.steps.pass c.replay_next.new.pass turn.turned (read_same g.D.Disk.device turn.before turn.after turn.said.0))
 
 pub returns-then-len-eq0-clause-rows : goal.returns-then-len-eq0-clause-rows
 returns-then-len-eq0-clause-rows g c =
     let here = c.steps.invariant in
     let turn = c.in_ok-piece.ensures.turn in
-    let sees = sees_turn g.D.Disk.device c.args.live.now.cell.first.store turn.before turn.after c.steps.pass c.replay_next.new.pass turn.turned turn.said.0 in
+    let sees = sees_turn g.D.Disk.device c.args.live.now.cell.first.store turn.before turn.after c.steps.pass c.replay_next.new.pass turn.turned (read_same g.D.Disk.device turn.before turn.after turn.said.0) in
     let none = nil_from_length c.in_ok-piece.piece (sym c.len.ensures ∙ c.if-len-eq0.true) in
     let end = c.end_has_no_rest.ensures c.replay_next.new.cursor (rows_below c.steps.pass.history.seen) (c.in_ok-piece.ensures.end.none_is_end none (omega arith)) in
     rw c.from_vec.ensures
@@ -47,25 +47,26 @@ pub returns-in_err-piece-clause-sees : goal.returns-in_err-piece-clause-sees
 returns-in_err-piece-clause-sees g c =
     let turn = c.in_err-piece.ensures.turn in
     sees_on c.args.pass.now c.steps.pass c.replay_next.new.pass c.steps.invariant.sees
-    (sees_turn g.D.Disk.device c.args.live.now.cell.first.store turn.before turn.after c.steps.pass c.replay_next.new.pass turn.turned turn.said.0)
+    (sees_turn g.D.Disk.device c.args.live.now.cell.first.store turn.before turn.after c.steps.pass c.replay_next.new.pass turn.turned
+    (refusal_same g.D.Disk.device turn.before turn.after (refusal_of_rows c.in_err-piece.field-0.0) turn.said.0))
 
 pub returns-in_err-piece-clause-refused : goal.returns-in_err-piece-clause-refused
 returns-in_err-piece-clause-refused g c =
     let turn = c.in_err-piece.ensures.turn in
     let p = err_from_is_err_and c.from_residual.result c.from_residual.ensures.1 in
-    rw (p.1, p.2) (ap refusal_of_rows (unread_is_memory g.D.Disk.device turn.before turn.after c.in_err-piece.field-0.0 turn.said.1 turn.said.0))
+    rw (p.1, p.2) (ap refusal_of_rows (unread_is_memory g.D.Disk.device turn.before turn.after c.in_err-piece.field-0.0 turn.said.1))
 
 pub returns-in_err-append-clause-sees : goal.returns-in_err-append-clause-sees
 returns-in_err-append-clause-sees g c =
     let turn = c.in_ok-piece.ensures.turn in
     sees_on c.args.pass.now c.steps.pass c.replay_next.new.pass c.steps.invariant.sees
-    (sees_turn g.D.Disk.device c.args.live.now.cell.first.store turn.before turn.after c.steps.pass c.replay_next.new.pass turn.turned turn.said.0)
+    (sees_turn g.D.Disk.device c.args.live.now.cell.first.store turn.before turn.after c.steps.pass c.replay_next.new.pass turn.turned (read_same g.D.Disk.device turn.before turn.after turn.said.0))
 
 pub steps-preserved : goal.steps-preserved
 steps-preserved g c =
     let here = c.steps.invariant in
     let turn = c.in_ok-piece.ensures.turn in
-    let sees = sees_turn g.D.Disk.device c.args.live.now.cell.first.store turn.before turn.after c.steps.pass c.replay_next.new.pass turn.turned turn.said.0 in
+    let sees = sees_turn g.D.Disk.device c.args.live.now.cell.first.store turn.before turn.after c.steps.pass c.replay_next.new.pass turn.turned (read_same g.D.Disk.device turn.before turn.after turn.said.0) in
     record {
       free = c.in_ok-piece.ensures.free;
       sees = sees_on c.args.pass.now c.steps.pass c.replay_next.new.pass here.sees sees;

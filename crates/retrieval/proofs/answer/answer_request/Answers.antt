@@ -4,8 +4,9 @@ use Rattle.history_items.specs.Databases.{database_in}
 use Rattle.history_items.specs.Items.{rows_in}
 use Rattle.archive_store.specs.UnreadRows.{IsReadFault}
 use Rattle.archive_store.proofs.Calls.{passed_on}
-use Rattle.archive_store.proofs.UnreadRows.{memory_unread}
+use Rattle.archive_store.proofs.UnreadRows.{left_by_read, memory_unread, read_same, refusal_same}
 use Rattle.mdb_items.specs.Database.{Database}
+use Rattle.refusals.specs.Refusal.{refusal_of_rows}
 use Rattle.param_segments.specs.Plans.{ArePartsOver, HasValuesOf}
 use Rattle.retrieval.specs.PartCells.{answer_over_parts, answer_over_rows}
 use Rattle.retrieval.proofs.FilledAnswers.{plan_filled}
@@ -17,6 +18,16 @@ pub returns-in_err-plan-clause-refused : goal.returns-in_err-plan-clause-refused
 returns-in_err-plan-clause-refused g c =
     passed_on c.from_residual.result c.in_err-plan.field-0.0 (IsReadFault g.D.Disk.device c.args.store.now c.plan.new.self) c.from_residual.ensures.1 c.in_err-plan.ensures.refused
 
+pub returns-in_err-plan-clause-same : goal.returns-in_err-plan-clause-same
+returns-in_err-plan-clause-same g c =
+    let device = g.D.Disk.device in
+    let old = c.args.store.now in
+    let new = c.plan.new.self in
+    let fault = c.in_err-plan.field-0.0 in
+    left_by_read device old new c.from_residual.result
+    (passed_on c.from_residual.result fault (IsReadFault device old new) c.from_residual.ensures.1 c.in_err-plan.ensures.refused)
+    (refusal_same device old new (refusal_of_rows fault) c.in_err-plan.ensures.same)
+
 pub answer-requires : goal.answer-requires
 answer-requires g c =
     record { values = subst (λ (db : Database). AllByRecursion (HasValuesOf db) c.in_ok-plan.plan.parts) (sym c.in_ok-plan.ensures.planned.mdb) c.in_ok-plan.ensures.values }
@@ -24,6 +35,14 @@ answer-requires g c =
 pub returns-in_err-answer-clause-refused : goal.returns-in_err-answer-clause-refused
 returns-in_err-answer-clause-refused g c =
     memory_unread g.D.Disk.device c.args.store.now c.plan.new.self c.from_residual-in_err-answer.result c.from_residual-in_err-answer.ensures.1
+
+pub returns-in_err-answer-clause-same : goal.returns-in_err-answer-clause-same
+returns-in_err-answer-clause-same g c =
+    let device = g.D.Disk.device in
+    let old = c.args.store.now in
+    let new = c.plan.new.self in
+    let r = c.from_residual-in_err-answer.result in
+    left_by_read device old new r (memory_unread device old new r c.from_residual-in_err-answer.ensures.1) (read_same device old new c.in_ok-plan.ensures.same)
 
 pub returns-in_err-answer-clause-steps : goal.returns-in_err-answer-clause-steps
 returns-in_err-answer-clause-steps g c =
@@ -65,3 +84,6 @@ returns-clause-steps g c =
     let request = c.args.found.now.request in
     let late = ap length (late_in_range c.args.store.now request.from request.to c.in_ok-plan.plan c.in_ok-plan.ensures.planned) in
     omega (arith, c.answer.ensures.steps, late)
+
+pub returns-clause-same : goal.returns-clause-same
+returns-clause-same g c = c.in_ok-plan.ensures.same

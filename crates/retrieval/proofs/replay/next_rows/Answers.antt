@@ -1,12 +1,18 @@
-use Rattle.std.proofs.Common.{arith}
+use Rattle.std.proofs.Common.{◌∙◌, sym, subst, arith}
 use Rattle.archive_store.specs.Replays.{rows_below}
-use Rattle.retrieval.proofs.PrintFaults.{unprinted_is_memory}
+use Rattle.archive_store.specs.UnreadRows.{IsLeftByRefusal}
+use Rattle.retrieval.proofs.PrintFaults.{as_refused}
 use Rattle.retrieval.proofs.replay.next_rows.Goals as goal
 
 pub returns-in-Ok-clause-end : goal.returns-in-Ok-clause-end
 returns-in-Ok-clause-end g c = λ none. c.end_has_no_rest.ensures c.replay_step.new.cursor (rows_below c.args.store.now.history) (c.in-Ok.ensures.end.none_is_end none (omega arith))
 
+pub returns-in-Ok-clause-same : goal.returns-in-Ok-clause-same
+returns-in-Ok-clause-same g c = c.in-Ok.ensures.same
+
 pub returns-in-Err-clause-refused : goal.returns-in-Err-clause-refused
-returns-in-Err-clause-refused g c =
-    let e = c.in-Err.ensures in
-    unprinted_is_memory g.D.Disk.device c.args.store.now c.replay_step.new.self c.in-Err.fault c.print_fault_of.result e.refused e.same c.print_fault_of.ensures
+returns-in-Err-clause-refused g c = (c.in-Err.fault, c.in-Err.ensures.refused, as_refused c.in-Err.fault c.print_fault_of.result c.print_fault_of.ensures)
+
+pub returns-in-Err-clause-same : goal.returns-in-Err-clause-same
+returns-in-Err-clause-same g c =
+    subst (IsLeftByRefusal g.D.Disk.device c.args.store.now c.replay_step.new.self) (sym (as_refused c.in-Err.fault c.print_fault_of.result c.print_fault_of.ensures)) c.in-Err.ensures.same

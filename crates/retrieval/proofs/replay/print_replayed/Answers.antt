@@ -1,4 +1,4 @@
-use Rattle.std.proofs.Common.{◌≡◌, ◌++◌, List, ℕ, length, subst}
+use Rattle.std.proofs.Common.{◌++◌, List, ℕ, length, subst}
 use Rattle.std.proofs.lemmas.Result.{err_from_is_err_and}
 use Rattle.retrieval.specs.AnswerText.{end_line, front_line}
 use Rattle.retrieval.specs.ReplayText.{packet_lines}

@@ -1,4 +1,4 @@
-use Rattle.std.proofs.Common.{◌≡◌, List, [], ◌∷◌, ◌++◌, true, Some, None, refl, sym, ◌∙◌, ap, subst}
+use Rattle.std.proofs.Common.{◌≡◌, inl, List, [], ◌∷◌, ◌++◌, true, Some, None, refl, sym, ◌∙◌, ap, subst}
 use Rattle.std.specs.Prelude.{IfSome}
 use Rattle.arch_types.specs.declared.row_fault.RowFault.TheVariants.{OutOfMemory}
 use Rattle.intervals.specs.declared.interval.Interval.{Interval}
@@ -110,3 +110,8 @@ returns-in_default-prepared-clause-grows g c =
 
 pub returns-in_default-prepared-clause-refused : goal.returns-in_default-prepared-clause-refused
 returns-in_default-prepared-clause-refused g c = (OutOfMemory, tt, refl)
+
+pub returns-in_default-prepared-clause-same : goal.returns-in_default-prepared-clause-same
+returns-in_default-prepared-clause-same g c =
+    let s = c.self.inside in
+    inl (ap (λ (l : List Fill). view_of s.disk s.opened.value s.journal s.head s.history.exponent s.history.items l s.sets.filled) c.prepare_task-prepared.ensures.same.0 ∙ c.self.view_is)

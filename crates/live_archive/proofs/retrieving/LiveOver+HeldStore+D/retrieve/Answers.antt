@@ -1,5 +1,6 @@
 use Rattle.std.proofs.Common.{inr, refl, arith}
 use Rattle.arch_types.specs.declared.row_fault.RowFault.TheVariants.{OutOfMemory}
+use Rattle.archive_store.specs.UnreadRows.{IsLeftByRefusal, ReadsRows}
 use Rattle.live_archive.proofs.Retrieved.{answered_in, steps_within, values_of_plan}
 use Rattle.live_archive.specs.Retrievals.{IsAnswerIn, IsNotAnswered}
 use Rattle.live_archive.proofs.Turning.{handed_on, turn_says}
@@ -9,7 +10,7 @@ pub returns-in_err-planned-clause-turn : goal.returns-in_err-planned-clause-turn
 returns-in_err-planned-clause-turn g c =
     let refusal = c.in_err-planned.field-0.0 in
     turn_says g.D.Disk.device c.in_err-planned.ensures.turn (λ before after said. (
-      said.0,
+      handed_on c.from_residual.result refusal (λ _. ReadsRows g.D.Disk.device before after) (IsLeftByRefusal g.D.Disk.device before after) c.from_residual.ensures.1 said.0,
       handed_on c.from_residual.result refusal (IsAnswerIn g.D.Disk.device before c.args.request) (IsNotAnswered g.D.Disk.device before after c.args.request) c.from_residual.ensures.1 said.1,
       omega arith,
     ))
