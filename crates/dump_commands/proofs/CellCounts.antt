@@ -8,8 +8,10 @@ use Rattle.arch_types.specs.Table.{sorted}
 use Rattle.mdb_items.specs.Database.{Database}
 use Rattle.container_extract.specs.Extraction.{cell_of}
 use Rattle.yarch_table.specs.Stored.{rows_of}
-use Rattle.dump_lines.specs.declared.rows.DumpTable.{DumpTable}
-use Rattle.dump_lines.specs.DumpTable.{IsDumpTable}
+use Rattle.dump_lines.specs.declared.receiving.Received.{Received}
+use Rattle.dump_lines.specs.declared.table.DumpTable.{DumpTable}
+use Rattle.dump_lines.specs.DumpTable.{IsGathered}
+use Rattle.dump_pieces.specs.Reading.{IsWholeDump}
 use Rattle.retrieval.proofs.Replays.{length-order}
 use Rattle.dump_commands.specs.ValuesPrinting.{count_if, cells_in_row}
 use Rattle.command_runs.specs.DumpRest.{dump_limit}
@@ -36,13 +38,14 @@ cells_few db number (row ∷ rows) =
     omega (arith, few)
 
 -- the rows of a dump are few
-pub rows_few : (dump : List ℕ) (moment : ℤ) (loaded : DumpTable) → IsDumpTable dump moment loaded → length dump ≤ dump_limit → length (sorted (rows_of loaded.table.stored)) < 2 ^ 64
-rows_few dump moment loaded l short =
-    let counts = l.gathered.counted in
+pub rows_few : (dump : List ℕ) (packets : List (List ℕ)) (moment : ℤ) (received : Received DumpTable) → IsWholeDump dump packets received.end →
+    IsGathered packets moment received.rows.table.stored received.rows.counts → length dump ≤ dump_limit → length (sorted (rows_of received.rows.table.stored)) < 2 ^ 64
+rows_few dump packets moment received r g short =
+    let counts = g.counted in
     let of_rows = counts.of_rows in
     let of_duplicates = counts.of_duplicates in
     let of_idle = counts.of_idle in
-    let few = l.few in
-    let order = length-order [] (rows_of loaded.table.stored) in
-    let rows = ap (λ (rows : List Row). length rows) l.gathered.rows_are in
+    let few = r.few in
+    let order = length-order [] (rows_of received.rows.table.stored) in
+    let rows = ap (λ (rows : List Row). length rows) g.rows_are in
     omega (arith, order, rows, of_rows, of_duplicates, of_idle, few, short)

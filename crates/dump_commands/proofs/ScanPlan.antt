@@ -1,23 +1,23 @@
 -- How the plan of `scan` goes.
-use Rattle.std.proofs.Common.{◌≡◌, ◌≤◌, ◌+◌, ◌∙◌, inl, inr, ℕ, ℤ, false, true, List, length, drop, Option, Some, None, refl, sym, ap, subst, arith}
+use Rattle.std.proofs.Common.{◌≡◌, ◌≤◌, ◌∙◌, inl, inr, ℕ, ℤ, false, true, List, drop, Option, Some, None, refl, ap, subst}
 use Rattle.std.specs.Prelude.{IsSome, Err}
-use Rattle.std.proofs.lemmas.List.{length-drop}
 use Rattle.arch_disk.specs.Disk.{Device}
-use Rattle.refusals.specs.declared.refusal.BadKind.TheVariants as bad
 use Rattle.refusals.specs.declared.refusal.Refusal.{Refusal}
 use Rattle.refusals.specs.declared.refusal.Refusal.TheVariants.{WriteFault}
 use Rattle.refusals.specs.declared.refusal.Which.TheVariants.{DumpOctets}
 use Rattle.arch_types.specs.Dump.{IsDump}
 use Rattle.arch_types.proofs.Dumps.{dump_is_one}
 use Rattle.space_packet.specs.declared.dump.Why.{Why}
-use Rattle.space_packet.specs.declared.dump.Why.TheVariants as why
 use Rattle.outer_traits.specs.Outside.{Files, HasRisen, WritesSome}
 use Rattle.command_plans.specs.Plan.{OfOutput, Stopped, Interrupted, EachEnd, IsDetermined, map_done}
 use Rattle.command_plans.proofs.Plans.{determined, determined_map_done}
-use Rattle.dump_lines.specs.declared.rows.DumpTable.{DumpTable}
-use Rattle.dump_lines.specs.DumpTable.{IsDumpTable}
+use Rattle.dump_pieces.specs.declared.reading.DumpEnd.{DumpEnd}
+use Rattle.dump_pieces.specs.Reading.{IsWholeDump}
+use Rattle.dump_lines.specs.declared.index.DumpIndex.{DumpIndex}
+use Rattle.dump_lines.specs.declared.receiving.Received.{Received}
+use Rattle.dump_lines.specs.DumpIndex.{IsIndexed}
 use Rattle.line_buffer.specs.Output.{Appends}
-use Rattle.dump_lines.specs.Printing.{text_of_loaded}
+use Rattle.dump_lines.specs.Printing.{text_of_index}
 use Rattle.dump_lines.specs.Text.{scan_text}
 use Rattle.command_plans.specs.Inputs.{AnsweredByPlan, WasRead}
 use Rattle.command_plans.proofs.Inputs.{reads_determined}
@@ -28,24 +28,14 @@ use Rattle.command_runs.specs.Command.{Effects, RanOver, nothing_done}
 use Rattle.command_runs.specs.DumpRest.{ending_of_rest, ending_of}
 use Rattle.command_runs.specs.Report.{unopened}
 use Rattle.dump_commands.specs.Scan.{dump_plan, receiving_plan, scan_plan}
-use Rattle.command_runs.proofs.DumpRest.{bad_ending, rest_is_none, bad_rest}
+use Rattle.command_runs.proofs.DumpRest.{end_is, ending_same}
 use Rattle.command_runs.proofs.OverInputs.{HasRead, ran_read, ran_unread}
 use Rattle.dump_commands.proofs.Scanned.{text_of_received}
 
 -- ---- the ending of a dump's rest
 
-module _ (dump : List ℕ) (moment : ℤ) (loaded : DumpTable) (l : IsDumpTable dump moment loaded) where
-  left_all : loaded.at + length (drop loaded.at dump) ≡ length dump
-  left_all = let len = length-drop loaded.at dump in let within = l.within in omega (arith, len, within)
-
-  ending_cases : (reason : Why) → loaded.why ≡ reason → ending_of reason loaded.at ≡ ending_of_rest dump (drop loaded.at dump)
-  ending_cases why.End e = ap (ending_of_rest dump) (sym (rest_is_none (drop loaded.at dump) (sym e ∙ l.why)))
-  ending_cases why.Version e = bad_ending dump (drop loaded.at dump) loaded.at bad.Version (bad_rest dump (drop loaded.at dump) loaded.at bad.Version left_all (sym e ∙ l.why))
-  ending_cases why.Truncated e = bad_ending dump (drop loaded.at dump) loaded.at bad.Truncated (bad_rest dump (drop loaded.at dump) loaded.at bad.Truncated left_all (sym e ∙ l.why))
-
-  -- by what the program holds of the dump
-  pub ending_is : ending_of loaded.why loaded.at ≡ ending_of_rest dump (drop loaded.at dump)
-  ending_is = ending_cases loaded.why refl
+pub ending_is : (dump : List ℕ) (packets : List (List ℕ)) (end : DumpEnd) → IsWholeDump dump packets end → ending_of end.why end.at ≡ ending_of_rest dump (drop end.at dump)
+ending_is dump packets end r = ap (λ (reason : Why). ending_of reason end.at) r.why ∙ ending_same dump (drop end.at dump) end.at (end_is dump end.at r.within)
 
 -- ---- over inputs
 
@@ -59,17 +49,17 @@ module _ {D : Type 0} (device : Device D) (e : Effects D) (files : Option Files)
       e.output' ≡ e.output → RanOver device (scan_plan files next name) e a b
   ran_unscanned refusal read report same silent = ran_unread device e (dump_plan files name) (receiving_plan next) a b 1 refusal read report same silent
 
-  module _ (dump : List ℕ) (moment : ℤ) (loaded : DumpTable) (read : WasRead (dump_plan files name) dump 1 a b) (told : IsMomentOf next moment) (l : IsDumpTable dump moment loaded)
-      (same : e.disk' ≡ e.disk) where
+  module _ (dump : List ℕ) (packets : List (List ℕ)) (moment : ℤ) (received : Received DumpIndex) (read : WasRead (dump_plan files name) dump 1 a b) (told : IsMomentOf next moment)
+      (r : IsWholeDump dump packets received.end) (i : IsIndexed packets moment received.rows.lengths.entries received.rows.counts) (same : e.disk' ≡ e.disk) where
     -- its rows were printed
-    pub ran_scanned : e.report ≡ unopened (ending_of loaded.why loaded.at) → Appends e.output.written e.output'.written (text_of_loaded loaded) → e.output'.faults ≡ e.output.faults →
+    pub ran_scanned : e.report ≡ unopened (ending_of received.end.why received.end.at) → Appends e.output.written e.output'.written (text_of_index received) → e.output'.faults ≡ e.output.faults →
         RanOver device (scan_plan files next name) e a b
     ran_scanned report text still = ran_read device e (dump_plan files name) (receiving_plan next) a b 1 dump read (receives_after next dump) (record {
-      way = Stopped (record (nothing_done 1) { text = scan_text l.packets (drop loaded.at dump) moment; is_whole = true }) (ending_of_rest dump (drop loaded.at dump));
-      allows = (moment, told, ((l.packets, drop loaded.at dump), l.parts, inr refl));
+      way = Stopped (record (nothing_done 1) { text = scan_text packets (drop received.end.at dump) moment; is_whole = true }) (ending_of_rest dump (drop received.end.at dump));
+      allows = (moment, told, ((packets, drop received.end.at dump), r.parts, inr refl));
       did = record {
-        report = report ∙ ap unopened (ending_is dump moment loaded l);
-        printed = subst (Appends e.output.written e.output'.written) (text_of_received dump moment loaded l) text;
+        report = report ∙ ap unopened (ending_is dump packets received.end r);
+        printed = subst (Appends e.output.written e.output'.written) (text_of_received dump packets moment received r i) text;
         output = record { counted = still };
         disk = same;
         log = tt;
@@ -78,14 +68,14 @@ module _ {D : Type 0} (device : Device D) (e : Effects D) (files : Option Files)
     })
 
     -- a write failed in that
-    pub ran_scan_failed : e.report ≡ unopened (Some WriteFault) → WritesSome e.output.written e.output'.written (text_of_loaded loaded) → e.output.faults ≤ e.output'.faults →
+    pub ran_scan_failed : e.report ≡ unopened (Some WriteFault) → WritesSome e.output.written e.output'.written (text_of_index received) → e.output.faults ≤ e.output'.faults →
         HasRisen e.output.faults e.output'.faults → RanOver device (scan_plan files next name) e a b
     ran_scan_failed report text later risen = ran_read device e (dump_plan files name) (receiving_plan next) a b 1 dump read (receives_after next dump) (record {
-      way = Interrupted (record (nothing_done 1) { text = scan_text l.packets (drop loaded.at dump) moment; is_whole = false }) OfOutput;
-      allows = (moment, told, ((l.packets, drop loaded.at dump), l.parts, inl refl));
+      way = Interrupted (record (nothing_done 1) { text = scan_text packets (drop received.end.at dump) moment; is_whole = false }) OfOutput;
+      allows = (moment, told, ((packets, drop received.end.at dump), r.parts, inl refl));
       did = record {
         report = report;
-        printed = subst (WritesSome e.output.written e.output'.written) (text_of_received dump moment loaded l) text;
+        printed = subst (WritesSome e.output.written e.output'.written) (text_of_received dump packets moment received r i) text;
         output = record { counted = risen_counted e.output.faults e.output'.faults later risen };
         disk = same;
         log = tt;

@@ -14,9 +14,11 @@ use Rattle.space_packet.specs.Rest.{why_of}
 use Rattle.yarch_table.specs.declared.table.Stored.{Stored}
 use Rattle.yarch_table.specs.Stored.{rows_of}
 use Rattle.dump_lines.specs.declared.counts.Counts.{Counts}
-use Rattle.dump_lines.specs.declared.rows.DumpTable.{DumpTable}
+use Rattle.dump_lines.specs.declared.receiving.Received.{Received}
+use Rattle.dump_lines.specs.declared.table.DumpTable.{DumpTable}
+use Rattle.dump_pieces.specs.Reading.{IsWholeDump}
 use Rattle.retrieval.specs.CellText.{cell_line}
-use Rattle.dump_lines.specs.DumpTable.{IsGathered, IsDumpTable}
+use Rattle.dump_lines.specs.DumpTable.{IsGathered}
 use Rattle.dump_commands.specs.ValuesPrinting.{cells_of_stored, end_of_cells, line_if, line_of, lines_of_cells, text_of_cells}
 use Rattle.mdb_lookups.specs.Lookups.{calibration_of}
 use Rattle.retrieval.specs.ValuesText.{cell_lines, cells_of, values_line, values_text}
@@ -63,7 +65,9 @@ text-is db number packets (octet ∷ rest) moment stored reason cells e =
     append-nil (lines_of_cells db number stored) ∙ text-by db number packets moment stored cells
 
 -- what is printed of the rows of a dump is the text of its cells
-pub text_of_rows : (db : Database) (number : ℕ) (dump : List ℕ) (moment : ℤ) (loaded : DumpTable) (l : IsDumpTable dump moment loaded) →
-    text_of_cells db number loaded.table.stored loaded.why ≡ values_text db number l.packets (drop loaded.at dump) moment
-text_of_rows db number dump moment loaded l =
-    text-is db number l.packets (drop loaded.at dump) moment loaded.table.stored loaded.why (cells-stored db number l.packets moment loaded.table.stored loaded.counts l.gathered) l.why
+pub text_of_rows : (db : Database) (number : ℕ) (dump : List ℕ) (packets : List (List ℕ)) (moment : ℤ) (received : Received DumpTable) → IsWholeDump dump packets received.end →
+    IsGathered packets moment received.rows.table.stored received.rows.counts →
+    text_of_cells db number received.rows.table.stored received.end.why ≡ values_text db number packets (drop received.end.at dump) moment
+text_of_rows db number dump packets moment received r g =
+    text-is db number packets (drop received.end.at dump) moment received.rows.table.stored received.end.why
+    (cells-stored db number packets moment received.rows.table.stored received.rows.counts g) r.why

@@ -15,8 +15,10 @@ use Rattle.command_plans.proofs.Plans.{determined, determined_map_done, gave}
 use Rattle.command_words.specs.Job.{ValuesWords}
 use Rattle.outer_traits.specs.declared.print_fault.PrintFault.{PrintFault}
 use Rattle.outer_traits.specs.declared.print_fault.PrintFault.TheVariants as printing
-use Rattle.dump_lines.specs.declared.rows.DumpTable.{DumpTable}
-use Rattle.dump_lines.specs.DumpTable.{IsDumpTable}
+use Rattle.dump_lines.specs.declared.receiving.Received.{Received}
+use Rattle.dump_lines.specs.declared.table.DumpTable.{DumpTable}
+use Rattle.dump_lines.specs.DumpTable.{IsGathered}
+use Rattle.dump_pieces.specs.Reading.{IsWholeDump}
 use Rattle.line_buffer.specs.Output.{Appends}
 use Rattle.line_buffer.specs.Printed.{IsPrinted, PrintsText}
 use Rattle.line_buffer.proofs.PrintedTexts.{all_went}
@@ -100,22 +102,22 @@ module _ {D : Type 0} (device : Device D) (e : Effects D) (files : Option Files)
       };
     })
 
-    module _ (loaded : DumpTable) (l : IsDumpTable dump moment loaded) (db : Database) (number : ℕ) (p : IsNamedParameter raw words.name db number) where
+    module _ (packets : List (List ℕ)) (received : Received DumpTable) (r : IsWholeDump dump packets received.end) (g : IsGathered packets moment received.rows.table.stored received.rows.counts) (db : Database) (number : ℕ) (p : IsNamedParameter raw words.name db number) where
       abbrev text : List ℕ
-      text = values_text (sheets_database raw) number l.packets (drop loaded.at dump) moment
+      text = values_text (sheets_database raw) number packets (drop received.end.at dump) moment
 
-      text_is : text_of_cells db number loaded.table.stored loaded.why ≡ text
-      text_is = text_of_rows db number dump moment loaded l ∙ ap (λ (d : Database). values_text d number l.packets (drop loaded.at dump) moment) p.database
+      text_is : text_of_cells db number received.rows.table.stored received.end.why ≡ text
+      text_is = text_of_rows db number dump packets moment received r g ∙ ap (λ (d : Database). values_text d number packets (drop received.end.at dump) moment) p.database
 
       -- its cells were printed
-      pub ran_valued : e.report ≡ unopened (ending_of loaded.why loaded.at) → IsPrinted e.output e.output' (text_of_cells db number loaded.table.stored loaded.why) [] →
+      pub ran_valued : e.report ≡ unopened (ending_of received.end.why received.end.at) → IsPrinted e.output e.output' (text_of_cells db number received.rows.table.stored received.end.why) [] →
           RanOver device (values_plan files next words) e a b
       ran_valued report printed = ran_read device e (values_inputs_plan files words) (valuing_plan next words.name) a b 4 (raw, dump) read (valued_after next words.name (raw, dump)) (record {
-        way = Stopped (record (nothing_done 4) { text = text; is_whole = true }) (ending_of_rest dump (drop loaded.at dump));
-        allows = (moment, told, inr (None, sym p.admitted, (number, ap (λ (d : Database). parameter_number d words.name) (sym p.database) ∙ p.named, ((l.packets, drop loaded.at dump), l.parts, inr (inr refl)))));
+        way = Stopped (record (nothing_done 4) { text = text; is_whole = true }) (ending_of_rest dump (drop received.end.at dump));
+        allows = (moment, told, inr (None, sym p.admitted, (number, ap (λ (d : Database). parameter_number d words.name) (sym p.database) ∙ p.named, ((packets, drop received.end.at dump), r.parts, inr (inr refl)))));
         did = record {
-          report = report ∙ ap unopened (ending_is dump moment loaded l);
-          printed = subst (Appends e.output.written e.output'.written) text_is (all_went e.output e.output' (text_of_cells db number loaded.table.stored loaded.why) printed).all;
+          report = report ∙ ap unopened (ending_is dump packets received.end r);
+          printed = subst (Appends e.output.written e.output'.written) text_is (all_went e.output e.output' (text_of_cells db number received.rows.table.stored received.end.why) printed).all;
           output = record { counted = printed.no_fault };
           disk = same;
           log = tt;
@@ -125,10 +127,10 @@ module _ {D : Type 0} (device : Device D) (e : Effects D) (files : Option Files)
 
       -- or some of them
       pub ran_some_valued : (fault : PrintFault) → e.report ≡ unopened (Some (refusal_of_print fault)) →
-          PrintsText {X = Unit {0}} (Err fault) e.output e.output' (text_of_cells db number loaded.table.stored loaded.why) [] → RanOver device (values_plan files next words) e a b
+          PrintsText {X = Unit {0}} (Err fault) e.output e.output' (text_of_cells db number received.rows.table.stored received.end.why) [] → RanOver device (values_plan files next words) e a b
       ran_some_valued printing.Write report printed = ran_read device e (values_inputs_plan files words) (valuing_plan next words.name) a b 4 (raw, dump) read (valued_after next words.name (raw, dump)) (record {
         way = Interrupted (record (nothing_done 4) { text = text; is_whole = false }) OfOutput;
-        allows = (moment, told, inr (None, sym p.admitted, (number, ap (λ (d : Database). parameter_number d words.name) (sym p.database) ∙ p.named, ((l.packets, drop loaded.at dump), l.parts, inr (inl refl)))));
+        allows = (moment, told, inr (None, sym p.admitted, (number, ap (λ (d : Database). parameter_number d words.name) (sym p.database) ∙ p.named, ((packets, drop received.end.at dump), r.parts, inr (inl refl)))));
         did = record {
           report = report;
           printed = subst (WritesSome e.output.written e.output'.written) text_is printed.some;
@@ -142,7 +144,7 @@ module _ {D : Type 0} (device : Device D) (e : Effects D) (files : Option Files)
       ran_some_valued (printing.Damaged file at) report printed = absurd printed
       ran_some_valued printing.OutOfMemory report printed = ran_read device e (values_inputs_plan files words) (valuing_plan next words.name) a b 4 (raw, dump) read (valued_after next words.name (raw, dump)) (record {
         way = Interrupted (record (nothing_done 4) { text = text; is_whole = false }) OfMemory;
-        allows = (moment, told, inr (None, sym p.admitted, (number, ap (λ (d : Database). parameter_number d words.name) (sym p.database) ∙ p.named, ((l.packets, drop loaded.at dump), l.parts, inl refl))));
+        allows = (moment, told, inr (None, sym p.admitted, (number, ap (λ (d : Database). parameter_number d words.name) (sym p.database) ∙ p.named, ((packets, drop received.end.at dump), r.parts, inl refl))));
         did = record {
           report = report;
           printed = subst (WritesSome e.output.written e.output'.written) text_is printed.some;

@@ -5,9 +5,7 @@ ghost use Rattle.std.specs.Result.{result_err};
 ghost use Rattle.command_plans.specs.Ledger.{UsedClock};
 ghost use Rattle.command_plans.specs.Plan.{IsDue};
 ghost use Rattle.line_buffer.specs.Printed.{BuffersText, WritesText};
-ghost use Rattle.dump_lines.specs.Printing.{lines_of, end_of, text_of_loaded};
-ghost use Rattle.std.specs.List.{AllByRecursion};
-ghost use Rattle.dump_lines.specs.DumpTable.{IsVisible};
+ghost use Rattle.dump_lines.specs.Printing.{lines_of, end_of, text_of_index};
 ghost use Rattle.command_runs.specs.Command.{RanOver, effects_of};
 ghost use Rattle.command_runs.specs.Report.{status_at, unopened};
 ghost use Rattle.dump_commands.specs.Scan.{scan_plan};
@@ -15,9 +13,13 @@ ghost use Rattle.line_buffer.specs.LineRoom.{HasLineRoom};
 
 use crate::scan_input::{ended, read_scan_input};
 use arch_disk::Disk;
+use arch_types::key::Key;
+use block_map::growing_index::GrowingIndex;
 use command_runs::report::Ended;
+use dump_lines::counts::Counts;
+use dump_lines::index::DumpIndex;
 use dump_lines::lines::{put_counts, put_row};
-use dump_lines::rows::DumpTable;
+use dump_lines::receiving::Received;
 use line_buffer::LineBuffer;
 use outer_traits::clock::Clock;
 use outer_traits::fault::Failed;
@@ -26,10 +28,9 @@ use outer_traits::sink::Sink;
 use refusals::Refusal;
 use space_packet::dump::Why;
 use std::alloc::Global;
-use yarch_table::table::Table;
 
-/// Reads the dump of a name to its end, and prints its rows in key order, duplicates dropped. All memory is taken before the first
-/// write.
+/// Reads the dump of a name to its end piece by piece, and prints its rows in key order, duplicates dropped. All memory
+/// is taken before the first write: a key and a length for each row.
 pub fn scan<D: Disk, I: Inputs, K: Sink, C: Clock>(
     alloc: Global,
     name: &str,
@@ -38,8 +39,8 @@ pub fn scan<D: Disk, I: Inputs, K: Sink, C: Clock>(
     sink: &mut K,
     clock: &mut C,
 ) -> Ended<D>
-    // It took a way through its plan: where that ends stands what was printed, what is reported, how many sources were given, and
-    // which calls failed. Nothing is asked of the disk.
+    // It took a way through its plan: where that ends stands what was printed, what is reported, how many sources were
+    // given, and which calls failed. Nothing is asked of the disk.
     ensures ran { RanOver D.device
         (scan_plan (I.state inputs.old).files (C.state clock.old).next name.now)
         (effects_of disk result.disk (K.state sink.old) (K.state sink.new) result.report)
@@ -73,51 +74,49 @@ fn work<D: Disk, I: Inputs, K: Sink, C: Clock>(
         (I.state inputs.old) (I.state inputs.new) }
     ensures clock { UsedClock (C.state clock.old) (C.state clock.new) }
 {
-    let mut scan_input = read_scan_input(alloc, inputs, name, clock)?;
-    match print(&scan_input.loaded, &mut scan_input.line_buffer, sink) {
-        Ok(()) => ended(&scan_input.loaded),
+    let mut scan_input = read_scan_input::<I, C, DumpIndex>(alloc, inputs, name, clock)?;
+    match print(&scan_input.received, &mut scan_input.line_buffer, sink) {
+        Ok(()) => ended(scan_input.received.end),
         Err(_) => Err(Refusal::WriteFault),
     }
 }
 
 /// Prints the rows in key order, and where nothing is left of the dump the counts.
 fn print<K: Sink>(
-    loaded: &DumpTable,
+    received: &Received<DumpIndex>,
     line_buffer: &mut LineBuffer,
     sink: &mut K,
 ) -> Result<(), Failed>
     requires empty { line_buffer.old ≡ [] }
-    requires shown { AllByRecursion IsVisible loaded.now.table.stored }
-    ensures { WritesText result (K.state sink.old) (K.state sink.new) (text_of_loaded loaded.now) }
+    ensures { WritesText result (K.state sink.old) (K.state sink.new) (text_of_index received.now) }
 {
-    print_rows(&loaded.table, line_buffer, sink)?;
-    put_end(line_buffer, loaded);
+    print_rows(&received.rows.lengths, line_buffer, sink)?;
+    put_end(line_buffer, received.end.why, received.rows.counts);
     line_buffer.flush(sink)
 }
 
 /// Adds the counts where nothing is left of the dump.
-fn put_end(line_buffer: &mut LineBuffer, loaded: &DumpTable)
+fn put_end(line_buffer: &mut LineBuffer, why: Why, counts: Counts)
     requires { HasLineRoom line_buffer.old }
-    ensures { line_buffer.new ≡ line_buffer.old ++ end_of loaded.now.why loaded.now.counts }
+    ensures { line_buffer.new ≡ line_buffer.old ++ end_of why counts }
 {
-    match loaded.why {
-        Why::End => put_counts(line_buffer, loaded.counts),
+    match why {
+        Why::End => put_counts(line_buffer, counts),
         Why::Version | Why::Truncated => {}
     }
 }
 
-/// Prints the rows of a table in key order, of which the last may still be buffered.
+/// Prints the rows of which an index has the keys and lengths, in key order. The last may still be buffered.
 fn print_rows<K: Sink>(
-    table: &Table,
+    lengths: &GrowingIndex<Key, u32>,
     line_buffer: &mut LineBuffer,
     sink: &mut K,
 ) -> Result<(), Failed>
     requires empty { line_buffer.old ≡ [] }
-    requires shown { AllByRecursion IsVisible table.now.stored }
-    ensures { BuffersText result (K.state sink.old) (K.state sink.new) (lines_of table.now.stored) line_buffer.new }
+    ensures { BuffersText result (K.state sink.old) (K.state sink.new) (lines_of lengths.now.entries) line_buffer.new }
 {
-    for row in table.rows_at(u64::MAX) {
-        put_row(line_buffer, row);
+    for entry in lengths.iter() {
+        put_row(line_buffer, entry.0, entry.1);
         line_buffer.flush_if_full(sink)?;
     }
     Ok(())

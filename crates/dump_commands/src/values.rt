@@ -23,7 +23,8 @@ use arch_types::steps::Steps;
 use command_runs::report::Ended;
 use command_words::job::ValuesWords;
 use container_extract::Extractor;
-use dump_lines::rows::DumpTable;
+use dump_lines::receiving::Received;
+use dump_lines::table::DumpTable;
 use line_buffer::LineBuffer;
 use mdb_sheets::read_mdb;
 use outer_traits::clock::Clock;
@@ -49,8 +50,8 @@ pub fn values<D: Disk, I: Inputs, K: Sink, C: Clock>(
     sink: &mut K,
     clock: &mut C,
 ) -> Ended<D>
-    // It took a way through its plan: where that ends stands what was printed, what is reported, how many sources were given, and
-    // which calls failed. Nothing is asked of the disk.
+    // It took a way through its plan: where that ends stands what was printed, what is reported, how many sources were
+    // given, and which calls failed. Nothing is asked of the disk.
     ensures ran { RanOver D.device
         (values_plan (I.state inputs.old).files (C.state clock.old).next (words_of words.entry))
         (effects_of disk result.disk (K.state sink.old) (K.state sink.new) result.report)
@@ -92,44 +93,51 @@ fn work<D: Disk, I: Inputs, K: Sink, C: Clock>(
         words.calibrations,
         words.containers,
     )?;
-    let mut scan_input = read_scan_input(alloc, inputs, words.dump, clock)?;
+    let mut scan_input = read_scan_input::<I, C, DumpTable>(alloc, inputs, words.dump, clock)?;
     let known = known_parameter(alloc, &sheets, words.name)?;
     let line_buffer = &mut scan_input.line_buffer;
     match print::<K, Brand>(
         alloc,
         Blank::new(1),
         &known,
-        &scan_input.loaded,
+        &scan_input.received,
         line_buffer,
         sink,
     ) {
-        Ok(()) => ended(&scan_input.loaded),
+        Ok(()) => ended(scan_input.received.end),
         Err(fault) => Err(Refusal::from(fault)),
     }
 }
 
-/// Prints the cells in key order, whose steps are counted in one book, and where nothing is left of the dump how many there
-/// are. Nothing stays buffered.
+/// Prints the cells in key order, whose steps are counted in one book, and where nothing is left of the dump how many
+/// there are. Nothing stays buffered.
 fn print<K: Sink, L: Ledger>(
     alloc: Global,
     blank: Blank,
     known: &KnownParameter,
-    loaded: &DumpTable,
+    received: &Received<DumpTable>,
     line_buffer: &mut LineBuffer,
     sink: &mut K,
 ) -> Result<(), PrintFault>
     requires empty { line_buffer.old ≡ [] }
-    requires shown { AllByRecursion IsVisible loaded.now.table.stored }
-    requires few { length (sorted (rows_of loaded.now.table.stored)) < 2 ^ 64 }
+    requires shown { AllByRecursion IsVisible received.now.rows.table.stored }
+    requires few { length (sorted (rows_of received.now.rows.table.stored)) < 2 ^ 64 }
     requires number { known.now.number < length known.now.mdb.parameters }
     requires blank { (blank.name ≡ L.name) × (blank.parts ≡ L.parts) × (0 < blank.parts) }
     ensures { PrintsText result (K.state sink.old) (K.state sink.new)
-        (text_of_cells known.now.mdb known.now.number loaded.now.table.stored loaded.now.why) [] }
+        (text_of_cells known.now.mdb known.now.number received.now.rows.table.stored received.now.end.why) [] }
 {
     let (book, share) = blank.open::<L>();
     let mut steps = Steps::new(book, share);
-    let count = print_cells(alloc, known, &loaded.table, line_buffer, sink, &mut steps)?;
-    put_end(line_buffer, loaded.why, count);
+    let count = print_cells(
+        alloc,
+        known,
+        &received.rows.table,
+        line_buffer,
+        sink,
+        &mut steps,
+    )?;
+    put_end(line_buffer, received.end.why, count);
     line_buffer.flush(sink)?;
     Ok(())
 }

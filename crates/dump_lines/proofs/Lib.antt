@@ -1,1 +1,4 @@
 pub mod Gathered
+pub mod Indexed
+pub mod Receivings
+pub mod Scanned

@@ -1,7 +1,7 @@
 //! Counts of packets.
 
 ghost use Rattle.std.specs.Prelude.{◌≡◌, ◌+◌, ◌<◌, ◌^◌};
-ghost use Rattle.dump_lines.specs.DumpTable.{counts_with};
+ghost use Rattle.dump_lines.specs.Counting.{counts_with};
 
 /// What became of a packet.
 #[derive(Clone, Copy, Debug, PartialEq, Eq)]

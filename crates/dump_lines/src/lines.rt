@@ -2,20 +2,20 @@
 
 ghost use Rattle.std.specs.Prelude.{◌≡◌, ◌++◌, codes, decimal};
 ghost use Rattle.line_buffer.specs.LineRoom.{HasLineRoom, HasRoomFor};
-ghost use Rattle.dump_lines.specs.Text.{counts_line, half_line, row_line};
+ghost use Rattle.dump_lines.specs.Text.{counts_line, half_line, key_line};
 
 use crate::counts::Counts;
-use arch_types::row::Row;
+use arch_types::key::Key;
 use line_buffer::LineBuffer;
 
-/// Adds the line of a row.
-pub fn put_row(line_buffer: &mut LineBuffer, row: &Row)
+/// Adds the line of a row of this key, whose packet has so many octets.
+pub fn put_row(line_buffer: &mut LineBuffer, key: Key, length: u32)
     requires { HasLineRoom line_buffer.old }
-    ensures { line_buffer.new ≡ line_buffer.old ++ row_line row.now }
+    ensures { line_buffer.new ≡ line_buffer.old ++ key_line key length }
 {
-    line_buffer.put_number(b"row ", row.key.time);
-    line_buffer.put_field(row.key.seq);
-    line_buffer.put_field(row.packet.len());
+    line_buffer.put_number(b"row ", key.time);
+    line_buffer.put_field(key.seq);
+    line_buffer.put_field(length);
     line_buffer.put_octet(b'\n');
 }
 

@@ -7,12 +7,6 @@ use Rattle.command_runs.specs.Report.{unopened}
 use Rattle.dump_commands.proofs.ScanPlan.{ran_scan_failed, ran_scanned, ran_unscanned}
 use Rattle.dump_commands.proofs.scan.work.Goals as goal
 
-pub print-requires : goal.print-requires
-print-requires g c = record {
-  empty = c.in_ok-scan_input.ensures.empty;
-  shown = c.in_ok-scan_input.ensures.read.rows.gathered.shown;
-}
-
 pub returns-in_err-scan_input-clause-ran : goal.returns-in_err-scan_input-clause-ran
 returns-in_err-scan_input-clause-ran g c = λ disk.
     let files = (g.I.Inputs.state c.args.inputs.now).files in
@@ -34,8 +28,8 @@ returns-in-Ok-clause-ran g c = λ disk.
     let output = g.K.Sink.state c.args.sink.now in
     let output' = g.K.Sink.state c.print.new.sink in
     let r = c.in_ok-scan_input.ensures.read in
-    ran_scanned g.D.Disk.device (effects_of disk disk output output' (unopened (result_err c.ended.result))) files next c.args.name.now a b r.dump r.moment c.in_ok-scan_input.scan_input.loaded
-    r.read r.known r.rows refl (ap unopened c.ended.ensures) c.in-Ok.ensures.all c.in-Ok.ensures.no_fault
+    ran_scanned g.D.Disk.device (effects_of disk disk output output' (unopened (result_err c.ended.result))) files next c.args.name.now a b r.dump r.packets r.moment c.in_ok-scan_input.scan_input.received
+    r.read r.known r.received r.kept refl (ap unopened c.ended.ensures) c.in-Ok.ensures.all c.in-Ok.ensures.no_fault
 
 pub returns-clause-ran : goal.returns-clause-ran
 returns-clause-ran g c = λ disk.
@@ -46,5 +40,5 @@ returns-clause-ran g c = λ disk.
     let output = g.K.Sink.state c.args.sink.now in
     let output' = g.K.Sink.state c.print.new.sink in
     let r = c.in_ok-scan_input.ensures.read in
-    ran_scan_failed g.D.Disk.device (effects_of disk disk output output' (unopened (Some WriteFault))) files next c.args.name.now a b r.dump r.moment c.in_ok-scan_input.scan_input.loaded
-    r.read r.known r.rows refl refl c.in-Err.ensures.some c.in-Err.ensures.later c.in-Err.ensures.failed
+    ran_scan_failed g.D.Disk.device (effects_of disk disk output output' (unopened (Some WriteFault))) files next c.args.name.now a b r.dump r.packets r.moment c.in_ok-scan_input.scan_input.received
+    r.read r.known r.received r.kept refl refl c.in-Err.ensures.some c.in-Err.ensures.later c.in-Err.ensures.failed

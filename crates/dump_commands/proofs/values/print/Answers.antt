@@ -9,19 +9,19 @@ pub returns-in_err-count : goal.returns-in_err-count
 returns-in_err-count g c =
     let db = c.args.known.now.mdb in
     let number = c.args.known.now.number in
-    let stored = c.args.loaded.now.table.stored in
+    let stored = c.args.received.now.rows.table.stored in
     let first = g.K.Sink.state c.args.sink.now in
     let now = g.K.Sink.state c.print_cells.new.sink in
     let p = err_from_is_err_and c.from_residual.result c.from_residual.ensures.1 in
-    failed_front ℕ c.from_residual.result p.0 first now (lines_of_cells db number stored) (end_of_cells c.args.loaded.now.why (length (cells_of_stored db number stored))) c.print_cells.new.line_buffer []
+    failed_front ℕ c.from_residual.result p.0 first now (lines_of_cells db number stored) (end_of_cells c.args.received.now.end.why (length (cells_of_stored db number stored))) c.print_cells.new.line_buffer []
     p.1 (rw p.2 c.in_err-count.ensures.printed)
 
 pub returns-in_err-flush : goal.returns-in_err-flush
 returns-in_err-flush g c =
     let db = c.args.known.now.mdb in
     let number = c.args.known.now.number in
-    let stored = c.args.loaded.now.table.stored in
-    let end = end_of_cells c.args.loaded.now.why (length (cells_of_stored db number stored)) in
+    let stored = c.args.received.now.rows.table.stored in
+    let end = end_of_cells c.args.received.now.end.why (length (cells_of_stored db number stored)) in
     let first = g.K.Sink.state c.args.sink.now in
     let now = g.K.Sink.state c.print_cells.new.sink in
     let new = g.K.Sink.state c.flush.new.sink in
@@ -34,8 +34,8 @@ pub returns : goal.returns
 returns g c =
     let db = c.args.known.now.mdb in
     let number = c.args.known.now.number in
-    let stored = c.args.loaded.now.table.stored in
-    let end = end_of_cells c.args.loaded.now.why (length (cells_of_stored db number stored)) in
+    let stored = c.args.received.now.rows.table.stored in
+    let end = end_of_cells c.args.received.now.end.why (length (cells_of_stored db number stored)) in
     let first = g.K.Sink.state c.args.sink.now in
     let now = g.K.Sink.state c.print_cells.new.sink in
     let new = g.K.Sink.state c.flush.new.sink in

@@ -21,11 +21,11 @@ pub print-requires-clause-empty : goal.print-requires-clause-empty
 print-requires-clause-empty g c = c.in_ok-scan_input.ensures.empty
 
 pub print-requires-clause-shown : goal.print-requires-clause-shown
-print-requires-clause-shown g c = c.in_ok-scan_input.ensures.read.rows.gathered.shown
+print-requires-clause-shown g c = c.in_ok-scan_input.ensures.read.kept.shown
 
 pub print-requires-clause-few : goal.print-requires-clause-few
 print-requires-clause-few g c =
-    let received = c.in_ok-scan_input.ensures.read in rows_few received.dump received.moment c.in_ok-scan_input.scan_input.loaded received.rows received.short
+    let r = c.in_ok-scan_input.ensures.read in rows_few r.dump r.packets r.moment c.in_ok-scan_input.scan_input.received r.received r.kept r.short
 
 pub print-requires-clause-number : goal.print-requires-clause-number
 print-requires-clause-number g c =
@@ -93,9 +93,9 @@ returns-in-Ok-clause-ran g c = λ disk.
     let read = subst (λ (f : Option Files). WasRead (dump_plan f words.dump) r.dump 1 b d) c.read_mdb.ensures.same r.read in
     let given = inputs_were_read files words a b raw c.in_ok-sheets.ensures.read d r.dump read in
     let output' = g.K.Sink.state c.print.new.sink in
-    let loaded = c.in_ok-scan_input.scan_input.loaded in
+    let received = c.in_ok-scan_input.scan_input.received in
     let known = c.in_ok-known.known in
-    ran_valued g.D.Disk.device (effects_of disk disk output output' (unopened (result_err c.ended.result))) files next words a d raw r.dump r.moment given r.known refl loaded r.rows known.mdb known.number
+    ran_valued g.D.Disk.device (effects_of disk disk output output' (unopened (result_err c.ended.result))) files next words a d raw r.dump r.moment given r.known refl r.packets received r.received r.kept known.mdb known.number
     c.in_ok-known.ensures.known (ap unopened c.ended.ensures) c.in-Ok.ensures
 
 pub returns-clause-ran : goal.returns-clause-ran
@@ -112,10 +112,10 @@ returns-clause-ran g c = λ disk.
     let read = subst (λ (f : Option Files). WasRead (dump_plan f words.dump) r.dump 1 b d) c.read_mdb.ensures.same r.read in
     let given = inputs_were_read files words a b raw c.in_ok-sheets.ensures.read d r.dump read in
     let output' = g.K.Sink.state c.print.new.sink in
-    let loaded = c.in_ok-scan_input.scan_input.loaded in
+    let received = c.in_ok-scan_input.scan_input.received in
     let known = c.in_ok-known.known in
     let from : c.from.result ≡ refusal_of_print c.in-Err.fault = c.from.ensures in
-    ran_some_valued g.D.Disk.device (effects_of disk disk output output' (unopened (Some c.from.result))) files next words a d raw r.dump r.moment given r.known refl loaded r.rows known.mdb known.number
+    ran_some_valued g.D.Disk.device (effects_of disk disk output output' (unopened (Some c.from.result))) files next words a d raw r.dump r.moment given r.known refl r.packets received r.received r.kept known.mdb known.number
     c.in_ok-known.ensures.known c.in-Err.fault (ap (λ (x : Refusal). unopened (Some x)) from) c.in-Err.ensures
 
 pub returns-in_err-sheets-clause-clock : goal.returns-in_err-sheets-clause-clock
