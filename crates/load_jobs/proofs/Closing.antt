@@ -18,7 +18,7 @@ use Rattle.archive_store.specs.StoreView.{IsKeptWithFills, StoreView, archive_of
 use Rattle.live_archive.specs.GoesOn.{GoesOn, NoneFailed, OneFailed}
 use Rattle.live_archive.specs.Images.{HasPendingRows, IsBetween, LeavesBetween}
 use Rattle.load_session.specs.During.{HasBatchInHand, IsDuring}
-use Rattle.load_jobs.specs.Laws.{AFaultIsTheOne, TurnsLeaveASession}
+use Rattle.load_jobs.specs.Laws.{AFaultIsTheOne}
 use Rattle.load_jobs.proofs.OneLink.{fault_alone, some_fault}
 
 -- ---- failed writes
@@ -85,8 +85,5 @@ module _ {D : Type 0} (device : Device D) (first closed : StoreView D) where
 -- ---- the laws
 
 module _ {D : Type 0} (device : Device D) where
-  pub turns_leave_a_session : TurnsLeaveASession device
-  turns_leave_a_session first closed clear goes kept = left_during device first closed clear goes kept
-
   pub a_fault_is_the_one : AFaultIsTheOne device
   a_fault_is_the_one first closed place count addition none goes there = failed_once device first closed none goes place count addition there

@@ -1,7 +1,12 @@
+pub mod Completed
+pub mod Batches
 pub mod Received
 pub mod SentSoFar
 pub mod Taken
+pub mod Pieces
+pub mod Splits
 pub mod Runs
+pub mod Underway
 pub mod Ended
 pub mod OneLink
 pub mod Closing

@@ -4,9 +4,7 @@ use Rattle.std.specs.Prelude.{slice_get}
 use Rattle.std.proofs.Math.Seq.{drop-append_seam}
 use mathlib.Core.List.{IsPrefix}
 use Rattle.refusals.specs.declared.refusal.Refusal.{Refusal}
-use Rattle.refusals.specs.declared.refusal.Refusal.TheVariants.{DiskFault, Limit, NeedsReopen, OutOfMemory}
-use Rattle.refusals.specs.declared.refusal.Which.{Which}
-use Rattle.refusals.specs.declared.refusal.Which.TheVariants.{Records}
+use Rattle.refusals.specs.declared.refusal.Refusal.TheVariants.{DiskFault}
 use Rattle.arch_types.specs.declared.row.Row.{Row}
 use Rattle.history_items.specs.declared.fills.Addition.{Addition}
 use Rattle.history_items.specs.declared.fills.Addition.TheVariants.{Rows}
@@ -22,14 +20,12 @@ use Rattle.shared_history.proofs.Own.{each_row_is_of_a_link, get_drop, rows_of_a
 use Rattle.shared_history.proofs.Sending.{one_link_ingests, sent_stays}
 use Rattle.shared_history.proofs.Putting.{get_begins, put_stays}
 use Rattle.turn_cell.specs.Pass.{PassView}
-use Rattle.archive_store.specs.Limits.{IsLimit}
 use Rattle.archive_store.specs.StoreView.{StoreView}
-use Rattle.live_archive.specs.GoesOn.{dones}
 use Rattle.load_session.specs.declared.session.DumpSummary.{DumpSummary}
 use Rattle.load_session.specs.Receiving.{Receiving, rows_received}
-use Rattle.load_session.specs.Session.{IsSession, IsSessionEnd, next_fresh_rows, next_rows}
-use Rattle.load_jobs.specs.Laws.{FaultIsOfTheBatch, IsOneLink, OneLinkIsASession, OneLinkReaches}
-use Rattle.load_jobs.specs.Links.{HasNoted, IsDumpSent, IsRecordedIn, IsSendingEnd, work_of}
+use Rattle.load_session.specs.Session.{next_fresh_rows}
+use Rattle.load_jobs.specs.Laws.{FaultIsOfTheBatch, IsOneLink, OneLinkReaches}
+use Rattle.load_jobs.specs.Links.{HasNoted, IsDumpSent, work_of}
 
 -- ---- what one link put is all that came
 
@@ -173,40 +169,6 @@ module _ {D T : Type 0} (first : StoreView D) (dump : List ℕ) (r : Receiving) 
         let arrived = rows_received r (take sent.came_to.place sent.came_to.packets) in
         one_link_ingests first.history after arrived put one.is_history whole_put (sent_stays arrived put new.history.seen after one.begins sent.sent)
 
-    -- the limit of records comes of the rows, where no fill came
-    limit_reached : (which : Which) (records : ℕ) → (which ≡ Records → dones new.fills.seen ≡ dones first.fills) → IsRecordedIn first new records
-        → IsLimit first.exponent which records (after_rows sent.came_to.reached (next_rows r sent.came_to))
-        → (began records : ℕ) × (began ≡ first.records) × (records + length first.history ≤ began + length sent.came_to.reached) × IsLimit first.exponent which records (after_rows sent.came_to.reached (next_rows r sent.came_to))
-    limit_reached which records no_fill recorded (inl rows) =
-        let whole = ap length first_begins.1 in
-        let parts = length-append first.history first_begins.0 in
-        let seen = ap length sent.reached in
-        (first.records, first.records, refl, omega (arith, whole, parts, seen), inl rows)
-    limit_reached which records no_fill recorded (inr full) =
-        let same = no_fill full.0 in
-        let seen = ap length sent.reached in
-        (first.records, records, refl, omega (arith, recorded, seen, same), inr full)
-
-    -- it is a session, unless a write had failed in the turn of another
-    pub one_link_session : ((faults : ℕ) → sent.came_to.refusal ≡ Some (NeedsReopen faults) → ⊥) → ((number : ℕ) → sent.came_to.refusal ≡ Some (Limit Records number) → dones new.fills.seen ≡ dones first.fills)
-        → IsSession first.exponent (λ n. n ≡ first.records) first.history dump r sent.came_to
-    one_link_session none_failed no_fill = record {
-      parts = sent.parts;
-      within = sent.within;
-      between = sent.between;
-      reached_is = sym reached_all ∙ one_link_history;
-      cause = end_so sent.came_to.refusal refl sent.cause;
-    }
-      where
-        end_so : (refusal : Option Refusal) → sent.came_to.refusal ≡ refusal → IsSendingEnd first r sent.came_to new refusal → IsSessionEnd first.exponent (λ n. n ≡ first.records) first.history r sent.came_to refusal
-        end_so None is e = e
-        end_so (Some (Limit which number)) is e =
-            (e.0, limit_reached which e.1.0 (λ all. no_fill number (is ∙ ap (λ (w : Which). Some (Limit w number)) all)) e.1.1 e.1.2)
-        end_so (Some (NeedsReopen faults)) is e = absurd (none_failed faults is)
-        end_so (Some DiskFault) is e = tt
-        end_so (Some OutOfMemory) is e = tt
-        end_so (Some other) is e = absurd e
-
 -- ---- the laws
 
 module _ (D T : Type 0) where
@@ -215,9 +177,6 @@ module _ (D T : Type 0) where
     reached_all first dump r put old new answer sent later one,
     one_link_history first dump r put old new answer sent later one,
   )
-
-  pub one_link_is_a_session : OneLinkIsASession D T
-  one_link_is_a_session first dump r put old new answer later sent one none_failed no_fill = one_link_session first dump r put old new answer sent later one none_failed no_fill
 
   pub fault_is_of_the_batch : FaultIsOfTheBatch D T
   fault_is_of_the_batch first dump r put old new answer later fault sent failed begins one = batch_in_hand first dump r put old new answer sent failed later fault begins one

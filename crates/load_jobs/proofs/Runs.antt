@@ -36,14 +36,15 @@ use Rattle.live_archive.specs.Turns.{TookTurn}
 use Rattle.live_archive.proofs.Added.{ingests_add}
 use Rattle.load_session.specs.declared.batches.NextBatch.{NextBatch}
 use Rattle.load_session.specs.declared.session.DumpSummary.{DumpSummary}
-use Rattle.load_session.specs.Batches.{IsNextBatch, batch_at}
+use Rattle.load_session.specs.Batches.{batch_at}
 use Rattle.load_session.specs.Receiving.{Receiving, rows_received}
 use Rattle.load_session.specs.Session.{SessionResult}
-use Rattle.load_session.proofs.Batching.{batch_is, between_is}
-use Rattle.load_session.proofs.Taking.{completes}
 use Rattle.load_jobs.specs.Links.{HasAdded, HasNoted, HoldsBatch, IsDumpSent, IsRecordedIn, IsSendingEnd, batches_of}
-use Rattle.load_jobs.proofs.SentSoFar.{IsSentSoFar, sent_same}
-use Rattle.load_jobs.proofs.Taken.{IsATurnEach, IsTaken, turns_counted}
+use Rattle.load_jobs.specs.Underway.{IsATurnEach, IsSentSoFar}
+use Rattle.load_jobs.proofs.Batches.{IsNextBatch, batch_is, between_is}
+use Rattle.load_jobs.proofs.Completed.{completes}
+use Rattle.load_jobs.proofs.SentSoFar.{sent_same}
+use Rattle.load_jobs.proofs.Taken.{IsTaken, turns_counted}
 
 module _ {D T : Type 0} (first : StoreView D) (dump : List ℕ) (r : Receiving) (old : PassView Item Fill T) where
   -- its turns put rows, and this became of the dump
@@ -66,7 +67,7 @@ module _ {D T : Type 0} (first : StoreView D) (dump : List ℕ) (r : Receiving) 
           came_to = came_to now (so_far ++ more) rest (length so_far) (Some refusal);
           parts = parts;
           within = let l = length-append so_far more in omega (arith, l);
-          between = between_is first dump r so_far more at rest t.cut t.batches parts;
+          between = between_is dump so_far more at rest t.cut t.batches parts;
           reached = refl;
           sent = subst (λ (l : List (List ℕ)). HasSent (rows_received r l) now.history.seen s.put) (sym ones) s.has_sent;
           noted = noted;
@@ -134,7 +135,7 @@ module _ {D T : Type 0} (first : StoreView D) (dump : List ℕ) (r : Receiving) 
         end_with e noted_so = stopped so_far (n.packets ++ more) rest start packets idle routed new e t parts (sent_same r before old mid new so_far noted a s) noted_so one_more
 
         rows : batch_rows taken.batch ≡ rows_received r (batch_at (length so_far) all)
-        rows = n.batch.rows ∙ ap (rows_received r) (sym (batch_is first dump r so_far n.packets more n.few full))
+        rows = n.batch.rows ∙ ap (rows_received r) (sym (batch_is so_far n.packets more n.few full))
 
         history : new.history.seen ≡ before.history
         history = a.history.seen ∙ append-nil before.history

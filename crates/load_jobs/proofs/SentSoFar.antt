@@ -19,13 +19,8 @@ use Rattle.shared_history.proofs.Sending.{batch_is_sent}
 use Rattle.load_session.specs.Receiving.{Receiving, rows_received}
 use Rattle.load_session.proofs.Arrived.{rows-append}
 use Rattle.load_jobs.specs.Links.{HasAdded, work_of}
+use Rattle.load_jobs.specs.Underway.{IsSentSoFar}
 use Rattle.load_jobs.proofs.Received.{fresh_of_link, received_of_link}
-
--- the rows of these packets were sent
-pub record IsSentSoFar {T : Type 0} (r : Receiving) (packets : List (List ℕ)) (old now : PassView Item Fill T) : Type 0 where
-  pub put : List Row
-  pub added : HasAdded r.link put old now
-  pub has_sent : HasSent (rows_received r packets) now.history.seen put
 
 -- a pass without places has put nothing
 pub none_added : {T : Type 0} (link : ℕ) (pass : PassView Item Fill T) → pass.history.places ≡ [] → HasAdded link [] pass pass

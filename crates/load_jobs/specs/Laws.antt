@@ -1,10 +1,9 @@
 -- What follows of the run of a link.
-use Rattle.std.specs.Prelude.{◌≡◌, ℕ, List, [], ◌∷◌, length, slice_get, take, true, IsTrue, Some, Result}
+use Rattle.std.specs.Prelude.{◌≡◌, ℕ, List, [], ◌∷◌, length, slice_get, take, true, Some, Result}
 use mathlib.Core.List.{IsPrefix}
-use Rattle.arch_disk.specs.Disk.{Device, LeavesOnly}
+use Rattle.arch_disk.specs.Disk.{Device}
 use Rattle.refusals.specs.declared.refusal.Refusal.{Refusal}
-use Rattle.refusals.specs.declared.refusal.Refusal.TheVariants.{DiskFault, Limit, NeedsReopen}
-use Rattle.refusals.specs.declared.refusal.Which.TheVariants.{Records}
+use Rattle.refusals.specs.declared.refusal.Refusal.TheVariants.{DiskFault}
 use Rattle.arch_types.specs.declared.row.Row.{Row}
 use Rattle.arch_types.specs.History.{IsHistory}
 use Rattle.history_items.specs.declared.fills.Addition.{Addition}
@@ -12,17 +11,15 @@ use Rattle.history_items.specs.declared.fills.Addition.TheVariants.{Rows}
 use Rattle.history_items.specs.declared.fills.Fill.{Fill}
 use Rattle.history_items.specs.declared.fills.Fill.TheVariants.{Fault}
 use Rattle.history_items.specs.declared.items.Item.{Item}
-use Rattle.history_items.specs.Fills.{rows_of_faults}
 use Rattle.history_items.specs.Items.{after_rows, rows_in}
 use Rattle.store_fills.specs.Faults.{faults_in}
 use Rattle.shared_history.specs.Turns.{ArePlaced}
 use Rattle.turn_cell.specs.Pass.{PassView}
-use Rattle.archive_store.specs.StoreView.{IsKeptWithFills, StoreView, archive_of}
-use Rattle.live_archive.specs.GoesOn.{GoesOn, OneFailed, dones}
+use Rattle.archive_store.specs.StoreView.{StoreView}
+use Rattle.live_archive.specs.GoesOn.{GoesOn, OneFailed}
 use Rattle.load_session.specs.declared.session.DumpSummary.{DumpSummary}
-use Rattle.load_session.specs.During.{IsDuring}
 use Rattle.load_session.specs.Receiving.{Receiving, rows_received}
-use Rattle.load_session.specs.Session.{IsSession, next_fresh_rows}
+use Rattle.load_session.specs.Session.{next_fresh_rows}
 use Rattle.load_jobs.specs.Links.{HasAdded, IsDumpSent, work_of}
 
 -- A link alone put rows behind a first history: it found that one, and each item of a later one that stands behind it
@@ -45,16 +42,6 @@ module _ (D T : Type 0) where
       (later ≡ sent.came_to.reached)
       × (later ≡ after_rows first.history (rows_received r (take sent.came_to.place sent.came_to.packets)))
 
-  -- And its sending is a session, unless a write had failed in the turn of another; where the limit of records is
-  -- passed, if no fill came meanwhile.
-  abbrev pub OneLinkIsASession : Type 0
-  OneLinkIsASession = (first : StoreView D) (dump : List ℕ) (r : Receiving) (put : List Row)
-      (old new : PassView Item Fill T) (answer : Result DumpSummary Refusal) (later : List Item) →
-      (sent : IsDumpSent first dump r put old new answer) → IsOneLink first r.link put old new later →
-      ((faults : ℕ) → sent.came_to.refusal ≡ Some (NeedsReopen faults) → ⊥) →
-      ((number : ℕ) → sent.came_to.refusal ≡ Some (Limit Records number) → dones new.fills.seen ≡ dones first.fills) →
-      IsSession first.exponent (λ n. n ≡ first.records) first.history dump r sent.came_to
-
   -- Where a later fill list has one fault, and the link ended by the disk, that is the fault of its batch in hand.
   abbrev pub FaultIsOfTheBatch : Type 0
   FaultIsOfTheBatch = (first : StoreView D) (dump : List ℕ) (r : Receiving) (put : List Row)
@@ -64,14 +51,6 @@ module _ (D T : Type 0) where
       (count : ℕ) × (faults_in later ≡ Fault count true (Rows (next_fresh_rows r sent.came_to)) ∷ [])
 
 module _ {D : Type 0} (device : Device D) where
-  -- From a store on whose disk holds its archive, power lost during turns leaves what it leaves during a session: a
-  -- history from the first one to the one that they reached, or that with the batch in hand.
-  abbrev pub TurnsLeaveASession : Type 0
-  TurnsLeaveASession = (first closed : StoreView D) → IsTrue device.is_transparent → GoesOn device first closed →
-      IsKeptWithFills device first →
-      LeavesOnly device first.disk closed.disk
-      (IsDuring (archive_of first) closed.history (rows_of_faults closed.fills))
-
   -- A fault by a failed write that came during turns is the only one, and no other call failed.
   abbrev pub AFaultIsTheOne : Type 0
   AFaultIsTheOne = (first closed : StoreView D) (place count : ℕ) (addition : Addition) →

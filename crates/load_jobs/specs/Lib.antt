@@ -1,3 +1,5 @@
 pub mod Links
+pub mod Reading
 pub mod Ends
+pub mod Underway
 pub mod Laws

@@ -1,7 +1,6 @@
 //! Laws of the definitions, carried by functions that do nothing.
 
-ghost use Rattle.load_jobs.specs.Laws.{AFaultIsTheOne, FaultIsOfTheBatch};
-ghost use Rattle.load_jobs.specs.Laws.{OneLinkIsASession, OneLinkReaches, TurnsLeaveASession};
+ghost use Rattle.load_jobs.specs.Laws.{AFaultIsTheOne, FaultIsOfTheBatch, OneLinkReaches};
 
 use arch_disk::Disk;
 
@@ -10,19 +9,9 @@ pub fn one_link_reaches<D: Disk, T>()
     ensures { OneLinkReaches D T }
 {}
 
-/// And its sending is a session.
-pub fn one_link_is_a_session<D: Disk, T>()
-    ensures { OneLinkIsASession D T }
-{}
-
 /// The fault that a link leaves by which the disk failed is that of its batch in hand.
 pub fn fault_is_of_the_batch<D: Disk, T>()
     ensures { FaultIsOfTheBatch D T }
-{}
-
-/// Power lost during turns leaves what it leaves during a session.
-pub fn turns_leave_a_session<D: Disk>()
-    ensures { TurnsLeaveASession D.device }
 {}
 
 /// A fault by a failed write that came during turns is the only one.

@@ -1,13 +1,17 @@
 //! The links of a load, each with a pass of one live archive.
 //!
 //! Stands for: what came of a link, said of its own dump and of its own pass alone (`IsLinkRun`), so that it holds
-//! whatever the others did. A link (`Link`) reads its dump whole, sends the packets in batches of 64, each in a turn,
-//! and wakes a filler after each that was acknowledged, by a send that never waits. For sessions of several jobs.
+//! whatever the others did. A link (`Link`) reads its dump in pieces, sends its packets in batches of 64, each in a
+//! turn, and wakes a filler after each that was acknowledged, by a send that never waits. Where it stops reading it
+//! sends what is in hand, so that the packets before a failed read, a bad packet or the limit are ingested. For
+//! sessions of several jobs.
 //!
-//! The idea of the proofs: what a link's turns put, and what it knows of its rows, goes on batch by batch by the laws
-//! of shared_history (proofs/SentSoFar.antt). What follows where one link alone put rows is in proofs/OneLink.antt.
+//! The idea of the proofs: what was read is the packets that were sent, those in hand, and what waits
+//! (`IsUnderway`), so that it is a dump of its own (`IsDumpSent`). What the turns put goes on batch by batch by the
+//! laws of shared_history (proofs/SentSoFar.antt). What follows where one link alone put rows is in
+//! proofs/OneLink.antt.
 //!
-//! Begin with `IsLinkRun` and `run_link`, and then `IsDumpSent`.
+//! Begin with `IsLinkRun` and `run_link`, and then `IsDumpSent` and `IsUnderway`.
 #![tactic(auto)]
 
 mod ending;

@@ -1,16 +1,18 @@
-//! The packets of a dump, sent batch by batch.
+//! The packets of a dump, sent batch by batch as they are read.
 
-ghost use Rattle.std.specs.Prelude.{◌≡◌, ◌≤◌, [], length, List};
-ghost use Rattle.arch_types.specs.declared.row.Row.{Row as ARow};
+ghost use Rattle.std.specs.Prelude.{◌≡◌, ◌+◌, ◌-◌, ◌^◌, ◌≤◌, ◌<◌, ◌++◌, [], Err, length, IfErr, IfOk, OnOk};
 ghost use Rattle.refusals.specs.Limits.{limit_of};
 ghost use Rattle.refusals.specs.declared.refusal.Which.TheVariants as limits;
+ghost use Rattle.arch_types.specs.Dump.{BeginsWithNoPacket};
 ghost use Rattle.field_codec.specs.declared.entry.Entry.TheVariants as entries;
 ghost use Rattle.field_codec.specs.Entries.{IsArchiveEntry};
-ghost use Rattle.history_items.specs.Items.{databases_in};
+ghost use Rattle.space_packet.specs.Rest.{why_of};
 ghost use Rattle.text_forms.specs.ClockTime.{IsClockTime};
 ghost use Rattle.turn_cell.specs.Pass.{IsFree};
+ghost use Rattle.load_session.specs.Batches.{HasTakenWaiting};
 ghost use Rattle.load_session.specs.Receiving.{receiving, IsRouteOver};
-ghost use Rattle.load_jobs.specs.Links.{HasAdded, IsDumpSent};
+ghost use Rattle.load_jobs.specs.Reading.{is_version};
+ghost use Rattle.load_jobs.specs.Underway.{CountsStay, EndsSending, IsInHand, IsWithinLimit, RefusesInHand, SendsInHand, SendsWaiting, summary_of};
 
 use arch_disk::Disk;
 use arch_types::octets::Octets;
@@ -18,11 +20,12 @@ use archive_store::Head;
 use container_extract::Extractor;
 use crossbeam_channel::Sender;
 use live_archive::{Live, LivePass};
-use load_session::{DumpSummary, next_batch};
+use load_session::{BATCH, DumpSummary, NextBatch, take_waiting};
 use outer_traits::gate::Gate;
 use refusals::Refusal;
-use space_packet::dump::DumpPackets;
-use std::alloc::Global;
+use space_packet::dump::Why;
+use space_packet::splitter::Splitter;
+use std::alloc::{AllocError, Global};
 use std::sync::Wait;
 use stream_graph::graph::Graph;
 
@@ -38,72 +41,241 @@ pub struct Reception<'a> {
     pub moment: i64,
 }
 
-/// Ingests the packets of a dump in batches of 64, each in a turn, and wakes a filler after each that was
-/// acknowledged. At the first that is refused it stops.
+/// Where a link is in its dump.
+#[derive(Drop)]
+pub(crate) struct Progress {
+    /// What was read of it, behind the packets that were taken.
+    splitter: Splitter,
+    extractor: Extractor,
+    /// The batch in hand.
+    taken: NextBatch,
+    /// The packets that were sent, idle ones counted too.
+    packets: u64,
+    idle: u64,
+    /// The rows that the others were.
+    routed: u64,
+    /// How many batches were sent.
+    turn: u64,
+}
+
+impl Progress {
+    /// That of a link that has read nothing.
+    pub(crate) fn new(alloc: Global, moment: i64) -> Result<Self, AllocError>
+        ensures waiting { IfOk result (λ p. p.splitter ≡ record { at = 0; octets = [] }) }
+        ensures none { IfOk result (λ p. (p.taken.packets ≡ 0) × (p.taken.batch.arrivals ≡ [])
+            × (p.taken.batch.rectime ≡ moment)) }
+        ensures counts { IfOk result (λ p. (p.packets ≡ 0) × (p.idle ≡ 0) × (p.routed ≡ 0)) }
+    {
+        Ok(Progress {
+            splitter: Splitter::new(alloc),
+            extractor: Extractor::new(alloc)?,
+            taken: NextBatch::empty(alloc, moment),
+            packets: 0,
+            idle: 0,
+            routed: 0,
+            turn: 0,
+        })
+    }
+
+    /// Adds the next piece that was read, whose block is shared. There's no room for 2^64 octets or more.
+    pub(crate) fn feed(&mut self, piece: &Octets) -> Result<(), AllocError>
+        ensures fed { OnOk result (self.new.splitter ≡ record {
+          at = self.old.splitter.at;
+          octets = self.old.splitter.octets ++ piece.now;
+        }) }
+        ensures in_hand { self.new.taken ≡ self.old.taken }
+        ensures counts { CountsStay self.old self.new }
+    {
+        self.splitter.feed(piece)
+    }
+
+    /// Whether another packet version number than 000 waits, so that no packet follows.
+    pub(crate) fn is_at_version(&self) -> bool
+        ensures { result ≡ is_version (why_of self.now.splitter.octets) }
+    {
+        matches!(self.splitter.end(), Why::Version)
+    }
+
+    /// Takes packets that wait in hand, until they are a batch, or none waits whole.
+    fn take_in_hand(&mut self, alloc: Global, reception: &Reception<'_>) -> Result<(), AllocError>
+        requires link { (1 ≤ reception.now.link) × (reception.now.link ≤ limit_of limits.Links) }
+        requires moment { IsClockTime reception.now.moment }
+        requires received { self.old.taken.batch.rectime ≡ reception.now.moment }
+        requires head { IsArchiveEntry (entries.Head reception.now.head.now.tables reception.now.head.now.mdb) }
+        requires route { IsRouteOver reception.now.head.now reception.now.graph.now }
+        ensures taken { OnOk result (HasTakenWaiting (receiving reception.now.head.now [] reception.now.graph.now
+            reception.now.link reception.now.moment) self.old.splitter self.new.splitter self.old.taken self.new.taken) }
+        ensures last { OnOk result (self.new.taken.packets < 64 → BeginsWithNoPacket self.new.splitter.octets) }
+        ensures counts { CountsStay self.old self.new }
+    {
+        take_waiting(
+            alloc,
+            reception.head,
+            reception.graph,
+            &mut self.splitter,
+            &mut self.extractor,
+            &mut self.taken,
+            reception.link,
+        )
+    }
+
+    /// Counts the batch in hand as sent, whose packets came to so many rows, and begins the next one.
+    fn begin_next(&mut self, alloc: Global, rows: usize)
+        requires packets { self.old.packets + self.old.taken.packets < 2 ^ 64 }
+        requires arrivals { length self.old.taken.batch.arrivals ≤ self.old.taken.packets }
+        requires idle { self.old.idle ≤ self.old.packets }
+        requires routed { self.old.routed + rows < 2 ^ 64 }
+        ensures packets { self.new.packets ≡ self.old.packets + self.old.taken.packets }
+        ensures idle { self.new.idle ≡ self.old.idle
+            + (self.old.taken.packets - length self.old.taken.batch.arrivals) }
+        ensures routed { self.new.routed ≡ self.old.routed + rows }
+        ensures waiting { self.new.splitter ≡ self.old.splitter }
+        ensures none { (self.new.taken.packets ≡ 0) × (self.new.taken.batch.arrivals ≡ [])
+            × (self.new.taken.batch.rectime ≡ self.old.taken.batch.rectime) }
+    {
+        self.packets += self.taken.packets;
+        self.idle += self.taken.packets - self.taken.batch.arrivals.as_slice().len() as u64;
+        self.routed += rows as u64;
+        self.taken = NextBatch::empty(alloc, self.taken.batch.rectime);
+    }
+
+    /// What the dump had, where all packets of it were sent.
+    fn summary(&self) -> DumpSummary
+        ensures { result ≡ summary_of self.now }
+    {
+        DumpSummary {
+            packets: self.packets,
+            idle: self.idle,
+            routed: self.routed,
+            at: self.splitter.at(),
+            why: self.splitter.end(),
+        }
+    }
+}
+
+/// Sends the packets that wait, a batch whenever 64 of them are in hand. Fewer stay in hand.
 ///
-/// Refuses by a `Limit` of the history, by `NeedsReopen` where the disk failed in the turn of another, by `DiskFault`
-/// where it did in its own, or by `OutOfMemory`.
-pub(crate) fn send_dump<D: Disk, G: Gate, R: Wait>(
+/// Refuses as `send_in_hand` does, or by `OutOfMemory`.
+pub(crate) fn send_waiting<D: Disk, G: Gate, R: Wait>(
     rt: &R,
     alloc: Global,
     live: &Live<D>,
     pass: &mut LivePass<D>,
     reception: &Reception<'_>,
-    dump: &Octets,
+    progress: &mut Progress,
     wake: &Sender<()>,
     gate: &G,
     number: u32,
-) -> Result<DumpSummary, Refusal>
+) -> Result<(), Refusal>
     requires free { IsFree live.now.cell pass.old }
-    requires fresh { pass.old.history.places ≡ [] }
-    requires short { length dump.now ≤ limit_of limits.DumpOctets }
     requires link { (1 ≤ reception.now.link) × (reception.now.link ≤ limit_of limits.Links) }
     requires moment { IsClockTime reception.now.moment }
     requires head { IsArchiveEntry (entries.Head reception.now.head.now.tables reception.now.head.now.mdb) }
     requires of_archive { reception.now.head.now ≡ live.now.cell.first.store.head }
     requires route { IsRouteOver reception.now.head.now reception.now.graph.now }
-    // Nothing adds a database to a history yet.
-    requires alone { databases_in pass.old.history.seen ≡ [] }
+    requires in_hand { IsInHand (receiving reception.now.head.now [] reception.now.graph.now reception.now.link
+        reception.now.moment) progress.old.taken }
+    requires within { IsWithinLimit progress.old }
     ensures free { IsFree live.now.cell pass.new }
-
-    // Its turns put rows, and these are what became of its dump.
-    ensures sent { (put : List ARow) × HasAdded reception.now.link put pass.old pass.new
-        × IsDumpSent live.now.cell.first.store dump.now (receiving reception.now.head.now pass.old.history.seen
-        reception.now.graph.now reception.now.link reception.now.moment) put pass.old pass.new result }
+    ensures sent { OnOk result (SendsWaiting (receiving reception.now.head.now [] reception.now.graph.now
+        reception.now.link reception.now.moment) pass.old pass.new progress.old progress.new) }
+    ensures refused { IfErr result (λ refusal. EndsSending live.now.cell.first.store (receiving
+        reception.now.head.now [] reception.now.graph.now reception.now.link reception.now.moment) pass.old pass.new
+        progress.old (Err refusal)) }
+    ensures within { OnOk result (IsWithinLimit progress.new) }
+    ensures level { OnOk result (progress.new.splitter.at + length progress.new.splitter.octets
+        ≡ progress.old.splitter.at + length progress.old.splitter.octets) }
+    ensures in_hand { OnOk result (IsInHand (receiving reception.now.head.now [] reception.now.graph.now
+        reception.now.link reception.now.moment) progress.new.taken) }
 {
-    let mut places = DumpPackets::new(dump.as_slice());
-    let mut extractor = Extractor::new(alloc)?;
-    let mut packets = 0;
-    let mut idle = 0;
-    let mut routed = 0;
-    let mut turn: u64 = 0;
     'batches: loop {
-        let taken = next_batch(
-            alloc,
-            reception.head,
-            reception.graph,
-            dump,
-            &mut places,
-            &mut extractor,
-            reception.link,
-            reception.moment,
-        )?;
-        if taken.packets == 0 {
-            return Ok(DumpSummary {
-                packets,
-                idle,
-                routed,
-                at: places.at(),
-                why: places.why(),
-            });
+        progress.take_in_hand(alloc, reception)?;
+        if progress.taken.packets < BATCH {
+            return Ok(());
         }
-        packets += taken.packets;
-        idle += taken.packets - taken.batch.arrivals.as_slice().len() as u64;
-        turn = turn.saturating_add(1);
-        gate.pass(number, turn);
-        let ingested = live.ingest(rt, alloc, pass, &taken.batch)?;
-        // A wake-up that is refused for memory is passed over: what is late is filled behind the jobs all the same.
-        let _ = wake.try_send(rt, ());
-        routed += ingested.outcomes.as_slice().len() as u64;
+        send_in_hand(
+            rt, alloc, live, pass, reception, progress, wake, gate, number,
+        )?;
     }
+}
+
+/// Sends what is left in hand of a dump of which no more is read.
+pub(crate) fn send_rest<D: Disk, G: Gate, R: Wait>(
+    rt: &R,
+    alloc: Global,
+    live: &Live<D>,
+    pass: &mut LivePass<D>,
+    reception: &Reception<'_>,
+    progress: &mut Progress,
+    wake: &Sender<()>,
+    gate: &G,
+    number: u32,
+) -> Result<DumpSummary, Refusal>
+    requires free { IsFree live.now.cell pass.old }
+    requires link { (1 ≤ reception.now.link) × (reception.now.link ≤ limit_of limits.Links) }
+    requires moment { IsClockTime reception.now.moment }
+    requires head { IsArchiveEntry (entries.Head reception.now.head.now.tables reception.now.head.now.mdb) }
+    requires of_archive { reception.now.head.now ≡ live.now.cell.first.store.head }
+    requires route { IsRouteOver reception.now.head.now reception.now.graph.now }
+    requires in_hand { IsInHand (receiving reception.now.head.now [] reception.now.graph.now reception.now.link
+        reception.now.moment) progress.old.taken }
+    requires within { IsWithinLimit progress.old }
+    requires none_waits { BeginsWithNoPacket progress.old.splitter.octets }
+    ensures free { IsFree live.now.cell pass.new }
+    ensures sent { EndsSending live.now.cell.first.store (receiving reception.now.head.now []
+        reception.now.graph.now reception.now.link reception.now.moment) pass.old pass.new progress.old result }
+    ensures why { IfOk result (λ summary. summary.why ≡ why_of progress.old.splitter.octets) }
+{
+    if progress.taken.packets == 0 {
+        return Ok(progress.summary());
+    }
+    send_in_hand(
+        rt, alloc, live, pass, reception, progress, wake, gate, number,
+    )?;
+    Ok(progress.summary())
+}
+
+/// Ingests the batch in hand in a turn, and wakes a filler once it is acknowledged.
+///
+/// Refuses by a `Limit` of the history, by `NeedsReopen` where the disk failed in the turn of another, by `DiskFault`
+/// where it did in its own, or by `OutOfMemory`.
+fn send_in_hand<D: Disk, G: Gate, R: Wait>(
+    rt: &R,
+    alloc: Global,
+    live: &Live<D>,
+    pass: &mut LivePass<D>,
+    reception: &Reception<'_>,
+    progress: &mut Progress,
+    wake: &Sender<()>,
+    gate: &G,
+    number: u32,
+) -> Result<(), Refusal>
+    requires free { IsFree live.now.cell pass.old }
+    requires link { (1 ≤ reception.now.link) × (reception.now.link ≤ limit_of limits.Links) }
+    requires moment { IsClockTime reception.now.moment }
+    requires head { IsArchiveEntry (entries.Head reception.now.head.now.tables reception.now.head.now.mdb) }
+    requires of_archive { reception.now.head.now ≡ live.now.cell.first.store.head }
+    requires route { IsRouteOver reception.now.head.now reception.now.graph.now }
+    requires in_hand { IsInHand (receiving reception.now.head.now [] reception.now.graph.now reception.now.link
+        reception.now.moment) progress.old.taken }
+    requires within { IsWithinLimit progress.old }
+    requires some { 0 < progress.old.taken.packets }
+    ensures free { IsFree live.now.cell pass.new }
+    ensures sent { OnOk result (SendsInHand (receiving reception.now.head.now [] reception.now.graph.now
+        reception.now.link reception.now.moment) pass.old pass.new progress.old progress.new) }
+    ensures refused { IfErr result (λ refusal. RefusesInHand live.now.cell.first.store (receiving
+        reception.now.head.now [] reception.now.graph.now reception.now.link reception.now.moment) pass.old pass.new
+        progress.old refusal) }
+    ensures within { OnOk result (IsWithinLimit progress.new) }
+    ensures waiting { progress.new.splitter ≡ progress.old.splitter }
+    ensures none { OnOk result ((progress.new.taken.packets ≡ 0) × (progress.new.taken.batch.arrivals ≡ [])
+        × (progress.new.taken.batch.rectime ≡ reception.now.moment)) }
+{
+    progress.turn = progress.turn.saturating_add(1);
+    gate.pass(number, progress.turn);
+    let ingested = live.ingest(rt, alloc, pass, &progress.taken.batch)?;
+    // A wake-up that is refused for memory is passed over: what is late is filled behind the jobs all the same.
+    let _ = wake.try_send(rt, ());
+    progress.begin_next(alloc, ingested.outcomes.as_slice().len());
+    Ok(())
 }

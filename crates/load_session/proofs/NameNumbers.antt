@@ -23,7 +23,7 @@ use Rattle.mdb_items.specs.Texts.{Text, place_of}
 use Rattle.mdb_model.proofs.Structure.{structured}
 use Rattle.stream_graph.specs.RouteTables.{route_of}
 use Rattle.stream_graph.specs.declared.statement.RouteStatement.{RouteStatement}
-use Rattle.load_session.specs.Batches.{IsNextBatch}
+use Rattle.load_session.specs.Batches.{IsTakenFor}
 use Rattle.load_session.specs.Receiving.{name_number, receiving, rows_received}
 use Rattle.load_session.specs.declared.batches.NextBatch.{NextBatch}
 
@@ -94,18 +94,16 @@ same_rows head history route link moment packets alone =
     arrivals link moment (name_number names db) (λ packet. route_of route (row_of link moment (name_number names db) packet 0)) packets in
     ap (λ (names : List Text). rows names head.mdb) (sym (names_of_head head.mdb history alone)) ∙ ap (rows (names_in head.mdb history)) (sym (in_force head.mdb history alone))
 
--- so that a batch that was taken behind no item is one behind such a history
-pub taken_behind : (dump : List ℕ) (start end : ℕ) (head : Head) (history : List Item) (route : List RouteStatement) (link : ℕ) (moment : ℤ) (taken : NextBatch) → databases_in history ≡ [] →
-    IsNextBatch dump start end (receiving head [] route link moment) taken → IsNextBatch dump start end (receiving head history route link moment) taken
-taken_behind dump start end head history route link moment taken alone is = record {
-  packets = is.packets;
-  run = is.run;
+-- so that packets that were taken for a batch behind no item were behind such a history
+pub taken_for_behind : (head : Head) (history : List Item) (route : List RouteStatement) (link : ℕ) (moment : ℤ) (packets : List (List ℕ)) (taken : NextBatch) → databases_in history ≡ [] →
+    IsTakenFor (receiving head [] route link moment) packets taken → IsTakenFor (receiving head history route link moment) packets taken
+taken_for_behind head history route link moment packets taken alone is = record {
   count = is.count;
   few = is.few;
   batch = record {
     received = is.batch.received;
     takes = λ later begins. is.batch.takes later (later, refl);
-    rows = is.batch.rows ∙ same_rows head history route link moment is.packets alone;
+    rows = is.batch.rows ∙ same_rows head history route link moment packets alone;
     count = is.batch.count;
   };
 }

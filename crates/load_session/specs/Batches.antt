@@ -4,7 +4,7 @@ use Rattle.std.specs.Prelude.{◌≡◌, ℕ, ◌+◌, ◌≤◌, List, [], ◌�
 use Rattle.arch_types.specs.Arrivals.{row_of}
 use Rattle.arch_types.specs.Packet.{is_idle}
 use Rattle.history_items.specs.declared.items.Item.{Item}
-use Rattle.space_packet.specs.Cut.{IsCut}
+use Rattle.space_packet.specs.Waiting.{IsSplitSoFar, Waiting}
 use Rattle.archive_store.specs.declared.batch.Arrival.{Arrival}
 use Rattle.archive_store.specs.declared.batch.Batch.{Batch}
 use Rattle.archive_store.specs.Batches.{batch_rows, IsBatch}
@@ -24,11 +24,6 @@ arrival_from r packet =
 abbrev pub arrivals_with : Receiving → List Arrival → List ℕ → List Arrival
 arrivals_with r before packet = if is_idle packet then before else before ++ arrival_from r packet ∷ []
 
--- the octets of a dump from one place to another are these packets joined
-pub record IsPacketRun (dump : List ℕ) (start : ℕ) (packets : List (List ℕ)) (end : ℕ) : Type 0 where
-  pub rising : start + length packets ≤ end
-  pub follows : (before : List (List ℕ)) → IsCut dump before start → IsCut dump (before ++ packets) end
-
 -- the batch of packets: those that aren't idle, in their order; a store of the head takes it behind any history that begins with theirs
 pub record IsBatchOf (r : Receiving) (packets : List (List ℕ)) (batch : Batch) : Type 0 where
   pub received : batch.rectime ≡ r.moment
@@ -36,10 +31,17 @@ pub record IsBatchOf (r : Receiving) (packets : List (List ℕ)) (batch : Batch)
   pub rows : batch_rows batch ≡ rows_received r packets
   pub count : length batch.arrivals ≡ arrived packets
 
--- packets that were taken from a dump for a batch
-pub record IsNextBatch (dump : List ℕ) (start end : ℕ) (r : Receiving) (taken : NextBatch) : Type 0 where
-  pub packets : List (List ℕ)
-  pub run : IsPacketRun dump start packets end
+-- these packets, no more than a batch takes, were taken for it
+pub record IsTakenFor (r : Receiving) (packets : List (List ℕ)) (taken : NextBatch) : Type 0 where
   pub count : taken.packets ≡ length packets
   pub few : length packets ≤ 64
   pub batch : IsBatchOf r packets taken.batch
+
+-- Packets that waited first were taken for a batch behind those that it has: what is behind them waits.
+pub record HasTakenWaiting (r : Receiving) (old new : Waiting) (before after : NextBatch) : Type 0 where
+  pub packets : List (List ℕ)
+  pub rising : old.at + length packets ≤ new.at
+  pub level : new.at + length new.octets ≡ old.at + length old.octets
+  pub split : (read : List ℕ) (had : List (List ℕ)) → IsSplitSoFar read had old
+      → IsSplitSoFar read (had ++ packets) new
+  pub taken : (had : List (List ℕ)) → IsTakenFor r had before → IsTakenFor r (had ++ packets) after

@@ -1,6 +1,6 @@
 //! Batches of the packets of a dump.
 
-ghost use Rattle.std.specs.Prelude.{◌≡◌, ◌+◌, ◌<◌, ◌≤◌, [], drop, IfOk, OnOk};
+ghost use Rattle.std.specs.Prelude.{◌≡◌, ◌+◌, ◌<◌, ◌≤◌, [], IfOk, OnOk};
 ghost use Rattle.refusals.specs.Limits.{limit_of};
 ghost use Rattle.refusals.specs.declared.refusal.Which.TheVariants as limits;
 ghost use Rattle.arch_types.specs.Dump.{BeginsWithNoPacket};
@@ -9,19 +9,19 @@ ghost use Rattle.text_forms.specs.ClockTime.{IsClockTime};
 ghost use Rattle.field_codec.specs.declared.entry.Entry.TheVariants as entries;
 ghost use Rattle.field_codec.specs.Entries.{IsArchiveEntry};
 ghost use Rattle.mdb_items.specs.Database.{IsDatabase};
-ghost use Rattle.load_session.specs.Batches.{arrival_from, arrivals_with, IsNextBatch};
+ghost use Rattle.load_session.specs.Batches.{arrival_from, arrivals_with, HasTakenWaiting};
 ghost use Rattle.load_session.specs.Receiving.{receiving, IsRouteOver};
 
 use arch_types::octets::Octets;
 use archive_store::{Arrival, Arrivals, Batch, Head, received_row};
 use container_extract::Extractor;
-use space_packet::dump::DumpPackets;
 use space_packet::header::is_idle_packet;
+use space_packet::splitter::{SplitFault, Splitter};
 use std::alloc::{AllocError, Global};
 use stream_graph::graph::Graph;
 
 /// Successive packets that a batch takes, idle ones counted too.
-const BATCH: u64 = 64;
+pub const BATCH: u64 = 64;
 
 /// Packets that were taken from a dump for a batch, from which idle ones are left out.
 #[derive(Drop)]
@@ -31,46 +31,51 @@ pub struct NextBatch {
     pub packets: u64,
 }
 
-/// Takes the next packets of a dump for a batch: fewer than it takes only where no more follow. Their packet names are those of the
-/// head's database, as they are behind rows alone.
-pub fn next_batch(
+/// Takes packets of a dump that wait, for a batch behind those that it has: until it is full, or none waits whole. Their
+/// packet names are those of the head's database, as they are behind rows alone. The one error is want of memory.
+pub fn take_waiting(
     alloc: Global,
     head: &Head,
     graph: &Graph,
-    dump: &Octets,
-    places: &mut DumpPackets<'_>,
+    splitter: &mut Splitter,
     extractor: &mut Extractor,
+    taken: &mut NextBatch,
     link: u16,
-    moment: i64,
-) -> Result<NextBatch, AllocError>
-    requires dump { places.old.dump ≡ dump.now }
+) -> Result<(), AllocError>
     requires link { (1 ≤ link) × (link ≤ limit_of limits.Links) }
-    requires moment { IsClockTime moment }
+    requires moment { IsClockTime taken.old.batch.rectime }
     requires head { IsArchiveEntry (entries.Head head.now.tables head.now.mdb) }
     requires route { IsRouteOver head.now graph.now }
-    ensures dump { places.new.dump ≡ places.old.dump }
-    ensures taken { IfOk result (IsNextBatch dump.now places.old.at places.new.at
-        (receiving head.now [] graph.now link moment)) }
-    ensures last { IfOk result (λ taken. taken.packets < 64 → BeginsWithNoPacket (drop places.new.at dump.now)) }
+    ensures taken { OnOk result (HasTakenWaiting (receiving head.now [] graph.now link taken.old.batch.rectime)
+        splitter.old splitter.new taken.old taken.new) }
+    ensures last { OnOk result (taken.new.packets < 64 → BeginsWithNoPacket splitter.new.octets) }
+    ensures received { taken.new.batch.rectime ≡ taken.old.batch.rectime }
 {
-    let mut taken = NextBatch {
-        batch: Batch {
-            rectime: moment,
-            arrivals: Arrivals::new(alloc),
-        },
-        packets: 0,
-    };
     while taken.packets < BATCH {
-        let Some(range) = places.next_packet() else {
-            return Ok(taken);
-        };
-        let packet = dump.slice(range.start, range.end)?;
-        taken.add(alloc, head, graph, extractor, packet, link)?;
+        match splitter.next_packet() {
+            Ok(Some(packet)) => taken.add(alloc, head, graph, extractor, packet, link)?,
+            Ok(None) | Err(SplitFault::Version { .. }) => return Ok(()),
+            Err(SplitFault::OutOfMemory) => return Err(AllocError),
+        }
     }
-    Ok(taken)
+    Ok(())
 }
 
 impl NextBatch {
+    /// None yet of a batch that is received at a moment. Takes no memory.
+    pub fn empty(alloc: Global, moment: i64) -> Self
+        ensures none { (result.packets ≡ 0) × (result.batch.arrivals ≡ []) }
+        ensures received { result.batch.rectime ≡ moment }
+    {
+        NextBatch {
+            batch: Batch {
+                rectime: moment,
+                arrivals: Arrivals::new(alloc),
+            },
+            packets: 0,
+        }
+    }
+
     /// Adds a packet of a link, and the tables of a route that it goes into.
     fn add(
         &mut self,

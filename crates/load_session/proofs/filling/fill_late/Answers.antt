@@ -4,7 +4,7 @@ use Rattle.store_fills.specs.Built.{IsTaskRows}
 use Rattle.store_fills.specs.declared.task.FillTask.{FillTask}
 use Rattle.archive_store.specs.Tasks.{BeginsTask, IsFillBegun}
 use Rattle.archive_store.proofs.Calls.{passed_on}
-use Rattle.archive_store.proofs.UnreadRows.{refusal_is_memory}
+use Rattle.archive_store.proofs.UnreadRows.{refusal_is_memory, refusal_same}
 use Rattle.load_session.specs.Filling.{IsFilledOn, IsFillingRefusal, IsUnfailed}
 use Rattle.load_session.proofs.FilledTasks.{begun_task, filling_done, filling_first, filling_next, filling_refused, filled_so_far, given_up, less_left}
 use Rattle.load_session.proofs.filling.fill_late.Goals as goal
@@ -77,7 +77,8 @@ returns-in_default-clause-left g c =
 pub returns-in_err-task-clause-left : goal.returns-in_err-task-clause-left
 returns-in_err-task-clause-left g c =
     let s = c.fills.store in
-    subst (IsFilledOn c.args.store.now) (sym c.in_err-task.ensures.same) (filled_so_far g.D.Disk.device c.args.store.now s c.fills.filled c.fills.invariant)
+    let same = refusal_same g.D.Disk.device s c.begin.new.self c.in_err-task.field-0.0 c.in_err-task.ensures.same in
+    subst (IsFilledOn c.args.store.now) (sym same) (filled_so_far g.D.Disk.device c.args.store.now s c.fills.filled c.fills.invariant)
 
 pub returns-in_err-task-clause-refused : goal.returns-in_err-task-clause-refused
 returns-in_err-task-clause-refused g c =
@@ -85,6 +86,7 @@ returns-in_err-task-clause-refused g c =
     let s = c.fills.store in
     let n = c.begin.new.self in
     let e = c.in_err-task.ensures in
-    let memory = refusal_is_memory device s n c.in_err-task.field-0.0 e.refused e.same in
+    let memory = refusal_is_memory device s n c.in_err-task.field-0.0 e.refused in
+    let same = refusal_same device s n c.in_err-task.field-0.0 e.same in
     passed_on c.from_residual.result c.in_err-task.field-0.0 (IsFillingRefusal device c.args.store.now n) c.from_residual.ensures.1
-    (subst (IsFillingRefusal device c.args.store.now n) (sym memory) (subst (IsUnfailed device c.args.store.now) (sym e.same) c.fills.invariant.unfailed))
+    (subst (IsFillingRefusal device c.args.store.now n) (sym memory) (subst (IsUnfailed device c.args.store.now) (sym same) c.fills.invariant.unfailed))

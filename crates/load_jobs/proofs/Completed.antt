@@ -1,6 +1,5 @@
--- Packets that are taken from a dump.
-use Rattle.std.proofs.Common.{◌≡◌, ◌⊎◌, inl, inr, ℕ, zero, suc, ◌<◌, ◌≤◌, List, [], ◌∷◌, ◌++◌, length, get_or, take, drop, Bool, true, false, refl, sym, ap, subst, ◌∙◌, arith, append-nil, append_assoc, length-append, ltb}
-use Rattle.std.specs.Prelude.{slice_range}
+-- Packets before a place of a dump are the first of all.
+use Rattle.std.proofs.Common.{◌≡◌, ◌⊎◌, inl, inr, ℕ, zero, suc, ◌<◌, ◌≤◌, List, [], ◌∷◌, ◌++◌, length, get_or, take, drop, Bool, true, false, refl, sym, ap, ◌∙◌, arith, append_assoc, length-append, ltb}
 use Rattle.std.specs.List.{concat}
 use Rattle.std.proofs.Math.ListN.{get_or-append}
 use Rattle.std.proofs.lemmas.Bool.{ltb-true, ltb-false}
@@ -9,10 +8,7 @@ use Rattle.std.proofs.lemmas.List.Elements.{All-nil, All-cons, All-append}
 use Rattle.std.proofs.lemmas.List.Folds.{concat-append}
 use Rattle.arch_types.specs.Dump.{IsDump, BeginsWithNoPacket}
 use Rattle.arch_types.specs.Packet.{IsPacket, packet_length}
-use Rattle.arch_types.proofs.Slices.{slice_length}
-use Rattle.space_packet.specs.Cut.{IsCut, IsPacketRange}
-use Rattle.space_packet.proofs.Cuts.{cut_more}
-use Rattle.load_session.specs.Batches.{IsPacketRun}
+use Rattle.space_packet.specs.Cut.{IsCut}
 
 -- ---- each dump has packets and a rest
 
@@ -115,22 +111,3 @@ completes dump packets at cut =
         no_more = d.no_more;
       },
     )
-
--- ---- runs of packets
-
-pub run_none : (dump : List ℕ) (at : ℕ) → IsPacketRun dump at [] at
-run_none dump at = record {
-  rising = omega arith;
-  follows = λ before cut. subst (λ (l : List (List ℕ)). IsCut dump l at) (sym (append-nil before)) cut;
-}
-
-pub run_more : (dump : List ℕ) (start : ℕ) (packets : List (List ℕ)) (mid end : ℕ) → IsPacketRun dump start packets mid → IsPacketRange dump mid end → IsPacketRun dump start (packets ++ slice_range dump mid end ∷ []) end
-run_more dump start packets mid end run range =
-    let rising = run.rising in
-    let header = range.packet.header in
-    let len = slice_length dump mid end range.rising range.within in
-    record {
-      rising = omega (arith, rising, header, len, length-append packets (slice_range dump mid end ∷ []));
-      follows = λ before cut.
-          subst (λ (l : List (List ℕ)). IsCut dump l end) (append_assoc before packets (slice_range dump mid end ∷ [])) (cut_more dump (before ++ packets) mid end (run.follows before cut) range);
-    }

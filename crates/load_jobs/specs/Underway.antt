@@ -1,0 +1,173 @@
+-- A link between its turns.
+use Rattle.std.specs.Prelude.{◌≡◌, ℕ, ℤ, ◌+◌, ◌*◌, ◌<◌, ◌≤◌, List, [], ◌++◌, length, Option, Result, Err}
+use Rattle.arch_types.specs.declared.row.Row.{Row}
+use Rattle.arch_types.specs.Dump.{BeginsWithNoPacket}
+use Rattle.refusals.specs.declared.refusal.Refusal.{Refusal}
+use Rattle.refusals.specs.declared.refusal.Which.TheVariants.{DumpOctets}
+use Rattle.refusals.specs.Limits.{limit_of}
+use Rattle.history_items.specs.declared.fills.Fill.{Fill}
+use Rattle.history_items.specs.declared.items.Item.{Item}
+use Rattle.history_items.specs.Items.{databases_in}
+use Rattle.shared_history.specs.Sent.{HasSent}
+use Rattle.space_packet.specs.Rest.{why_of}
+use Rattle.space_packet.specs.Waiting.{IsSplitSoFar}
+use Rattle.turn_cell.specs.Pass.{PassView}
+use Rattle.archive_store.specs.StoreView.{StoreView}
+use Rattle.load_session.specs.declared.batches.NextBatch.{NextBatch}
+use Rattle.load_session.specs.declared.session.DumpSummary.{DumpSummary}
+use Rattle.load_session.specs.Batches.{IsTakenFor}
+use Rattle.load_session.specs.Receiving.{Receiving, arrived, receiving, rows_received}
+use Rattle.load_jobs.specs.declared.sending.Progress.{Progress}
+use Rattle.load_jobs.specs.declared.reading.ReadingEnd.{ReadingEnd}
+use Rattle.load_jobs.specs.Links.{HasAdded, IsDumpSent}
+use Rattle.load_jobs.specs.Reading.{IsReadOf, IsReadingEnd}
+
+-- ---- what was sent
+
+-- the rows of these packets were sent
+pub record IsSentSoFar {T : Type 0} (r : Receiving) (packets : List (List ℕ)) (old now : PassView Item Fill T)
+    : Type 0 where
+  pub put : List Row
+  pub added : HasAdded r.link put old now
+  pub has_sent : HasSent (rows_received r packets) now.history.seen put
+
+-- a turn was taken for each batch
+abbrev pub IsATurnEach : ℕ → ℕ → List (List ℕ) → Type 0
+IsATurnEach before now packets = 64 * now < 64 * before + length packets + 64
+
+-- the packets are whole batches
+abbrev pub AreBatches : List (List ℕ) → Type 0
+AreBatches packets = (batches : ℕ) × (length packets ≡ batches * 64)
+
+-- these packets are counted, and their rows
+pub record AreCounted (r : Receiving) (packets : List (List ℕ)) (p : Progress) : Type 0 where
+  pub of_packets : p.packets ≡ length packets
+  pub of_idle : p.idle + arrived packets ≡ length packets
+  pub of_routed : p.routed ≡ length (rows_received r packets)
+
+-- nothing more was sent: the counts are as before
+abbrev pub CountsStay : Progress → Progress → Type 0
+CountsStay before after =
+    (after.packets ≡ before.packets) × (after.idle ≡ before.idle) × (after.routed ≡ before.routed)
+
+-- The counts are those of packets within the limit of a dump: each has an octet or more, and 16 rows at most.
+pub record IsWithinLimit (p : Progress) : Type 0 where
+  pub packets : p.packets + p.taken.packets ≤ p.splitter.at
+  pub idle : p.idle ≤ p.packets
+  pub routed : p.routed ≤ 16 * p.packets
+  pub octets : p.splitter.at + length p.splitter.octets ≤ limit_of DumpOctets
+
+-- ---- what is in hand
+
+-- packets are received so behind what a pass has seen
+abbrev pub behind : {T : Type 0} → Receiving → PassView Item Fill T → Receiving
+behind r pass = receiving r.head pass.history.seen r.route r.link r.moment
+
+-- packets are received so behind no item: as they are behind rows alone
+abbrev pub behind_none : Receiving → Receiving
+behind_none r = receiving r.head [] r.route r.link r.moment
+
+-- some packets were taken for the next batch
+abbrev pub IsInHand : Receiving → NextBatch → Type 0
+IsInHand r taken = (packets : List (List ℕ)) × IsTakenFor (behind_none r) packets taken
+
+-- Of the octets that were read, these packets were sent, and these behind them are in hand; behind those octets wait.
+-- Nothing was noted in the fill list, and nothing had added a database before.
+pub record IsUnderway {T : Type 0} (r : Receiving) (read : List ℕ) (sent in_hand : List (List ℕ))
+    (old now : PassView Item Fill T) (p : Progress) : Type 0 where
+  pub alone : databases_in old.history.seen ≡ []
+  pub split : IsSplitSoFar read (sent ++ in_hand) p.splitter
+  pub taken : IsTakenFor (behind_none r) in_hand p.taken
+  pub so_far : IsSentSoFar r sent old now
+  pub silent : now.fills.places ≡ old.fills.places
+  pub turns : IsATurnEach old.turns now.turns sent
+  pub counted : AreCounted r sent p
+
+-- so it is between two reads: whole batches were sent, and no packet waits whole
+pub record IsBetweenReads {T : Type 0} (r : Receiving) (read : List ℕ) (old now : PassView Item Fill T)
+    (p : Progress) : Type 0 where
+  pub sent : List (List ℕ)
+  pub in_hand : List (List ℕ)
+  pub underway : IsUnderway r read sent in_hand old now p
+  pub whole : AreBatches sent
+  pub none_waits : BeginsWithNoPacket p.splitter.octets
+
+-- what a link had of its dump, where all packets of it were sent
+abbrev pub summary_of : Progress → DumpSummary
+summary_of p = record {
+  packets = p.packets;
+  idle = p.idle;
+  routed = p.routed;
+  at = p.splitter.at;
+  why = why_of p.splitter.octets;
+}
+
+-- ---- how it ends
+
+-- its turns put rows, and this became of what was read of its dump
+abbrev pub IsAnswered : {D T : Type 0} → StoreView D → List ℕ → Receiving → PassView Item Fill T
+    → PassView Item Fill T → Result DumpSummary Refusal → Type 0
+IsAnswered first read r old new answer =
+    (put : List Row) × HasAdded r.link put old new × IsDumpSent first read r put old new answer
+
+-- ---- what its calls do, whatever was read and sent before
+
+-- what is in hand was sent by a turn, and is counted
+abbrev pub SendsInHand : {T : Type 0} → Receiving → PassView Item Fill T → PassView Item Fill T → Progress → Progress
+    → Type 0
+SendsInHand {T = T} r old new before after =
+    (origin : PassView Item Fill T) (read : List ℕ) (sent in_hand : List (List ℕ)) → AreBatches sent
+    → IsUnderway (behind r origin) read sent in_hand origin old before
+    → IsUnderway (behind r origin) read (sent ++ in_hand) [] origin new after
+
+-- its turn was refused, where it is a whole batch or no packet waits
+abbrev pub RefusesInHand : {D T : Type 0} → StoreView D → Receiving → PassView Item Fill T → PassView Item Fill T
+    → Progress → Refusal → Type 0
+RefusesInHand {T = T} first r old new before refusal =
+    (origin : PassView Item Fill T) (read : List ℕ) (sent in_hand : List (List ℕ)) → AreBatches sent
+    → (length in_hand < 64 → BeginsWithNoPacket before.splitter.octets)
+    → IsUnderway (behind r origin) read sent in_hand origin old before
+    → IsAnswered first read (behind r origin) origin new (Err refusal)
+
+-- what waited was taken in hand, and sent but for fewer packets than a batch takes
+abbrev pub SendsWaiting : {T : Type 0} → Receiving → PassView Item Fill T → PassView Item Fill T → Progress → Progress
+    → Type 0
+SendsWaiting {T = T} r old new before after =
+    (origin : PassView Item Fill T) (read : List ℕ) (sent in_hand : List (List ℕ)) → AreBatches sent
+    → IsUnderway (behind r origin) read sent in_hand origin old before
+    → IsBetweenReads (behind r origin) read origin new after
+
+-- the sending was answered so
+abbrev pub EndsSending : {D T : Type 0} → StoreView D → Receiving → PassView Item Fill T → PassView Item Fill T
+    → Progress → Result DumpSummary Refusal → Type 0
+EndsSending {T = T} first r old new before answer =
+    (origin : PassView Item Fill T) (read : List ℕ) (sent in_hand : List (List ℕ)) → AreBatches sent
+    → IsUnderway (behind r origin) read sent in_hand origin old before
+    → IsAnswered first read (behind r origin) origin new answer
+
+-- ---- what reading its dump comes to
+
+-- nothing was read, sent or taken yet, by a link that receives at a moment
+pub record HasBegun (moment : ℤ) (p : Progress) : Type 0 where
+  pub waiting : p.splitter ≡ record { at = 0; octets = [] }
+  pub none : (p.taken.packets ≡ 0) × (p.taken.batch.arrivals ≡ [])
+  pub received : p.taken.batch.rectime ≡ moment
+  pub counts : (p.packets ≡ 0) × (p.idle ≡ 0) × (p.routed ≡ 0)
+
+module _ {T : Type 0} (r : Receiving) (left : Option (List ℕ)) where
+  -- These octets were read, so that those are left, and no more for this reason. What is left to send is in hand.
+  pub record IsSentUpTo (left' : Option (List ℕ)) (old new : PassView Item Fill T) (p : Progress) (end : ReadingEnd)
+      : Type 0 where
+    pub read : List ℕ
+    pub read_of : IsReadOf left read
+    pub short : length read ≤ limit_of DumpOctets
+    pub sent : IsBetweenReads r read old new p
+    pub ends : IsReadingEnd left left' read p.splitter.octets end
+
+  -- these octets were read, and the sending of them was refused
+  pub record IsRefusedAt {D : Type 0} (first : StoreView D) (old new : PassView Item Fill T) (refusal : Refusal)
+      : Type 0 where
+    pub read : List ℕ
+    pub read_of : IsReadOf left read
+    pub short : length read ≤ limit_of DumpOctets
+    pub answered : IsAnswered first read r old new (Err refusal)
