@@ -7,7 +7,7 @@ use Rattle.archive_store.specs.declared.head.Head.{Head}
 use Rattle.retrieval.specs.declared.found_asks.FoundAsk.{FoundAsk}
 use Rattle.live_asks.specs.declared.answered.AskAnswer.{AskAnswer}
 use Rattle.live_asks.specs.LiveAsks.{AreAnswered, every_fourth}
-use Rattle.live_session.specs.Dealing.{AreEvery, HaveAsMany, answers_at}
+use Rattle.live_session.specs.Interleaving.{AreEveryFourth, HaveAnswersFor, answers_at}
 
 -- ---- readers
 
@@ -42,7 +42,7 @@ module _ (Where : Type 0 → Type 0) (head : Head) (old seen : List Item) where
             subst (λ (l : List FoundAsk). AreAnswered Where head old seen l (answers_at k readers) None) (sym (no_asks k asks (omega (arith, most))))
             (subst (λ (l : List AskAnswer). AreAnswered Where head old seen [] l None) (sym none) tt)
 
-    pub have_as_many : HaveAsMany asks (answers_at 0 readers) (answers_at 1 readers) (answers_at 2 readers) (answers_at 3 readers)
+    pub have_as_many : HaveAnswersFor asks (answers_at 0 readers) (answers_at 1 readers) (answers_at 2 readers) (answers_at 3 readers)
     have_as_many = record {
       of_first = as_many old (every_fourth 0 asks) (answers_at 0 readers) (of_four 0 (omega arith));
       of_second = as_many old (every_fourth 1 asks) (answers_at 1 readers) (of_four 1 (omega arith));
@@ -51,7 +51,7 @@ module _ (Where : Type 0 → Type 0) (head : Head) (old seen : List Item) where
     }
 
     -- so each ask is answered
-    pub all_answered : (answers : List AskAnswer) → AreEvery answers (answers_at 0 readers) (answers_at 1 readers) (answers_at 2 readers) (answers_at 3 readers)
+    pub all_answered : (answers : List AskAnswer) → AreEveryFourth answers (answers_at 0 readers) (answers_at 1 readers) (answers_at 2 readers) (answers_at 3 readers)
         → (before : ℕ) → before < 4 → AreAnswered Where head old seen (every_fourth before asks) (every_fourth before answers) None
     all_answered answers every zero low = subst (λ (l : List AskAnswer). AreAnswered Where head old seen (every_fourth 0 asks) l None) (sym every.of_first) (of_four 0 (omega arith))
     all_answered answers every (suc zero) low = subst (λ (l : List AskAnswer). AreAnswered Where head old seen (every_fourth 1 asks) l None) (sym every.of_second) (of_four 1 (omega arith))

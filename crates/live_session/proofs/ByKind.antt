@@ -1,7 +1,8 @@
--- What came of links, of readers and of fillers, parted by what it is.
-use Rattle.std.proofs.Common.{◌≡◌, ℕ, zero, suc, ◌+◌, ◌<◌, List, [], ◌∷◌, ◌++◌, length, map, Option, None, refl, sym, ap, ◌∙◌, subst, arith, append-nil}
-use Rattle.std.specs.Prelude.{IfSome}
+-- What came of links, of readers and of fillers, sorted by what it is.
+use Rattle.std.proofs.Common.{◌≡◌, ℕ, zero, suc, ◌+◌, ◌<◌, List, [], ◌∷◌, ◌++◌, length, take, drop, map, Option, Some, None, refl, sym, ap, ◌∙◌, subst, arith, append-nil}
+use Rattle.std.specs.Prelude.{slice_get, IfSome}
 use Rattle.std.specs.List.{AllByRecursion, filter_map, range_with_len}
+use Rattle.std.proofs.Math.Seq.{drop-append_seam, take-append_seam}
 use Rattle.arch_disk.specs.Disk.{Device}
 use Rattle.refusals.specs.declared.refusal.Refusal.{Refusal}
 use Rattle.outer_traits.specs.States.{SourceState}
@@ -18,17 +19,17 @@ use Rattle.live_session.specs.declared.order.JobEnd.{JobEnd}
 use Rattle.live_session.specs.declared.order.JobEnd.TheVariants as Ended
 use Rattle.live_session.specs.declared.order.Order.{Order}
 use Rattle.live_session.specs.declared.order.Order.TheVariants as Ordered
-use Rattle.live_session.specs.Dealing.{answers_at}
-use Rattle.live_session.specs.Jobs.{Given, IsSourceRead}
+use Rattle.live_session.specs.Interleaving.{answers_at}
+use Rattle.live_session.specs.Jobs.{IsSourceRead, JobSetting}
 use Rattle.live_session.specs.Links.{AreLinksLoaded, LinkLoads}
 use Rattle.live_session.specs.Orders.{AreLinkOrders, AreOrdersFor, IsFilling}
-use Rattle.live_session.specs.Outcome.{AreSourcesRead, IsOtherRefusal, IsSeenIn, lefts_of}
-use Rattle.live_session.specs.Parts.{answers_in, end_in, other_in, source_in}
+use Rattle.live_session.specs.Outcome.{AreSourcesRead, IsFillerCause, IsReaderCause, IsSeenIn, lefts_of}
+use Rattle.live_session.specs.Results.{answers_in, end_in, other_in, source_in}
 use Rattle.live_session.proofs.Lists.{all_append}
 use Rattle.live_session.proofs.Loads.{CameTo}
 use Rattle.live_session.proofs.Ordered.{cut, taken_of}
 
-module _ {D S : Type 0} (device : Device D) (state : S → SourceState) (first closed : StoreView D) (g : Given) (failed : Option Addition) where
+module _ {D S : Type 0} (device : Device D) (state : S → SourceState) (first closed : StoreView D) (g : JobSetting) (failed : Option Addition) where
   abbrev Came : Order S → JobEnd S → Type 0
   Came = CameTo device state first closed g failed
 
@@ -63,14 +64,34 @@ module _ {D S : Type 0} (device : Device D) (state : S → SourceState) (first c
   link_ends link (source ∷ sources) (Ordered.Reader before ∷ orders) (end ∷ ends) are each = absurd are.0
   link_ends link (source ∷ sources) (Ordered.Filler wakes ∷ orders) (end ∷ ends) are each = absurd are.0
 
+  -- how a link ended stands where its source does
+  end_at : (link : ℕ) (sources : List S) (orders : List (Order S)) (ends later : List (JobEnd S)) → AreLinkOrders link sources orders → EachDid Came orders ends → (k : ℕ) → k < length sources → (job : JobEnd S) (end : LinkEnd)
+      → slice_get (ends ++ later) k ≡ Some job → end_in job ≡ Some end → slice_get (filter_map end_in ends) k ≡ Some end
+  end_at link [] [] [] later are each k low job end there is = absurd (omega (arith, low))
+  end_at link [] [] (e ∷ ends) later are each k low job end there is = absurd each
+  end_at link [] (order ∷ orders) ends later are each k low job end there is = absurd are
+  end_at link (source ∷ sources) [] ends later are each k low job end there is = absurd are
+  end_at link (source ∷ sources) (order ∷ orders) [] later are each k low job end there is = absurd each
+  end_at link (source ∷ sources) (Ordered.Link n from wake ∷ orders) (Ended.Link number back e ∷ ends) later are each zero low job end there is =
+      let same : Ended.Link number back e ≡ job = cc there in
+      let here : end_in (Ended.Link number back e) ≡ Some end = ap (λ (j : JobEnd S). end_in j) same ∙ is in here
+  end_at link (source ∷ sources) (Ordered.Link n from wake ∷ orders) (Ended.Link number back e ∷ ends) later are each (suc k) low job end there is =
+      end_at (suc link) sources orders ends later are.1 each.1 k (omega (arith, low)) job end there is
+  end_at link (source ∷ sources) (Ordered.Link n from wake ∷ orders) (Ended.Reader answers refusal ∷ ends) later are each k low job end there is = absurd each.0
+  end_at link (source ∷ sources) (Ordered.Link n from wake ∷ orders) (Ended.Filler refusal ∷ ends) later are each k low job end there is = absurd each.0
+  end_at link (source ∷ sources) (Ordered.Reader before ∷ orders) (e ∷ ends) later are each k low job end there is = absurd are.0
+  end_at link (source ∷ sources) (Ordered.Filler wakes ∷ orders) (e ∷ ends) later are each k low job end there is = absurd are.0
+
   -- ---- the others
 
-  abbrev Said : Option Refusal → Type 0
-  Said refusal = IsOtherRefusal failed refusal × IfSome refusal (IsSeenIn first closed)
+  -- what the store tells of a refusal
+  abbrev Seen : Option Refusal → Type 0
+  Seen refusal = IfSome refusal (IsSeenIn first closed)
 
-  -- what came of jobs that are no links'
-  record AreOtherEnds (ends : List (JobEnd S)) : Type 0 where
-    pub said : AllByRecursion Said (filter_map other_in ends)
+  -- what came of jobs that are no links', each of which was refused for such a cause, if it was
+  record AreOtherEnds (Cause : Option Refusal → Type 0) (ends : List (JobEnd S)) : Type 0 where
+    pub causes : AllByRecursion Cause (filter_map other_in ends)
+    pub seen : AllByRecursion Seen (filter_map other_in ends)
     pub no_ends : filter_map end_in ends ≡ []
     pub no_sources : filter_map source_in ends ≡ []
 
@@ -82,18 +103,20 @@ module _ {D S : Type 0} (device : Device D) (state : S → SourceState) (first c
   AreUnrefused ends = AllByRecursion (λ refusal. refusal ≡ None) (filter_map other_in ends)
 
   record AreReaderEnds (from count : ℕ) (ends : List (JobEnd S)) : Type 0 where
-    pub others : AreOtherEnds ends
+    pub others : AreOtherEnds IsReaderCause ends
+    pub as_many : length (filter_map other_in ends) ≡ count
     pub many : length (filter_map answers_in ends) ≡ count
     pub answered : AreUnrefused ends → (k : ℕ) → k < count → AreAllAnswered (from + k) (answers_at k (filter_map answers_in ends))
 
   reader_ends : (from count : ℕ) (ends : List (JobEnd S)) → EachDid Came (map Ordered.Reader (range_with_len from count)) ends → AreReaderEnds from count ends
-  reader_ends from zero [] each = record { others = record { said = tt; no_ends = refl; no_sources = refl }; many = refl; answered = λ none k low. absurd (omega (arith, low)) }
+  reader_ends from zero [] each = record { others = record { causes = tt; seen = tt; no_ends = refl; no_sources = refl }; as_many = refl; many = refl; answered = λ none k low. absurd (omega (arith, low)) }
   reader_ends from zero (end ∷ ends) each = absurd each
   reader_ends from (suc count) [] each = absurd each
   reader_ends from (suc count) (Ended.Reader answers refusal ∷ ends) each =
       let rest = reader_ends (from + 1) count ends each.1 in
       record {
-        others = record { said = ((each.0.1, each.0.2), rest.others.said); no_ends = rest.others.no_ends; no_sources = rest.others.no_sources };
+        others = record { causes = (each.0.1, rest.others.causes); seen = (each.0.2, rest.others.seen); no_ends = rest.others.no_ends; no_sources = rest.others.no_sources };
+        as_many = ap suc rest.as_many;
         many = ap suc rest.many;
         answered = λ none k low. at rest none k low;
       }
@@ -111,16 +134,16 @@ module _ {D S : Type 0} (device : Device D) (state : S → SourceState) (first c
   reader_ends from (suc count) (Ended.Filler refusal ∷ ends) each = absurd each.0
 
   record AreFillerEnds (ends : List (JobEnd S)) : Type 0 where
-    pub others : AreOtherEnds ends
+    pub others : AreOtherEnds (IsFillerCause failed) ends
     pub no_answers : filter_map answers_in ends ≡ []
 
   filler_ends : (orders : List (Order S)) (ends : List (JobEnd S)) → AllByRecursion IsFilling orders → EachDid Came orders ends → AreFillerEnds ends
-  filler_ends [] [] all each = record { others = record { said = tt; no_ends = refl; no_sources = refl }; no_answers = refl }
+  filler_ends [] [] all each = record { others = record { causes = tt; seen = tt; no_ends = refl; no_sources = refl }; no_answers = refl }
   filler_ends [] (end ∷ ends) all each = absurd each
   filler_ends (order ∷ orders) [] all each = absurd each
   filler_ends (Ordered.Filler wakes ∷ orders) (Ended.Filler refusal ∷ ends) all each =
       let rest = filler_ends orders ends all.1 each.1 in
-      record { others = record { said = (each.0, rest.others.said); no_ends = rest.others.no_ends; no_sources = rest.others.no_sources }; no_answers = rest.no_answers }
+      record { others = record { causes = (each.0.0, rest.others.causes); seen = (each.0.1, rest.others.seen); no_ends = rest.others.no_ends; no_sources = rest.others.no_sources }; no_answers = rest.no_answers }
   filler_ends (Ordered.Filler wakes ∷ orders) (Ended.Link number back end ∷ ends) all each = absurd each.0
   filler_ends (Ordered.Filler wakes ∷ orders) (Ended.Reader answers refusal ∷ ends) all each = absurd each.0
   filler_ends (Ordered.Link link source wake ∷ orders) (end ∷ ends) all each = absurd all.0
@@ -132,7 +155,10 @@ module _ {D S : Type 0} (device : Device D) (state : S → SourceState) (first c
     pub loaded : AreLinksLoaded first.exponent failed first.history closed.history g link (lefts_of state sources) (filter_map end_in ends)
     pub read : AreSourcesRead state (filter_map end_in ends) sources (filter_map source_in ends)
     pub seen : AllByRecursion (λ end. IfSome (refusal_of_end end) (IsSeenIn first closed)) (filter_map end_in ends)
-    pub said : AllByRecursion Said (filter_map other_in ends)
+    pub causes : AllByRecursion IsReaderCause (take readers (filter_map other_in ends))
+    pub filler_causes : AllByRecursion (IsFillerCause failed) (drop readers (filter_map other_in ends))
+    pub others_seen : AllByRecursion (λ refusal. IfSome refusal (IsSeenIn first closed)) (filter_map other_in ends)
+    pub stands : (k : ℕ) → k < length sources → (job : JobEnd S) (end : LinkEnd) → slice_get ends k ≡ Some job → end_in job ≡ Some end → slice_get (filter_map end_in ends) k ≡ Some end
     pub many : length (filter_map answers_in ends) ≡ readers
     pub answered : AreUnrefused ends → (k : ℕ) → k < readers → AreAllAnswered k (answers_at k (filter_map answers_in ends))
 
@@ -161,7 +187,15 @@ module _ {D S : Type 0} (device : Device D) (state : S → SourceState) (first c
         read = subst (λ (l : List LinkEnd). AreSourcesRead state l sources (filter_map source_in ends)) (sym all_ends)
             (subst (AreSourcesRead state (filter_map end_in whole.first) sources) (sym all_sources) links.read);
         seen = subst (AllByRecursion (λ end. IfSome (refusal_of_end end) (IsSeenIn first closed))) (sym all_ends) links.seen;
-        said = subst (AllByRecursion Said) (sym all_others) (all_append Said (filter_map other_in rest.first) (filter_map other_in rest.second) read.others.said filled.others.said);
+        causes = subst (λ (l : List (Option Refusal)). AllByRecursion IsReaderCause (take readers l)) (sym all_others)
+            (subst (λ (n : ℕ). AllByRecursion IsReaderCause (take n (filter_map other_in rest.first ++ filter_map other_in rest.second))) read.as_many
+            (subst (AllByRecursion IsReaderCause) (sym (take-append_seam (filter_map other_in rest.first) (filter_map other_in rest.second))) read.others.causes));
+        filler_causes = subst (λ (l : List (Option Refusal)). AllByRecursion (IsFillerCause failed) (drop readers l)) (sym all_others)
+            (subst (λ (n : ℕ). AllByRecursion (IsFillerCause failed) (drop n (filter_map other_in rest.first ++ filter_map other_in rest.second))) read.as_many
+            (subst (AllByRecursion (IsFillerCause failed)) (sym (drop-append_seam (filter_map other_in rest.first) (filter_map other_in rest.second))) filled.others.causes));
+        others_seen = subst (AllByRecursion Seen) (sym all_others) (all_append Seen (filter_map other_in rest.first) (filter_map other_in rest.second) read.others.seen filled.others.seen);
+        stands = λ k low job end there is. ap (λ (l : List LinkEnd). slice_get l k) all_ends
+            ∙ end_at link sources are.of_links whole.first whole.second are.links whole.of_first k low job end (ap (λ (l : List (JobEnd S)). slice_get l k) (sym whole.parts) ∙ there) is;
         many = ap length all_answers ∙ read.many;
         answered = λ none k low. subst (λ (l : List (List AskAnswer)). AreAllAnswered k (answers_at k l)) (sym all_answers)
             (subst (λ (n : ℕ). AreAllAnswered n (answers_at k (filter_map answers_in rest.first))) (plain k)

@@ -14,21 +14,21 @@ use Rattle.load_jobs.specs.declared.ending.LinkEnd.{LinkEnd}
 use Rattle.live_asks.specs.declared.answered.AskAnswer.{AskAnswer}
 use Rattle.live_session.specs.declared.order.JobEnd.{JobEnd}
 use Rattle.live_session.specs.declared.order.Order.{Order}
-use Rattle.live_session.specs.declared.told.DumpCounts.{DumpCounts}
-use Rattle.live_session.specs.declared.told.Told.{Told}
-use Rattle.live_session.specs.Dealing.{AreEvery, HaveAsMany, answers_at}
+use Rattle.live_session.specs.declared.reported.DumpCounts.{DumpCounts}
+use Rattle.live_session.specs.declared.reported.ReportedRefusal.{ReportedRefusal}
+use Rattle.live_session.specs.Interleaving.{AreEveryFourth, HaveAnswersFor, answers_at}
 use Rattle.retrieval.specs.declared.found_asks.FoundAsk.{FoundAsk}
 use Rattle.stream_graph.specs.declared.statement.RouteStatement.{RouteStatement}
-use Rattle.live_session.specs.Jobs.{EachCame, Given, IsFit, JobPass, given}
+use Rattle.live_session.specs.Jobs.{AreOutcomesOf, IsFit, JobPass, JobSetting, job_setting}
 use Rattle.live_session.specs.Orders.{AreOrdersFor}
-use Rattle.live_session.specs.Outcome.{AreSourcesRead, CameToLoad, HasFewCounts, counts_of, lefts_of, told_of}
-use Rattle.live_session.specs.Parts.{answers_in, end_in, other_in, source_in}
+use Rattle.live_session.specs.Outcome.{AreSourcesRead, HasFewCounts, IsLoadOutcome, counts_of, lefts_of, reported_of}
+use Rattle.live_session.specs.Results.{answers_in, end_in, other_in, source_in}
 use Rattle.live_session.specs.Session.{IsSessionOver}
 use Rattle.live_session.proofs.Counts.{as_many_ends, few_ends, rows_counted}
-use Rattle.live_session.proofs.Outcomes.{all_of_links, came_rows, came_to, grown, loaded, outcome, parts, unrefused, what_failed}
+use Rattle.live_session.proofs.Outcomes.{all_of_links, came_rows, grown, loaded, outcome, parts, possible, unrefused, what_failed}
 
 -- an end for each order
-each_ended : {D T S : Type 0} (device : Device D) (state : S → SourceState) (first : StoreView D) (g : Given) (passes : List (JobPass T)) (orders : List (Order S)) (ends : List (JobEnd S)) → EachCame device state first g passes orders ends
+each_ended : {D T S : Type 0} (device : Device D) (state : S → SourceState) (first : StoreView D) (g : JobSetting) (passes : List (JobPass T)) (orders : List (Order S)) (ends : List (JobEnd S)) → AreOutcomesOf device state first g passes orders ends
     → length ends ≡ length orders
 each_ended device state first g [] [] [] each = refl
 each_ended device state first g (p ∷ passes) (order ∷ orders) (end ∷ ends) each = ap suc (each_ended device state first g passes orders ends each.1)
@@ -37,7 +37,7 @@ each_ended device state first g [] (order ∷ orders) ends each = absurd each
 each_ended device state first g (p ∷ passes) [] ends each = absurd each
 each_ended device state first g (p ∷ passes) (order ∷ orders) [] each = absurd each
 
-module _ {D S : Type 0} (device : Device D) (state : S → SourceState) (first closed : StoreView D) (g : Given) (orders : List (Order S)) (ends : List (JobEnd S)) (over : IsSessionOver device state first closed g orders ends) where
+module _ {D S : Type 0} (device : Device D) (state : S → SourceState) (first closed : StoreView D) (g : JobSetting) (orders : List (Order S)) (ends : List (JobEnd S)) (over : IsSessionOver device state first closed g orders ends) where
   pub as_many_ended : length ends ≡ length orders
   as_many_ended = each_ended device state first g over.passes orders ends over.each
 
@@ -68,16 +68,16 @@ module _ {D S : Type 0} (device : Device D) (state : S → SourceState) (first c
         let p = parts device state first closed g orders ends over link sources readers fillers are done is_history failed.0 failed.1 in
         few_ends first.exponent failed.0 first.history closed.history g link (lefts_of state sources) link_ends fit.sound.0.few fit.route p.loaded
 
-    pub came : (news : List S) (said : Option Told) (counts : DumpCounts) (answers : List AskAnswer) → news ≡ filter_map source_in ends → said ≡ told_of link link_ends (filter_map other_in ends) → counts ≡ counts_of link_ends
-        → (HaveAsMany g.asks (answers_at 0 lists) (answers_at 1 lists) (answers_at 2 lists) (answers_at 3 lists) → AreEvery answers (answers_at 0 lists) (answers_at 1 lists) (answers_at 2 lists) (answers_at 3 lists))
-        → CameToLoad device state first closed g link sources news said counts answers
-    came news said counts answers same is counted dealt =
+    pub came : (news : List S) (said : Option ReportedRefusal) (counts : DumpCounts) (answers : List AskAnswer) → news ≡ filter_map source_in ends → said ≡ reported_of link link_ends (filter_map other_in ends) → counts ≡ counts_of link_ends
+        → (HaveAnswersFor g.asks (answers_at 0 lists) (answers_at 1 lists) (answers_at 2 lists) (answers_at 3 lists) → AreEveryFourth answers (answers_at 0 lists) (answers_at 1 lists) (answers_at 2 lists) (answers_at 3 lists))
+        → IsLoadOutcome device state first closed g link sources news said counts answers
+    came news said counts answers same is counted interleaved =
         let failed = what_failed device state first closed g orders ends over link sources readers fillers are done is_history in
         let p = parts device state first closed g orders ends over link sources readers fillers are done is_history failed.0 failed.1 in
         record {
-          came_to = came_to device state first closed g orders ends over link sources readers fillers are done is_history failed.0 failed.1 fit.of_archive many_readers answers dealt;
-          outcome = outcome device state first closed g orders ends over link sources readers fillers are done is_history failed.0 failed.1 fit.of_archive many_readers answers dealt;
-          loaded = loaded device state first closed g orders ends over link sources readers fillers are done is_history failed.0 failed.1 fit.of_archive many_readers answers dealt;
+          outcome = outcome device state first closed g orders ends over link sources readers fillers are done is_history failed.0 failed.1 fit.of_archive many_readers answers interleaved;
+          possible = possible device state first closed g orders ends over link sources readers fillers are done is_history failed.0 failed.1 fit.of_archive many_readers answers interleaved;
+          loaded = loaded device state first closed g orders ends over link sources readers fillers are done is_history failed.0 failed.1 fit.of_archive many_readers answers interleaved;
           sources = subst (AreSourcesRead state link_ends sources) (sym same) p.read;
           said_is = is;
           counts_are = λ none. counted;
@@ -85,7 +85,7 @@ module _ {D S : Type 0} (device : Device D) (state : S → SourceState) (first c
           answers_are = refl;
         }
       where
-        no_more : told_of link link_ends (filter_map other_in ends) ≡ None → length closed.history ≤ length first.history + counts.routed
+        no_more : reported_of link link_ends (filter_map other_in ends) ≡ None → length closed.history ≤ length first.history + counts.routed
         no_more none =
             let failed = what_failed device state first closed g orders ends over link sources readers fillers are done is_history in
             let p = parts device state first closed g orders ends over link sources readers fillers are done is_history failed.0 failed.1 in
@@ -100,7 +100,7 @@ module _ {D S : Type 0} (device : Device D) (state : S → SourceState) (first c
 
 -- a session that was given an equal head and moment
 pub over_given : {D S : Type 0} (device : Device D) (state : S → SourceState) (first closed : StoreView D) (head head' : Head) (route : List RouteStatement) (moment moment' : ℤ) (asks : List FoundAsk) (orders : List (Order S)) (ends : List (JobEnd S))
-    → head ≡ head' → moment ≡ moment' → IsSessionOver device state first closed (given head route moment asks) orders ends → IsSessionOver device state first closed (given head' route moment' asks) orders ends
+    → head ≡ head' → moment ≡ moment' → IsSessionOver device state first closed (job_setting head route moment asks) orders ends → IsSessionOver device state first closed (job_setting head' route moment' asks) orders ends
 over_given device state first closed head head' route moment moment' asks orders ends same_head same_moment over =
-    subst (λ (h : Head). IsSessionOver device state first closed (given h route moment' asks) orders ends) same_head
-    (subst (λ (m : ℤ). IsSessionOver device state first closed (given head route m asks) orders ends) same_moment over)
+    subst (λ (h : Head). IsSessionOver device state first closed (job_setting h route moment' asks) orders ends) same_head
+    (subst (λ (m : ℤ). IsSessionOver device state first closed (job_setting head route m asks) orders ends) same_moment over)

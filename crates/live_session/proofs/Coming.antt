@@ -16,12 +16,12 @@ use Rattle.live_session.specs.declared.order.JobEnd.{JobEnd}
 use Rattle.live_session.specs.declared.order.JobEnd.TheVariants as Ended
 use Rattle.live_session.specs.declared.order.Order.{Order}
 use Rattle.live_session.specs.declared.order.Order.TheVariants as Ordered
-use Rattle.live_session.specs.Jobs.{CameOf, EachCame, Given, IsFit, IsNumbered, JobPass, MayDo}
+use Rattle.live_session.specs.Jobs.{AreOutcomesOf, IsFit, IsNumbered, IsOutcomeOf, JobPass, JobSetting, MayDo}
 use Rattle.live_session.specs.Session.{HaveRun}
 use Rattle.live_session.proofs.Lists.{all_map}
 
 -- a pass that has seen the first history and put nothing may do what is ordered
-pub may_do : {D T S : Type 0} (first : StoreView D) (g : Given) (pass : PassView Item Fill T) (order : Order S) → IsFit first g → pass.history.seen ≡ first.history → pass.history.places ≡ [] → IsNumbered order → MayDo first g pass order
+pub may_do : {D T S : Type 0} (first : StoreView D) (g : JobSetting) (pass : PassView Item Fill T) (order : Order S) → IsFit first g → pass.history.seen ≡ first.history → pass.history.places ≡ [] → IsNumbered order → MayDo first g pass order
 may_do first g pass (Ordered.Link link source wake) fit seen none numbered = record {
   fresh = none;
   link = numbered;
@@ -38,22 +38,22 @@ may_do first g pass (Ordered.Filler wakes) fit seen none numbered = tt
 abbrev pub SeesOn : {T : Type 0} → PassView Item Fill T → PassView Item Fill T → Type 0
 SeesOn old new = IsPrefix old.history.seen new.history.seen × IsPrefix old.fills.seen new.fills.seen
 
-module _ {D T S : Type 0} (device : Device D) (state : S → SourceState) (first : StoreView D) (g : Given) where
+module _ {D T S : Type 0} (device : Device D) (state : S → SourceState) (first : StoreView D) (g : JobSetting) where
   -- whatever a job does, its pass keeps its share
-  pub came_share : (old new : PassView Item Fill T) (order : Order S) (end : JobEnd S) → CameOf device state first g old new order end → new.share ≡ old.share
+  pub came_share : (old new : PassView Item Fill T) (order : Order S) (end : JobEnd S) → IsOutcomeOf device state first g old new order end → new.share ≡ old.share
   came_share old new (Ordered.Link link source wake) (Ended.Link number back end) came = came.0.added.share
   came_share old new (Ordered.Reader before) (Ended.Reader answers refusal) came = came.0.share
   came_share old new (Ordered.Filler wakes) (Ended.Filler refusal) came = came.0.share
   came_share old new order end came = absurd came
 
-  pub came_on : (old new : PassView Item Fill T) (order : Order S) (end : JobEnd S) → CameOf device state first g old new order end → SeesOn old new
+  pub came_on : (old new : PassView Item Fill T) (order : Order S) (end : JobEnd S) → IsOutcomeOf device state first g old new order end → SeesOn old new
   came_on old new (Ordered.Link link source wake) (Ended.Link number back end) came = came.0.added.begins
   came_on old new (Ordered.Reader before) (Ended.Reader answers refusal) came = (came.0.begins, came.0.fills_begin)
   came_on old new (Ordered.Filler wakes) (Ended.Filler refusal) came = (came.0.begins, came.0.fills_begin)
   came_on old new order end came = absurd came
 
   -- so all have the share that they began with
-  shares_kept : (passes : List (JobPass T)) (orders : List (Order S)) (ends : List (JobEnd S)) → EachCame device state first g passes orders ends
+  shares_kept : (passes : List (JobPass T)) (orders : List (Order S)) (ends : List (JobEnd S)) → AreOutcomesOf device state first g passes orders ends
       → total (λ (p : PassView Item Fill T). p.share) (map (λ (p : JobPass T). p.ended) passes) ≡ total (λ (p : PassView Item Fill T). p.share) (map (λ (p : JobPass T). p.began) passes)
   shares_kept [] [] [] each = refl
   shares_kept (p ∷ passes) (o ∷ orders) (e ∷ ends) each =
@@ -85,8 +85,8 @@ module _ {D T S : Type 0} (device : Device D) (state : S → SourceState) (first
       ended_are (j ∷ jobs) [] each = absurd each
       ended_are (j ∷ jobs) (e ∷ dones) each = ap (λ (l : List (PassView Item Fill T)). pass_at_end e ∷ l) (ended_are jobs dones each.1)
 
-      module _ (Here : J → Type 0) (gives : (j : J) (e : E) → Here j → did j e → CameOf device state first g (pass_of j) (pass_at_end e) (order_of j) (end_of e)) where
-        each_came : (jobs : List J) (dones : List E) → AllByRecursion Here jobs → EachDid did jobs dones → EachCame device state first g (passes_of jobs dones) (map order_of jobs) (map end_of dones)
+      module _ (Here : J → Type 0) (gives : (j : J) (e : E) → Here j → did j e → IsOutcomeOf device state first g (pass_of j) (pass_at_end e) (order_of j) (end_of e)) where
+        each_came : (jobs : List J) (dones : List E) → AllByRecursion Here jobs → EachDid did jobs dones → AreOutcomesOf device state first g (passes_of jobs dones) (map order_of jobs) (map end_of dones)
         each_came [] [] here each = tt
         each_came [] (e ∷ dones) here each = absurd each
         each_came (j ∷ jobs) [] here each = absurd each
@@ -112,7 +112,7 @@ module _ {D T S : Type 0} (device : Device D) (state : S → SourceState) (first
               omega (arith, a, b, c, d, e);
         }
           where
-            came : EachCame device state first g (passes_of jobs dones) (map order_of jobs) (map end_of dones)
+            came : AreOutcomesOf device state first g (passes_of jobs dones) (map order_of jobs) (map end_of dones)
             came = each_came jobs dones here each
 
             is_split : map (λ (p : JobPass T). p.began) (passes_of jobs dones) ≡ map pass_of jobs

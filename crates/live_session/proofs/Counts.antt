@@ -1,5 +1,5 @@
 -- The counts of whole dumps.
-use Rattle.std.proofs.Common.{◌≡◌, ◌⊎◌, inl, inr, ℕ, zero, suc, ◌+◌, ◌*◌, ◌<◌, ◌≤◌, ◌==◌, List, [], ◌∷◌, length, take, drop, filter, Bool, true, false, cond, Option, None, refl, sym, ap, ◌∙◌, arith, eq-eqb, length-append}
+use Rattle.std.proofs.Common.{◌≡◌, ◌⊎◌, inl, inr, ℕ, zero, suc, ◌+◌, ◌*◌, ◌<◌, ◌≤◌, ◌==◌, List, [], ◌∷◌, length, take, drop, filter, Bool, true, false, cond, Option, Some, None, refl, sym, ap, ◌∙◌, arith, eq-eqb, length-append}
 use Rattle.std.specs.List.{AllByRecursion, concat}
 use Rattle.std.proofs.lemmas.List.{take_all}
 use Rattle.std.proofs.lemmas.List.Elements.{recursion_from_All}
@@ -17,8 +17,8 @@ use Rattle.load_session.specs.Receiving.{IsRouteOver, Receiving, receiving, rows
 use Rattle.load_session.proofs.Arrived.{few_arrived, few_rows}
 use Rattle.load_jobs.specs.declared.ending.LinkEnd.{LinkEnd}
 use Rattle.load_jobs.specs.declared.ending.LinkEnd.TheVariants.{Whole, Rest, Unread, TooLong, Refused}
-use Rattle.load_jobs.specs.Ends.{IsReadingEnd, refusal_of_end}
-use Rattle.live_session.specs.Jobs.{Given}
+use Rattle.load_jobs.specs.Ends.{refusal_of_end}
+use Rattle.live_session.specs.Jobs.{JobSetting}
 use Rattle.live_session.specs.Links.{AreLinksLoaded, IsSentInto, LinkLoads}
 use Rattle.live_session.specs.Outcome.{HasFewCounts, counts_of}
 
@@ -45,8 +45,8 @@ few_counts : (exponent : ℕ) (failed : Option Addition) (history : List Item) (
 few_counts exponent failed history r left put summary tables over sent =
     let s = sent.came_to in
     let is = sent.sent_to.2 in
-    let packets = few_packets sent.dump s.packets s.rest sent.parts in
-    let short : length sent.dump ≤ 268435456 = sent.short in
+    let packets = few_packets sent.read s.packets s.rest sent.parts in
+    let short : length sent.read ≤ 268435456 = sent.short in
     let of_packets = is.of_packets in
     let of_idle = is.of_idle in
     let of_routed = is.of_routed in
@@ -56,11 +56,7 @@ few_counts exponent failed history r left put summary tables over sent =
 
 few_of_link : (exponent : ℕ) (failed : Option Addition) (history : List Item) (r : Receiving) (left : Option (List ℕ)) (end : LinkEnd) → length r.head.tables ≤ 16 → IsRouteOver r.head r.route
     → LinkLoads exponent failed history r left end → HasFewCounts end
-few_of_link exponent failed history r left (Whole summary) tables over loads = go loads.dump
-  where
-    go : IsSentInto exponent failed history r left loads.put (Whole summary) ⊎ (IsReadingEnd left (Whole summary) × (loads.put ≡ [])) → HasFewCounts (Whole summary)
-    go (inl sent) = few_counts exponent failed history r left loads.put summary tables over sent
-    go (inr unread) = absurd unread.0
+few_of_link exponent failed history r left (Whole summary) tables over loads = few_counts exponent failed history r left loads.put summary tables over loads.sent
 few_of_link exponent failed history r left other tables over loads = tt
 
 -- ---- some of the arrivals
@@ -144,7 +140,7 @@ all_counted link n (row ∷ rows) all =
 
 -- ---- all links
 
-module _ (exponent : ℕ) (failed : Option Addition) (low history : List Item) (g : Given) where
+module _ (exponent : ℕ) (failed : Option Addition) (low history : List Item) (g : JobSetting) where
   abbrev Loaded : ℕ → List (Option (List ℕ)) → List LinkEnd → Type 0
   Loaded link lefts ends = AreLinksLoaded exponent failed low history g link lefts ends
 
@@ -164,14 +160,13 @@ module _ (exponent : ℕ) (failed : Option Addition) (low history : List Item) (
   -- the rows of a link that is refused by nothing are no more than its packets are
   link_counted : (link : ℕ) (left : Option (List ℕ)) (end : LinkEnd) (ends : List LinkEnd) → refusal_of_end end ≡ None → LinkLoads exponent failed history (receiving g.head low g.route link g.moment) left end
       → length (filter (λ row. row.link == link) (rows_in (drop (length low) history))) + (counts_of ends).routed ≤ (counts_of (end ∷ ends)).routed
-  link_counted link left (Whole summary) ends none loads = go loads.dump
-    where
-      go : IsSentInto exponent failed history (receiving g.head low g.route link g.moment) left loads.put (Whole summary) ⊎ (IsReadingEnd left (Whole summary) × (loads.put ≡ []))
-          → length (filter (λ row. row.link == link) (rows_in (drop (length low) history))) + (counts_of ends).routed ≤ summary.routed + (counts_of ends).routed
-      go (inl sent) = let few = put_routed exponent failed history (receiving g.head low g.route link g.moment) left loads.put summary sent in let own = ap length loads.own in omega (arith, few, own)
-      go (inr unread) = absurd unread.0
+  link_counted link left (Whole summary) ends none loads =
+      let few = put_routed exponent failed history (receiving g.head low g.route link g.moment) left loads.put summary loads.sent in
+      let own = ap length loads.own in
+      omega (arith, few, own)
   link_counted link left (Rest at kind) ends none loads = absurd (cc none)
-  link_counted link left Unread ends none loads = absurd (cc none)
+  link_counted link left (Unread None) ends none loads = absurd (cc none)
+  link_counted link left (Unread (Some refusal)) ends none loads = absurd (cc none)
   link_counted link left TooLong ends none loads = absurd (cc none)
   link_counted link left (Refused refusal) ends none loads = absurd (cc none)
 

@@ -1,11 +1,10 @@
 -- The fills that came in a session, and a fault that did.
 use Rattle.std.proofs.Common.{◌≡◌, ◌⊎◌, inl, inr, ℕ, zero, suc, ◌≤◌, List, [], ◌∷◌, ◌++◌, length, take, true, false, Contains, Option, Some, None, Result, Ok, refl, sym, ap, ◌∙◌, subst, arith}
-use Rattle.std.specs.Prelude.{slice_get, IfNone, IfSome}
+use Rattle.std.specs.Prelude.{slice_get, IfNone}
 use Rattle.std.specs.List.{AllByRecursion}
 use Rattle.std.specs.Result.{result_err}
 use mathlib.Core.List.{IsPrefix}
 use Rattle.arch_disk.specs.Disk.{Device}
-use Rattle.arch_types.specs.declared.row.Row.{Row}
 use Rattle.arch_types.specs.Dump.{IsDump}
 use Rattle.outer_traits.specs.States.{SourceState}
 use Rattle.intervals.specs.declared.interval.Interval.{Interval}
@@ -33,14 +32,16 @@ use Rattle.load_session.specs.declared.session.DumpSummary.{DumpSummary}
 use Rattle.load_session.specs.Receiving.{Receiving}
 use Rattle.load_session.specs.Session.{IsBetweenBatches, SessionResult, next_fresh_rows}
 use Rattle.load_jobs.specs.declared.ending.LinkEnd.{LinkEnd}
-use Rattle.load_jobs.specs.declared.ending.LinkEnd.TheVariants.{Whole, Rest, Refused}
-use Rattle.load_jobs.specs.Ends.{IsEndOf, IsReadAndSent, IsUnread, refusal_of_end}
+use Rattle.load_jobs.specs.declared.ending.LinkEnd.TheVariants.{Whole, Rest, Unread, TooLong, Refused}
+use Rattle.load_jobs.specs.Ends.{IsEndOf, IsLinkRun, refusal_of_end}
+use Rattle.load_jobs.specs.Reading.{IsReadOf}
+use Rattle.load_jobs.proofs.Pieces.{read_of_end}
 use Rattle.load_jobs.specs.Links.{HasNoted}
 use Rattle.live_session.specs.declared.order.JobEnd.{JobEnd}
 use Rattle.live_session.specs.declared.order.JobEnd.TheVariants as Ended
 use Rattle.live_session.specs.declared.order.Order.{Order}
 use Rattle.live_session.specs.declared.order.Order.TheVariants as Ordered
-use Rattle.live_session.specs.Jobs.{CameOf, EachCame, Given, JobPass, received_by}
+use Rattle.live_session.specs.Jobs.{AreOutcomesOf, IsOutcomeOf, JobPass, JobSetting, received_by}
 use Rattle.live_session.specs.Session.{BeganWith, EndedWithin, IsSessionOver}
 use Rattle.live_session.proofs.Lists.{below, same_at, stands_on}
 use Rattle.live_session.proofs.Works.{none_there}
@@ -57,11 +58,12 @@ only_one x place (suc k, low, e) = absurd (omega (arith, low))
 
 -- the fault of the batch in hand of a dump, over the history that was seen
 pub record IsBatchOf (r : Receiving) (left : Option (List ℕ)) (seen : List Item) (item : Fill) : Type 0 where
-  pub dump : List ℕ
-  pub whole : IfSome left (λ octets. octets ≡ dump)
-  pub short : length dump ≤ limit_of DumpOctets
+  pub read : List ℕ
+  pub read_of : IsReadOf left read
+  pub short : length read ≤ limit_of DumpOctets
   pub came_to : SessionResult
-  pub parts : IsDump dump came_to.packets came_to.rest
+  pub parts : IsDump read came_to.packets came_to.rest
+  pub within : came_to.place ≤ length came_to.packets
   pub between : IsBetweenBatches came_to.place came_to.packets
   pub reached : came_to.reached ≡ seen
   pub count : ℕ
@@ -82,26 +84,41 @@ module _ {T : Type 0} (r : Receiving) (left : Option (List ℕ)) (old new : Pass
       (refl, (noted.2.0, same_at fills noted.0 (Fault noted.2.0 true (Rows (next_fresh_rows r s))) item fault (subst (λ (n : ℕ). slice_get fills n ≡ Some item) one there)))
   noted_item s (Some other) noted = absurd (nothing_noted noted)
 
-  refused_end : (answer : Result DumpSummary Refusal) (end : LinkEnd) → IsEndOf answer end → result_err answer ≡ Some DiskFault → refusal_of_end end ≡ None → ⊥
-  refused_end answer (Whole summary) ended is none = absurd (let e : result_err (Ok summary) ≡ Some DiskFault = ap result_err (sym ended.0) ∙ is in cc e)
-  refused_end answer (Rest at kind) ended is none = absurd (cc none)
-  refused_end answer (Refused refusal) ended is none = absurd (cc none)
-  refused_end answer other ended is none = absurd ended
+  -- a link at whose sending the disk failed is refused by that
+  fault_end : (answer : Result DumpSummary Refusal) (end : LinkEnd) → IsEndOf answer end → result_err answer ≡ Some DiskFault → refusal_of_end end ≡ Some DiskFault
+  fault_end answer (Whole summary) ended is = absurd (let e : result_err (Ok summary) ≡ Some DiskFault = ap result_err (sym ended.0) ∙ is in cc e)
+  fault_end answer (Rest at kind) ended is = absurd (let e : result_err (Ok ended.0) ≡ Some DiskFault = ap result_err (sym ended.1) ∙ is in cc e)
+  fault_end answer (Unread None) ended is = absurd (let e : ◌≡◌ {A = Option Refusal} None (Some DiskFault) = ended ∙ is in cc e)
+  fault_end answer (Unread (Some refusal)) ended is = ended ∙ is
+  fault_end answer TooLong ended is = absurd (let e : result_err (Ok ended.0) ≡ Some DiskFault = ap result_err (sym ended.1) ∙ is in cc e)
+  fault_end answer (Refused refusal) ended is = ap result_err (sym ended) ∙ is
 
-  module _ {D : Type 0} (first : StoreView D) (end : LinkEnd) (put : List Row) where
-    pub link_batch : IsReadAndSent first r left put old new end ⊎ IsUnread first r left put old new end → IsBatchOf r left new.history.seen item
-    link_batch (inl read) =
-        let s = read.sent.came_to in
-        let noted = noted_item s s.refusal read.sent.noted in
-        record { dump = read.dump; whole = read.whole; short = read.short; came_to = s; parts = read.sent.parts; between = read.sent.between; reached = read.sent.reached; count = noted.1.0; is = noted.1.1 }
-    link_batch (inr unread) = absurd (nothing_noted (ap (λ (p : PassView Item Fill T). p.fills.places) unread.same))
+  module _ {D : Type 0} (first : StoreView D) (end : LinkEnd) where
+    pub link_batch : {left' : Option (List ℕ)} → IsLinkRun first r left left' old new end → IsBatchOf r left new.history.seen item
+    link_batch run =
+        let s = run.sent.came_to in
+        let noted = noted_item s s.refusal run.sent.noted in
+        record {
+          read = run.read;
+          read_of = read_of_end left run.read end run.read_to;
+          short = run.short;
+          came_to = s;
+          parts = run.sent.parts;
+          within = run.sent.within;
+          between = run.sent.between;
+          reached = run.sent.reached;
+          count = noted.1.0;
+          is = noted.1.1;
+        }
 
-    -- it is refused then
-    pub link_refused : IsReadAndSent first r left put old new end ⊎ IsUnread first r left put old new end → refusal_of_end end ≡ None → ⊥
-    link_refused (inl read) calm =
-        let s = read.sent.came_to in
-        refused_end read.answer end read.ended (sym read.sent.answer_is ∙ (noted_item s s.refusal read.sent.noted).0) calm
-    link_refused (inr unread) calm = nothing_noted (ap (λ (p : PassView Item Fill T). p.fills.places) unread.same)
+    -- it is refused by that fault then
+    pub link_faulted : {left' : Option (List ℕ)} → IsLinkRun first r left left' old new end → refusal_of_end end ≡ Some DiskFault
+    link_faulted run =
+        let s = run.sent.came_to in
+        fault_end run.answer end run.ended (sym run.sent.answer_is ∙ (noted_item s s.refusal run.sent.noted).0)
+
+    pub link_refused : {left' : Option (List ℕ)} → IsLinkRun first r left left' old new end → refusal_of_end end ≡ None → ⊥
+    link_refused run calm = let none : ◌≡◌ {A = Option Refusal} None (Some DiskFault) = sym calm ∙ link_faulted run in absurd (cc none)
 
 -- of what is old or a note, and where nothing is old
 is_note : {D T : Type 0} (first : StoreView D) (old new : PassView Item Fill T) (place : ℕ) → old.fills.places ≡ [] → Contains old.fills.places place ⊎ IsFillNote first new.history.seen new.fills.seen place
@@ -117,13 +134,13 @@ refusal_of_job (Ended.Link number back end) = refusal_of_end end
 refusal_of_job (Ended.Reader answers refusal) = refusal
 refusal_of_job (Ended.Filler refusal) = refusal
 
-module _ {D S : Type 0} (device : Device D) (state : S → SourceState) (first : StoreView D) (g : Given) where
+module _ {D S : Type 0} (device : Device D) (state : S → SourceState) (first : StoreView D) (g : JobSetting) where
   -- a fill at a place of a job's pass is a filler's
   of_filler : (p : JobPass (HeldStore D)) (order : Order S) (end : JobEnd S) (fills : List Fill) (place : ℕ) (interval : Interval) (base : ℕ) → p.began.fills.places ≡ []
-      → IsPrefix p.ended.fills.seen fills → CameOf device state first g p.began p.ended order end → Contains p.ended.fills.places place → IsDoneAt fills place interval base
+      → IsPrefix p.ended.fills.seen fills → IsOutcomeOf device state first g p.began p.ended order end → Contains p.ended.fills.places place → IsDoneAt fills place interval base
       → IsFillNote first p.ended.history.seen p.ended.fills.seen place
   of_filler p (Ordered.Link link source wake) (Ended.Link number back end) fills place interval base none later came has there =
-      let batch = link_batch (received_by g link p.began) (state source).left p.began p.ended fills place (Done interval base) later none has there first end came.0.put came.0.dump in
+      let batch = link_batch (received_by g link p.began) (state source).left p.began p.ended fills place (Done interval base) later none has there first end came.0 in
       absurd (let is = batch.is in cc is)
   of_filler p (Ordered.Reader before) (Ended.Reader answers refusal) fills place interval base none later came has there = absurd (none_there p.ended.fills.places place (came.0.put_none.1 ∙ none) has)
   of_filler p (Ordered.Filler wakes) (Ended.Filler refusal) fills place interval base none later came has there = is_note first p.began p.ended place none (came.0.noted place has)
@@ -136,11 +153,11 @@ module _ {D S : Type 0} (device : Device D) (state : S → SourceState) (first :
     pub end : JobEnd S
     pub ordered : slice_get orders number ≡ Some order
     pub ended : slice_get ends number ≡ Some end
-    pub came : CameOf device state first g p.began p.ended order end
+    pub came : IsOutcomeOf device state first g p.began p.ended order end
     pub began : BeganWith first p
     pub within : EndedWithin history last p
 
-  pub of_pass : (history : List Item) (last : List Fill) (passes : List (JobPass (HeldStore D))) (orders : List (Order S)) (ends : List (JobEnd S)) → EachCame device state first g passes orders ends
+  pub of_pass : (history : List Item) (last : List Fill) (passes : List (JobPass (HeldStore D))) (orders : List (Order S)) (ends : List (JobEnd S)) → AreOutcomesOf device state first g passes orders ends
       → AllByRecursion (BeganWith first) passes → AllByRecursion (EndedWithin history last) passes → (q : JobPass (HeldStore D)) → Contains passes q → IsJobOf history last orders ends q
   of_pass history last [] orders ends each began within q (k, low, e) = absurd (omega (arith, low))
   of_pass history last (p ∷ passes) [] ends each began within q inside = absurd each
@@ -156,9 +173,9 @@ module _ {D S : Type 0} (device : Device D) (state : S → SourceState) (first :
   module _ (p : JobPass (HeldStore D)) (history : List Item) (last : List Fill) (began : BeganWith first p) (within : EndedWithin history last p) (place count : ℕ) (addition : Addition) (has : Contains p.ended.fills.places place)
       (there : slice_get last place ≡ Some (Fault count true addition)) where
     -- is a refused job's
-    pub fault_refuses : (order : Order S) (end : JobEnd S) → CameOf device state first g p.began p.ended order end → refusal_of_job end ≡ None → ⊥
+    pub fault_refuses : (order : Order S) (end : JobEnd S) → IsOutcomeOf device state first g p.began p.ended order end → refusal_of_job end ≡ None → ⊥
     fault_refuses (Ordered.Link link source wake) (Ended.Link number back end) came calm =
-        link_refused (received_by g link p.began) (state source).left p.began p.ended last place (Fault count true addition) within.1 began.none.1 has there first end came.0.put came.0.dump calm
+        link_refused (received_by g link p.began) (state source).left p.began p.ended last place (Fault count true addition) within.1 began.none.1 has there first end came.0 calm
     fault_refuses (Ordered.Reader before) (Ended.Reader answers refusal) came calm = none_there p.ended.fills.places place (came.0.put_none.1 ∙ began.none.1) has
     fault_refuses (Ordered.Filler wakes) (Ended.Filler refusal) came calm = go (works_note_no_fault device first p.began p.ended (subst (λ (o : Option Refusal). IfNone o (AreWorksDone device first p.began p.ended)) calm came.1) place has)
       where
@@ -186,7 +203,7 @@ late_by : {D : Type 0} (first : StoreView D) (history : List Item) (fills : List
 late_by first history fills place interval base note there = note.late interval base (sym (same_at fills place note.item (Done interval base) note.there there))
 
 module _ {D S : Type 0} (device : Device D) (state : S → SourceState) where
-  pub fills_were_late : (first closed : StoreView D) (g : Given) (orders : List (Order S)) (ends : List (JobEnd S)) → IsSessionOver device state first closed g orders ends → WereLate first closed
+  pub fills_were_late : (first closed : StoreView D) (g : JobSetting) (orders : List (Order S)) (ends : List (JobEnd S)) → IsSessionOver device state first closed g orders ends → WereLate first closed
   fills_were_late first closed g orders ends over place interval base since there =
       let settled : IsPrefix over.last closed.fills = subst (IsPrefix over.last) (sym over.settled) (goes_settled device (record first { fills = over.last })).appends.fills in
       let kept : IsDoneAt over.last place interval base = settling_adds_none over.last place interval base (subst (λ (l : List Fill). IsDoneAt l place interval base) over.settled there) in

@@ -10,7 +10,7 @@ pub mod Filled
 pub mod Adding
 pub mod Ordered
 pub mod ByKind
-pub mod Dealt
+pub mod Interleaved
 pub mod Answered
 pub mod Counts
 pub mod Outcomes

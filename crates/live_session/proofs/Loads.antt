@@ -42,7 +42,7 @@ use Rattle.load_session.specs.Receiving.{Receiving, receiving, rows_received}
 use Rattle.load_session.specs.Session.{IsSummary, next_fresh_rows, next_rows}
 use Rattle.load_jobs.specs.declared.ending.LinkEnd.{LinkEnd}
 use Rattle.load_jobs.specs.declared.ending.LinkEnd.TheVariants.{Whole, Rest, Unread, TooLong, Refused}
-use Rattle.load_jobs.specs.Ends.{IsEndOf, IsLinkRun, IsReadAndSent, IsReadingEnd, IsUnread, kind_of_rest, refusal_of_end}
+use Rattle.load_jobs.specs.Ends.{IsEndOf, IsLinkRun, IsReadTo, kind_of_rest, refusal_of_end}
 use Rattle.load_jobs.specs.Links.{HasNoted, IsDumpSent, IsRecordedIn, IsSendingEnd, work_of}
 use Rattle.retrieval.specs.declared.found_asks.FoundAsk.{FoundAsk}
 use Rattle.live_asks.specs.declared.answered.AskAnswer.{AskAnswer}
@@ -53,9 +53,9 @@ use Rattle.live_session.specs.declared.order.JobEnd.{JobEnd}
 use Rattle.live_session.specs.declared.order.JobEnd.TheVariants as Ended
 use Rattle.live_session.specs.declared.order.Order.{Order}
 use Rattle.live_session.specs.declared.order.Order.TheVariants as Ordered
-use Rattle.live_session.specs.Jobs.{EachCame, Given, IsSourceRead, JobPass, received_by}
+use Rattle.live_session.specs.Jobs.{AreOutcomesOf, IsSourceRead, JobPass, JobSetting, received_by}
 use Rattle.live_session.specs.Links.{IsSentCause, IsSentInto, IsSentTo, LinkLoads}
-use Rattle.live_session.specs.Outcome.{IsOtherRefusal, IsSeenIn}
+use Rattle.live_session.specs.Outcome.{IsFillerCause, IsReaderCause, IsSeenIn}
 use Rattle.live_session.specs.Session.{BeganWith, EndedWithin}
 use Rattle.live_session.proofs.Lists.{below, filter_all, later_contains, same_at, stands_on, whole_prefix}
 use Rattle.live_session.proofs.Works.{none_there, works_of}
@@ -122,8 +122,12 @@ module _ {D : Type 0} (first closed : StoreView D) (last : List Fill) (failed : 
     sent_to (Rest at kind) (summary, is, at_is, some) =
         let all = all_sent summary is in
         (all.0, all.1.rest ∙ ap (λ (n : ℕ). drop n dump) at_is, ap kind_of_rest (sym all.1.why) ∙ some)
+    sent_to (Unread None) none = subst (IsSendingEnd first r sent.came_to new) (sent.answer_is ∙ sym none) sent.cause
+    sent_to (Unread (Some refusal)) is = sent.answer_is ∙ sym is
+    sent_to TooLong (summary, is, no_version) =
+        let all = all_sent summary is in
+        (all.0, λ version. no_version (all.1.why ∙ version))
     sent_to (Refused refusal) is = sent.answer_is ∙ ap result_err is
-    sent_to other ended = absurd ended
 
     -- why it was refused
     sent_cause : (refusal : Option Refusal) → IsSendingEnd first r sent.came_to new refusal → HasNoted r sent.came_to old new refusal → IsSentCause first.exponent failed r sent.came_to refusal
@@ -149,12 +153,14 @@ module _ {D : Type 0} (first closed : StoreView D) (last : List Fill) (failed : 
     seen_end : (end : LinkEnd) → IsEndOf answer end → IfSome (refusal_of_end end) (IsSeenIn first closed)
     seen_end (Whole summary) ended = tt
     seen_end (Rest at kind) ended = tt
+    seen_end (Unread None) ended = tt
+    seen_end (Unread (Some refusal)) is = seen_cause refusal (subst (IsSendingEnd first r sent.came_to new) (sent.answer_is ∙ sym is) sent.cause)
+    seen_end TooLong ended = λ is. absurd (cc is)
     seen_end (Refused refusal) is = seen_cause refusal (subst (IsSendingEnd first r sent.came_to new) (sent.answer_is ∙ ap result_err is) sent.cause)
-    seen_end other ended = absurd ended
 
     -- ---- where each row that came is its own
 
-    module _ (low : length r.history ≤ length new.history.seen) (has_put : HasPut (length r.history) new.history.seen (work_of r.link put new)) (is_history : IsHistory (rows_in closed.history))
+    module _ (begins : IsPrefix r.history new.history.seen) (has_put : HasPut (length r.history) new.history.seen (work_of r.link put new)) (is_history : IsHistory (rows_in closed.history))
         (own : filter (λ row. row.link == r.link) (rows_in (drop (length r.history) closed.history)) ≡ put) where
       came_alone : (more : List Row) → closed.history ≡ r.history ++ items_of more → AllByRecursion (λ row. row.link ≡ r.link) more
           → (sent.came_to.reached ≡ closed.history) × (closed.history ≡ after_rows r.history (rows_received r (take sent.came_to.place sent.came_to.packets)))
@@ -163,7 +169,7 @@ module _ {D : Type 0} (first closed : StoreView D) (last : List Fill) (failed : 
           let same : put ≡ more = sym own ∙ (ap (filter (λ row. row.link == r.link)) behind ∙ filter_all (λ (row : Row). row.link == r.link) more (passes more all)) in
           let whole : closed.history ≡ r.history ++ items_of put = grown ∙ ap (λ (l : List Row). r.history ++ items_of l) (sym same) in
           let arrived = rows_received r (take sent.came_to.place sent.came_to.packets) in
-          let least = rises_within (length r.history) new.history.seen new.history.places (items_of put) low has_put.rising has_put.stand in
+          let least = rises_within (length r.history) new.history.seen new.history.places (items_of put) (prefix_length r.history new.history.seen begins) has_put.rising has_put.stand in
           let most = prefix_length new.history.seen closed.history later in
           let long = ap length whole in
           let parts = length-append r.history (items_of put) in (
@@ -176,15 +182,16 @@ module _ {D : Type 0} (first closed : StoreView D) (last : List Fill) (failed : 
           passes (row ∷ rows) all = (eq-eqb row.link r.link all.0, passes rows all.1)
 
       -- said of the whole history
-      pub sent_into : (left : Option (List ℕ)) (end : LinkEnd) → IfSome left (λ octets. octets ≡ dump) → length dump ≤ limit_of DumpOctets → IsEndOf answer end → IsSentInto first.exponent failed closed.history r left put end
-      sent_into left end whole short ended = record {
-        dump = dump;
-        whole = whole;
+      pub sent_into : (left : Option (List ℕ)) (end : LinkEnd) → IsReadTo left dump end → length dump ≤ limit_of DumpOctets → IsEndOf answer end → IsSentInto first.exponent failed closed.history r left put end
+      sent_into left end read_to short ended = record {
+        read = dump;
+        read_to = read_to;
         short = short;
         came_to = sent.came_to;
         parts = sent.parts;
         within = sent.within;
         between = sent.between;
+        since = subst (IsPrefix r.history) (sym sent.reached) begins;
         reached = subst (λ (l : List Item). IsPrefix l closed.history) (sym sent.reached) later;
         sent = sent_stays (rows_received r (take sent.came_to.place sent.came_to.packets)) put new.history.seen closed.history later sent.sent;
         sent_to = sent_to end ended;
@@ -193,24 +200,17 @@ module _ {D : Type 0} (first closed : StoreView D) (last : List Fill) (failed : 
       }
 
   module _ {T : Type 0} (r : Receiving) (left : Option (List ℕ)) (put : List Row) (old new : PassView Item Fill T) (end : LinkEnd) (later : IsPrefix new.history.seen closed.history) (noted_on : IsPrefix new.fills.seen last) where
-    module _ (low : length r.history ≤ length new.history.seen) (has_put : HasPut (length r.history) new.history.seen (work_of r.link put new)) (is_history : IsHistory (rows_in closed.history))
+    module _ (begins : IsPrefix r.history new.history.seen) (has_put : HasPut (length r.history) new.history.seen (work_of r.link put new)) (is_history : IsHistory (rows_in closed.history))
         (own : filter (λ row. row.link == r.link) (rows_in (drop (length r.history) closed.history)) ≡ put) where
-      sent_or_unread : IsReadAndSent first r left put old new end ⊎ IsUnread first r left put old new end → IsSentInto first.exponent failed closed.history r left put end ⊎ (IsReadingEnd left end × (put ≡ []))
-      sent_or_unread (inl read) = inl (sent_into read.dump r put old new read.answer read.sent later noted_on low has_put is_history own left end read.whole read.short read.ended)
-      sent_or_unread (inr unread) = inr (unread.reading, unread.nothing)
+      pub link_loads : {left' : Option (List ℕ)} → (run : IsLinkRun first r left left' old new end) → run.put ≡ put → LinkLoads first.exponent failed closed.history r left end
+      link_loads run same = record {
+        put = put;
+        own = own;
+        sent = sent_into run.read r put old new run.answer (subst (λ (rows : List Row). IsDumpSent first run.read r rows old new run.answer) same run.sent) later noted_on begins has_put is_history own left end run.read_to run.short run.ended;
+      }
 
-      pub link_loads : IsReadAndSent first r left put old new end ⊎ IsUnread first r left put old new end → LinkLoads first.exponent failed closed.history r left end
-      link_loads dump = record { put = put; own = own; dump = sent_or_unread dump }
-
-    unread_seen : (end : LinkEnd) → IsReadingEnd left end → IfSome (refusal_of_end end) (IsSeenIn first closed)
-    unread_seen Unread reading = tt
-    unread_seen TooLong reading = λ is. absurd (cc is)
-    unread_seen (Refused refusal) reading = subst (IsSeenIn first closed) (sym reading) tt
-    unread_seen other reading = absurd reading
-
-    pub link_seen : IsReadAndSent first r left put old new end ⊎ IsUnread first r left put old new end → IfSome (refusal_of_end end) (IsSeenIn first closed)
-    link_seen (inl read) = seen_end read.dump r put old new read.answer read.sent later noted_on end read.ended
-    link_seen (inr unread) = unread_seen end unread.reading
+    pub link_seen : {left' : Option (List ℕ)} → IsLinkRun first r left left' old new end → IfSome (refusal_of_end end) (IsSeenIn first closed)
+    link_seen run = seen_end run.read r run.put old new run.answer run.sent later noted_on end run.ended
 
   -- ---- a filler
 
@@ -223,7 +223,7 @@ module _ {D : Type 0} (first closed : StoreView D) (last : List Fill) (failed : 
         go (inl before) = absurd (none_there old.fills.places place none before)
         go (inr note) = subst IsNoBatchFault (sym (same_at new.fills.seen place note.item (Fault count true addition) note.there there)) note.of_fill
 
-    filler_cause : (refusal : Refusal) → IsFillerRefusal first new.fills.places new.history.seen new.fills.seen refusal → IsOtherRefusal failed (Some refusal)
+    filler_cause : (refusal : Refusal) → IsFillerRefusal first new.fills.places new.history.seen new.fills.seen refusal → IsFillerCause failed (Some refusal)
     filler_cause OutOfMemory is = tt
     filler_cause (NeedsReopen faults) is = of_pending new.fills.seen faults noted_on is
     filler_cause (Limit which number) is = (is.0, is.1)
@@ -239,7 +239,7 @@ module _ {D : Type 0} (first closed : StoreView D) (last : List Fill) (failed : 
     filler_seen (NeedsReopen faults) is = pending_in new.fills.seen faults noted_on is
     filler_seen other is = tt
 
-    pub filler_came : (refusal : Option Refusal) → IfSome refusal (IsRefusalOf first new) → IsOtherRefusal failed refusal × IfSome refusal (IsSeenIn first closed)
+    pub filler_came : (refusal : Option Refusal) → IfSome refusal (IsRefusalOf first new) → IsFillerCause failed refusal × IfSome refusal (IsSeenIn first closed)
     filler_came None is = (tt, tt)
     filler_came (Some refusal) is = (filler_cause refusal is, filler_seen refusal is)
 
@@ -247,7 +247,7 @@ module _ {D : Type 0} (first closed : StoreView D) (last : List Fill) (failed : 
 
 -- it is refused for want of memory alone
 reader_refusal : (Where : Type 0 → Type 0) (head : Head) (old seen : List Item) (asks : List FoundAsk) (answers : List AskAnswer) (refusal : Option Refusal) → AreAnswered Where head old seen asks answers refusal
-    → IfSome refusal (λ (e : Refusal). e ≡ OutOfMemory)
+    → IsReaderCause refusal
 reader_refusal Where head old seen [] [] None are = tt
 reader_refusal Where head old seen [] [] (Some refusal) are = absurd are
 reader_refusal Where head old seen [] (answer ∷ answers) refusal are = absurd are
@@ -255,13 +255,13 @@ reader_refusal Where head old seen (ask ∷ asks) [] None are = absurd are
 reader_refusal Where head old seen (ask ∷ asks) [] (Some refusal) are = are
 reader_refusal Where head old seen (ask ∷ asks) (answer ∷ answers) refusal are = reader_refusal Where head are.0.over seen asks answers refusal are.1
 
-reader_came : {D : Type 0} (first closed : StoreView D) (failed : Option Addition) (refusal : Option Refusal) → IfSome refusal (λ (e : Refusal). e ≡ OutOfMemory) → IsOtherRefusal failed refusal × IfSome refusal (IsSeenIn first closed)
-reader_came first closed failed None is = (tt, tt)
-reader_came first closed failed (Some refusal) is = (subst (λ (e : Refusal). IsOtherRefusal failed (Some e)) (sym is) tt, subst (IsSeenIn first closed) (sym is) tt)
+reader_seen : {D : Type 0} (first closed : StoreView D) (refusal : Option Refusal) → IsReaderCause refusal → IfSome refusal (IsSeenIn first closed)
+reader_seen first closed None is = tt
+reader_seen first closed (Some refusal) is = subst (IsSeenIn first closed) (sym is) tt
 
 -- ---- all jobs
 
-module _ {D S : Type 0} (device : Device D) (state : S → SourceState) (first closed : StoreView D) (g : Given) (failed : Option Addition) where
+module _ {D S : Type 0} (device : Device D) (state : S → SourceState) (first closed : StoreView D) (g : JobSetting) (failed : Option Addition) where
   -- this came of a job: of a link's rows and source, of a reader's answers, of what refused it, and what the store tells of that
   abbrev pub CameTo : Order S → JobEnd S → Type 0
   CameTo (Ordered.Link link source wake) (Ended.Link number back end) =
@@ -269,8 +269,8 @@ module _ {D S : Type 0} (device : Device D) (state : S → SourceState) (first c
       × IsSourceRead end (state source) (state back) × IfSome (refusal_of_end end) (IsSeenIn first closed)
   CameTo (Ordered.Reader before) (Ended.Reader answers refusal) =
       AreAnswered (WhereSound device first) first.head first.history closed.history (every_fourth before g.asks) answers refusal
-      × IsOtherRefusal failed refusal × IfSome refusal (IsSeenIn first closed)
-  CameTo (Ordered.Filler wakes) (Ended.Filler refusal) = IsOtherRefusal failed refusal × IfSome refusal (IsSeenIn first closed)
+      × IsReaderCause refusal × IfSome refusal (IsSeenIn first closed)
+  CameTo (Ordered.Filler wakes) (Ended.Filler refusal) = IsFillerCause failed refusal × IfSome refusal (IsSeenIn first closed)
   CameTo order end = ⊥
 
   abbrev pub Owns : List LinkWork → Type 0
@@ -280,21 +280,21 @@ module _ {D S : Type 0} (device : Device D) (state : S → SourceState) (first c
       (of_fault : (place count : ℕ) (addition : Addition) → slice_get last place ≡ Some (Fault count true addition) → failed ≡ Some addition)
       (of_pending : (fills : List Fill) (n : ℕ) → IsPrefix fills last → pending_fault_of fills ≡ Some n → IsSome failed)
       (pending_in : (fills : List Fill) (n : ℕ) → IsPrefix fills last → pending_fault_of fills ≡ Some n → pending_fault_of closed.fills ≡ Some n) (is_history : IsHistory (rows_in closed.history)) where
-    link_came : (p : JobPass (HeldStore D)) (link : ℕ) (source : S) (end : LinkEnd) → BeganWith first p → EndedWithin closed.history last p → (run : IsLinkRun first (received_by g link p.began) (state source).left p.began p.ended end)
+    link_came : (p : JobPass (HeldStore D)) (link : ℕ) (source : S) (end : LinkEnd) → BeganWith first p → EndedWithin closed.history last p → {left' : Option (List ℕ)} → (run : IsLinkRun first (received_by g link p.began) (state source).left left' p.began p.ended end)
         → filter (λ row. row.link == link) (rows_in (drop (length first.history) closed.history)) ≡ run.put
         → LinkLoads first.exponent failed closed.history (receiving g.head first.history g.route link g.moment) (state source).left end × IfSome (refusal_of_end end) (IsSeenIn first closed)
     link_came p link source end began within run own =
         let left = (state source).left in
         let r = received_by g link p.began in
         let same = began.history in
-        let low = prefix_length p.began.history.seen p.ended.history.seen run.added.begins.0 in (
+        let begins = run.added.begins.0 in (
           subst (λ (h : List Item). LinkLoads first.exponent failed closed.history (receiving g.head h g.route link g.moment) left end) same
-              (link_loads first closed last failed recorded settled_on of_fault of_pending pending_in r left run.put p.began p.ended end within.0 within.1 low run.added.has_put is_history
-              (subst (λ (h : List Item). filter (λ row. row.link == link) (rows_in (drop (length h) closed.history)) ≡ run.put) (sym same) own) run.dump),
-          link_seen first closed last failed recorded settled_on of_fault of_pending pending_in r left run.put p.began p.ended end within.0 within.1 run.dump,
+              (link_loads first closed last failed recorded settled_on of_fault of_pending pending_in r left run.put p.began p.ended end within.0 within.1 begins run.added.has_put is_history
+              (subst (λ (h : List Item). filter (λ row. row.link == link) (rows_in (drop (length h) closed.history)) ≡ run.put) (sym same) own) run refl),
+          link_seen first closed last failed recorded settled_on of_fault of_pending pending_in r left run.put p.began p.ended end within.0 within.1 run,
         )
 
-    pub each_comes : (passes : List (JobPass (HeldStore D))) (orders : List (Order S)) (ends : List (JobEnd S)) (each : EachCame device state first g passes orders ends)
+    pub each_comes : (passes : List (JobPass (HeldStore D))) (orders : List (Order S)) (ends : List (JobEnd S)) (each : AreOutcomesOf device state first g passes orders ends)
         → AllByRecursion (BeganWith first) passes → AllByRecursion (EndedWithin closed.history last) passes → Owns (works_of device state first g passes orders ends each)
         → EachDid CameTo orders ends
     each_comes [] [] [] each began within own = tt
@@ -313,8 +313,8 @@ module _ {D S : Type 0} (device : Device D) (state : S → SourceState) (first c
         let asks = every_fourth before g.asks in
         let are = are_answered_later (WhereSound device first) first.head first.history p.ended.history.seen closed.history asks answers refusal within.0.0
         (subst (λ (h : List Item). AreAnswered (WhereSound device first) first.head h p.ended.history.seen asks answers refusal) began.0.history each.0.1) in
-        let why = reader_came first closed failed refusal (reader_refusal (WhereSound device first) first.head first.history closed.history asks answers refusal are) in (
-          (are, why.0, why.1),
+        let why = reader_refusal (WhereSound device first) first.head first.history closed.history asks answers refusal are in (
+          (are, why, reader_seen first closed refusal why),
           each_comes passes orders ends each.1 began.1 within.1 own,
         )
     each_comes (p ∷ passes) (Ordered.Filler wakes ∷ orders) (Ended.Filler refusal ∷ ends) each began within own = (

@@ -1,9 +1,11 @@
 -- A load whose jobs weren't run.
-use Rattle.std.proofs.Common.{◌≡◌, ◌⊎◌, inl, inr, ℕ, suc, ◌≤◌, true, List, [], ◌∷◌, ◌++◌, length, map, drop, Option, Some, None, refl, sym, ap, ◌∙◌, subst, arith, append-nil, le_refl}
+use Rattle.std.proofs.Common.{◌≡◌, ◌⊎◌, inl, inr, ℕ, zero, suc, ◌≤◌, true, List, [], ◌∷◌, ◌++◌, length, map, min, take, drop, Option, Some, None, refl, sym, ap, ◌∙◌, subst, arith, append-nil, length-append, le_refl}
 use Rattle.std.specs.Prelude.{◌==◌, filter, slice_get, IfSome}
 use Rattle.std.specs.List.{AllByRecursion}
 use Rattle.std.proofs.Math.Seq.{drop-append_seam}
+use Rattle.std.proofs.lemmas.List.Elements.{All-nil}
 use Rattle.arch_disk.specs.Disk.{Device}
+use Rattle.arch_types.specs.Packet.{IsPacket}
 use Rattle.outer_traits.specs.States.{SourceState}
 use Rattle.refusals.specs.declared.refusal.Refusal.TheVariants.{OutOfMemory}
 use Rattle.history_items.specs.declared.fills.Fill.{Fill}
@@ -23,11 +25,13 @@ use Rattle.live_fills.proofs.Late.{settling_adds_none}
 use Rattle.load_jobs.specs.declared.ending.LinkEnd.{LinkEnd}
 use Rattle.load_jobs.specs.declared.ending.LinkEnd.TheVariants.{Refused}
 use Rattle.live_asks.specs.declared.answered.AskAnswer.{AskAnswer}
-use Rattle.live_session.specs.declared.told.DumpCounts.{DumpCounts}
-use Rattle.live_session.specs.declared.told.Told.{Told}
-use Rattle.live_session.specs.Jobs.{Given}
-use Rattle.live_session.specs.Links.{AreLinksLoaded}
-use Rattle.live_session.specs.Outcome.{AreSourcesRead, CameToLoad, HasLoaded, IsJobsOutcome, IsSeenIn, JobsOutcome, lefts_of, told, told_of}
+use Rattle.live_session.specs.declared.reported.DumpCounts.{DumpCounts}
+use Rattle.live_session.specs.declared.reported.ReportedRefusal.{ReportedRefusal}
+use Rattle.live_session.specs.Jobs.{JobSetting}
+use Rattle.load_jobs.proofs.Pieces.{nothing_read}
+use Rattle.load_session.specs.Receiving.{receiving}
+use Rattle.live_session.specs.Links.{AreLinksLoaded, IsSentInto}
+use Rattle.live_session.specs.Outcome.{AreSourcesRead, HasLoaded, IsFillerCause, IsJobsOutcome, IsLoadOutcome, IsReaderCause, IsSeenIn, JobsOutcome, lefts_of, reported, reported_of}
 use Rattle.live_session.specs.Session.{NothingCame}
 use Rattle.live_session.proofs.Lists.{below}
 
@@ -35,10 +39,19 @@ use Rattle.live_session.proofs.Lists.{below}
 abbrev ends_for : {S : Type 0} → List S → List LinkEnd
 ends_for sources = map (λ source. Refused OutOfMemory) sources
 
+-- of no refusals
+none_taken : (n : ℕ) → AllByRecursion IsReaderCause (take n [])
+none_taken zero = tt
+none_taken (suc n) = tt
+
+none_dropped : (n : ℕ) → AllByRecursion (IsFillerCause None) (drop n [])
+none_dropped zero = tt
+none_dropped (suc n) = tt
+
 nothing_behind : (history : List Item) → drop (length history) history ≡ []
 nothing_behind history = ap (drop (length history)) (sym (append-nil history)) ∙ drop-append_seam history []
 
-module _ {D S : Type 0} (device : Device D) (state : S → SourceState) (first closed : StoreView D) (g : Given) (nothing : NothingCame device first closed) (done : AllByRecursion IsDone first.fills) where
+module _ {D S : Type 0} (device : Device D) (state : S → SourceState) (first closed : StoreView D) (g : JobSetting) (nothing : NothingCame device first closed) (done : AllByRecursion IsDone first.fills) where
   none_behind : rows_in (drop (length first.history) closed.history) ≡ []
   none_behind = ap rows_in (ap (drop (length first.history)) nothing.history ∙ nothing_behind first.history)
 
@@ -66,47 +79,70 @@ module _ {D S : Type 0} (device : Device D) (state : S → SourceState) (first c
       go (inl same) = early (subst (λ (l : List Fill). slice_get l place ≡ Some (Done interval base)) same there)
       go (inr settled) = early (settling_adds_none first.fills place interval base (subst (λ (l : List Fill). slice_get l place ≡ Some (Done interval base)) settled there))
 
+  -- of a dump of which nothing was read, nothing was sent
+  nothing_sent : (link : ℕ) (source : S) → IsSentInto first.exponent None closed.history (receiving g.head first.history g.route link g.moment) (state source).left [] (Refused OutOfMemory)
+  nothing_sent link source = record {
+    read = [];
+    read_to = nothing_read (state source).left;
+    short = omega arith;
+    came_to = record { packets = []; rest = []; place = 0; reached = closed.history; refusal = Some OutOfMemory };
+    parts = record {
+      joined = refl;
+      each = All-nil IsPacket;
+      no_more = λ packet more is e. let header = is.header in let none = ap length e in let both = length-append packet more in omega (arith, header, none, both);
+    };
+    within = omega arith;
+    between = inl refl;
+    since = ([], append-nil first.history ∙ sym nothing.history);
+    reached = ([], append-nil closed.history);
+    sent = record { some = refl; kept = tt };
+    sent_to = refl;
+    cause = tt;
+    alone = λ more grown own. (refl, nothing.history);
+  }
+
   links : (link : ℕ) (sources : List S) → AreLinksLoaded first.exponent None first.history closed.history g link (lefts_of state sources) (ends_for sources)
   links link [] = tt
-  links link (source ∷ sources) = (record { put = []; own = ap (filter (λ row. row.link == link)) none_behind; dump = inr (refl, refl) }, links (suc link) sources)
+  links link (source ∷ sources) = (record { put = []; own = ap (filter (λ row. row.link == link)) none_behind; sent = nothing_sent link source }, links (suc link) sources)
 
   read : (sources : List S) → AreSourcesRead state (ends_for sources) sources sources
   read [] = tt
   read (source ∷ sources) = ((le_refl _, refl, λ never. refl), read sources)
 
-  abbrev came_to : List S → JobsOutcome
-  came_to sources = record { reached = closed.history; ends = ends_for sources; answers = []; others = []; failed = None }
+  abbrev outcome : List S → JobsOutcome
+  outcome sources = record { reached = closed.history; ends = ends_for sources; answers = []; others = []; failed = None }
 
-  outcome : (link : ℕ) (sources : List S) → told_of link (ends_for sources) [] ≡ Some (told OutOfMemory None) → IsJobsOutcome (WhereSound device first) first.exponent first.history g link (lefts_of state sources) (came_to sources)
-  outcome link sources is = record {
+  possible : (link : ℕ) (sources : List S) → reported_of link (ends_for sources) [] ≡ Some (reported OutOfMemory None) → IsJobsOutcome (WhereSound device first) first.exponent first.history g link (lefts_of state sources) (outcome sources)
+  possible link sources is = record {
     more = [];
     grown = nothing.history ∙ sym (append-nil first.history);
     of_links = tt;
     links = links link sources;
     answered = λ none. absurd (cc (none, is));
-    others = tt;
-    told_so = λ none. refl;
+    readers = none_taken (min 4 (length g.asks));
+    fillers = none_dropped (min 4 (length g.asks));
+    reported_so = λ none. refl;
     failed = tt;
   }
 
-  loaded : (link : ℕ) (sources : List S) → told_of link (ends_for sources) [] ≡ Some (told OutOfMemory None) → HasLoaded device first closed link (came_to sources)
+  loaded : (link : ℕ) (sources : List S) → reported_of link (ends_for sources) [] ≡ Some (reported OutOfMemory None) → HasLoaded device first closed link (outcome sources)
   loaded link sources is = record {
     goes = nothing.goes;
     idle = nothing.idle done;
     late = none_late;
     history = refl;
     failed = unfailed;
-    refused = subst (λ (o : Option Told). IfSome o (λ t. IsSeenIn first closed t.refusal)) (sym is) tt;
+    refused = subst (λ (o : Option ReportedRefusal). IfSome o (λ t. IsSeenIn first closed t.refusal)) (sym is) tt;
   }
 
-  -- what is told is want of memory
-  pub not_run : (link : ℕ) (olds news : List S) (said : Option Told) (counts : DumpCounts) (answers : List AskAnswer) → 1 ≤ length olds → news ≡ olds → said ≡ Some (told OutOfMemory None) → answers ≡ []
-      → CameToLoad device state first closed g link olds news said counts answers
+  -- what is reported is want of memory
+  pub not_run : (link : ℕ) (olds news : List S) (said : Option ReportedRefusal) (counts : DumpCounts) (answers : List AskAnswer) → 1 ≤ length olds → news ≡ olds → said ≡ Some (reported OutOfMemory None) → answers ≡ []
+      → IsLoadOutcome device state first closed g link olds news said counts answers
   not_run link olds news said counts answers some same is none =
       let known = tells olds some in
       record {
-        came_to = came_to olds;
-        outcome = outcome link olds known;
+        outcome = outcome olds;
+        possible = possible link olds known;
         loaded = loaded link olds known;
         sources = subst (AreSourcesRead state (ends_for olds) olds) (sym same) (read olds);
         said_is = is ∙ sym known;
@@ -115,6 +151,6 @@ module _ {D S : Type 0} (device : Device D) (state : S → SourceState) (first c
         answers_are = none;
       }
     where
-      tells : (sources : List S) → 1 ≤ length sources → told_of link (ends_for sources) [] ≡ Some (told OutOfMemory None)
+      tells : (sources : List S) → 1 ≤ length sources → reported_of link (ends_for sources) [] ≡ Some (reported OutOfMemory None)
       tells [] some = absurd (omega (arith, some))
       tells (source ∷ sources) some = refl

@@ -10,7 +10,7 @@ use Rattle.refusals.specs.declared.refusal.Which.TheVariants.{Links}
 use Rattle.refusals.specs.Limits.{limit_of}
 use Rattle.live_session.specs.Jobs.{IsNumbered}
 use Rattle.live_session.specs.Orders.{AreLinkOrders, AreOrdersFor, IsFilling, IsLinkOrder}
-use Rattle.live_session.specs.Parts.{source_of}
+use Rattle.live_session.specs.Results.{source_of}
 use Rattle.live_session.proofs.Lists.{all_append}
 use Rattle.live_session.proofs.Works.{IsLinkOf, LinksApart}
 

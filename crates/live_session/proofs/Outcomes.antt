@@ -1,5 +1,5 @@
 -- What the jobs of a load come to.
-use Rattle.std.proofs.Common.{◌≡◌, ℕ, suc, ◌+◌, ◌<◌, ◌≤◌, List, [], ◌∷◌, ◌++◌, length, drop, min, true, Contains, Option, Some, None, refl, sym, ap, ◌∙◌, subst, arith}
+use Rattle.std.proofs.Common.{◌≡◌, ℕ, suc, ◌+◌, ◌<◌, ◌≤◌, List, [], ◌∷◌, ◌++◌, length, take, drop, min, true, Contains, Option, Some, None, refl, sym, ap, ◌∙◌, subst, arith}
 use Rattle.std.specs.Prelude.{slice_get, option_map, IfSome}
 use Rattle.std.specs.List.{AllByRecursion, filter_map}
 use Rattle.std.proofs.Math.Seq.{drop-append_seam}
@@ -11,6 +11,7 @@ use Rattle.arch_types.specs.declared.row.Row.{Row}
 use Rattle.arch_types.specs.History.{IsHistory}
 use Rattle.outer_traits.specs.States.{SourceState}
 use Rattle.refusals.specs.declared.refusal.Refusal.{Refusal}
+use Rattle.refusals.specs.declared.refusal.Refusal.TheVariants.{DiskFault}
 use Rattle.history_items.specs.declared.fills.Addition.{Addition}
 use Rattle.history_items.specs.declared.fills.Addition.TheVariants as additions
 use Rattle.history_items.specs.declared.fills.Addition.TheVariants.{Rows}
@@ -40,18 +41,18 @@ use Rattle.live_session.specs.declared.order.JobEnd.{JobEnd}
 use Rattle.live_session.specs.declared.order.JobEnd.TheVariants as Ended
 use Rattle.live_session.specs.declared.order.Order.{Order}
 use Rattle.live_session.specs.declared.order.Order.TheVariants as Ordered
-use Rattle.live_session.specs.Dealing.{AreEvery, HaveAsMany, answers_at}
-use Rattle.live_session.specs.Jobs.{CameOf, Given, JobPass, received_by}
+use Rattle.live_session.specs.Interleaving.{AreEveryFourth, HaveAnswersFor, answers_at}
+use Rattle.live_session.specs.Jobs.{IsOutcomeOf, JobPass, JobSetting, received_by}
 use Rattle.live_session.specs.Links.{IsBatchInHand}
 use Rattle.live_session.specs.Orders.{AreOrdersFor}
-use Rattle.live_session.specs.Outcome.{HasFailed, HasLoaded, IsFailedAddition, IsJobsOutcome, IsOtherRefusal, IsSeenIn, JobsOutcome, lefts_of, told_of, told_of_link, told_of_others}
-use Rattle.live_session.specs.Parts.{answers_in, end_in, other_in}
+use Rattle.live_session.specs.Outcome.{HasFailed, HasLoaded, IsFailedAddition, IsFillerCause, IsJobsOutcome, IsReaderCause, IsSeenIn, JobsOutcome, lefts_of, reported_of, reported_of_link, reported_of_others}
+use Rattle.live_session.specs.Results.{answers_in, end_in, other_in}
 use Rattle.live_session.specs.Session.{BeganWith, EndedWithin, IsSessionOver}
 use Rattle.live_session.proofs.Answered.{all_answered, have_as_many}
 use Rattle.live_session.proofs.Failing.{failed_addition, fault_there, of_fault, of_pending, pending_in, settled_on}
-use Rattle.live_session.proofs.Filled.{IsBatchOf, IsJobOf, fault_refuses, filler_fault, fills_were_late, link_batch, of_pass, refusal_of_job}
+use Rattle.live_session.proofs.Filled.{IsBatchOf, IsJobOf, fault_refuses, filler_fault, fills_were_late, link_batch, link_faulted, of_pass, refusal_of_job}
 use Rattle.live_session.proofs.ByKind.{AreEnds, ends_of_load}
-use Rattle.live_session.proofs.Lists.{all_at, all_weaker, below, contains_at}
+use Rattle.live_session.proofs.Lists.{all_at, below, contains_at}
 use Rattle.live_session.proofs.Loads.{each_comes}
 use Rattle.live_session.proofs.Ordered.{link_there, links_apart}
 use Rattle.live_session.proofs.Works.{IsLinkOf, all_put, none_there, placed_by, work_is_of_link, works_differ, works_of}
@@ -69,37 +70,37 @@ rows_all P (items.Row row ∷ xs) each =
     let rest = rows_all P xs (λ i item at. each (suc i) item at) in
     (ap (λ (l : List Item). items.Row row ∷ l) rest.0, (subst P same here.2, rest.1))
 
--- ---- what is told
+-- ---- what is reported
 
-others_unrefused : (others : List (Option Refusal)) → told_of_others others ≡ None → AllByRecursion (λ refusal. refusal ≡ None) others
+others_unrefused : (others : List (Option Refusal)) → reported_of_others others ≡ None → AllByRecursion (λ refusal. refusal ≡ None) others
 others_unrefused [] none = tt
 others_unrefused (None ∷ others) none = (refl, others_unrefused others none)
 others_unrefused (Some refusal ∷ others) none = absurd (cc none)
 
--- nothing is told where no job was refused
-pub unrefused : (link : ℕ) (ends : List LinkEnd) (others : List (Option Refusal)) → told_of link ends others ≡ None
+-- nothing is reported where no job was refused
+pub unrefused : (link : ℕ) (ends : List LinkEnd) (others : List (Option Refusal)) → reported_of link ends others ≡ None
     → AllByRecursion (λ end. refusal_of_end end ≡ None) ends × AllByRecursion (λ refusal. refusal ≡ None) others
 unrefused link [] others none = (tt, others_unrefused others none)
 unrefused link (end ∷ ends) others none = go (refusal_of_end end) refl (λ later. unrefused (suc link) ends others later) none
   where
     go : (o : Option Refusal) → refusal_of_end end ≡ o
-        → (told_of (suc link) ends others ≡ None → AllByRecursion (λ end. refusal_of_end end ≡ None) ends × AllByRecursion (λ refusal. refusal ≡ None) others) → told_of_link link end o (told_of (suc link) ends others) ≡ None
+        → (reported_of (suc link) ends others ≡ None → AllByRecursion (λ end. refusal_of_end end ≡ None) ends × AllByRecursion (λ refusal. refusal ≡ None) others) → reported_of_link link end o (reported_of (suc link) ends others) ≡ None
         → AllByRecursion (λ end. refusal_of_end end ≡ None) (end ∷ ends) × AllByRecursion (λ refusal. refusal ≡ None) others
     go None is later none = let rest = later none in ((is, rest.0), rest.1)
     go (Some refusal) is later none = absurd (cc none)
 
--- what is known of each refusal is of the one that is told
-others_told : (P : Refusal → Type 0) (others : List (Option Refusal)) → AllByRecursion (λ refusal. IfSome refusal P) others → IfSome (told_of_others others) (λ t. P t.refusal)
-others_told P [] all = tt
-others_told P (None ∷ others) all = others_told P others all.1
-others_told P (Some refusal ∷ others) all = all.0
+-- what is known of each refusal is of the one that is reported
+others_reported : (P : Refusal → Type 0) (others : List (Option Refusal)) → AllByRecursion (λ refusal. IfSome refusal P) others → IfSome (reported_of_others others) (λ t. P t.refusal)
+others_reported P [] all = tt
+others_reported P (None ∷ others) all = others_reported P others all.1
+others_reported P (Some refusal ∷ others) all = all.0
 
-told_known : (P : Refusal → Type 0) (link : ℕ) (ends : List LinkEnd) (others : List (Option Refusal)) → AllByRecursion (λ end. IfSome (refusal_of_end end) P) ends → AllByRecursion (λ refusal. IfSome refusal P) others
-    → IfSome (told_of link ends others) (λ t. P t.refusal)
-told_known P link [] others all more = others_told P others more
-told_known P link (end ∷ ends) others all more = go (refusal_of_end end) all.0 (told_known P (suc link) ends others all.1 more)
+reported_known : (P : Refusal → Type 0) (link : ℕ) (ends : List LinkEnd) (others : List (Option Refusal)) → AllByRecursion (λ end. IfSome (refusal_of_end end) P) ends → AllByRecursion (λ refusal. IfSome refusal P) others
+    → IfSome (reported_of link ends others) (λ t. P t.refusal)
+reported_known P link [] others all more = others_reported P others more
+reported_known P link (end ∷ ends) others all more = go (refusal_of_end end) all.0 (reported_known P (suc link) ends others all.1 more)
   where
-    go : (o : Option Refusal) → IfSome o P → IfSome (told_of (suc link) ends others) (λ t. P t.refusal) → IfSome (told_of_link link end o (told_of (suc link) ends others)) (λ t. P t.refusal)
+    go : (o : Option Refusal) → IfSome o P → IfSome (reported_of (suc link) ends others) (λ t. P t.refusal) → IfSome (reported_of_link link end o (reported_of (suc link) ends others)) (λ t. P t.refusal)
     go None p rest = rest
     go (Some refusal) p rest = p
 
@@ -113,12 +114,12 @@ jobs_unrefused (Ended.Filler refusal ∷ ends) links others = (others.0, jobs_un
 
 -- ---- a write that failed
 
-of_fill_failed : (low reached : List Item) (g : Given) (link : ℕ) (lefts : List (Option (List ℕ))) (addition : Addition) → IsOfFill addition → IsFailedAddition low reached g link lefts addition
-of_fill_failed low reached g link lefts (Rows rows) is = absurd is
-of_fill_failed low reached g link lefts additions.Nothing is = is
-of_fill_failed low reached g link lefts (additions.Fill interval base) is = is
+of_fill_failed : (low reached : List Item) (g : JobSetting) (link : ℕ) (lefts : List (Option (List ℕ))) (ends : List LinkEnd) (addition : Addition) → IsOfFill addition → IsFailedAddition low reached g link lefts ends addition
+of_fill_failed low reached g link lefts ends (Rows rows) is = absurd is
+of_fill_failed low reached g link lefts ends additions.Nothing is = is
+of_fill_failed low reached g link lefts ends (additions.Fill interval base) is = is
 
-module _ {D S : Type 0} (device : Device D) (state : S → SourceState) (first closed : StoreView D) (g : Given) (orders : List (Order S)) (ends : List (JobEnd S)) (over : IsSessionOver device state first closed g orders ends)
+module _ {D S : Type 0} (device : Device D) (state : S → SourceState) (first closed : StoreView D) (g : JobSetting) (orders : List (Order S)) (ends : List (JobEnd S)) (over : IsSessionOver device state first closed g orders ends)
     (link : ℕ) (sources : List S) (readers fillers : ℕ) (are : AreOrdersFor link sources readers fillers orders) (done : AllByRecursion IsDone first.fills) (is_history : IsHistory (rows_in closed.history)) where
   none_failed : faults_in first.fills ≡ []
   none_failed = faults_in-done first.fills done
@@ -176,6 +177,9 @@ module _ {D S : Type 0} (device : Device D) (state : S → SourceState) (first c
     abbrev lefts : List (Option (List ℕ))
     lefts = lefts_of state sources
 
+    abbrev link_ends : List LinkEnd
+    link_ends = filter_map end_in ends
+
     -- ---- what came of each job
 
     pub parts : AreEnds device state first closed g failed link sources readers ends
@@ -210,8 +214,8 @@ module _ {D S : Type 0} (device : Device D) (state : S → SourceState) (first c
           job = of_pass device state first g closed.history over.last over.passes orders ends over.each over.began over.within found.0 found.1;
         }
 
-    pub told_so : told_of link (filter_map end_in ends) (filter_map other_in ends) ≡ None → failed ≡ None
-    told_so none = go failed refl
+    pub reported_so : reported_of link (filter_map end_in ends) (filter_map other_in ends) ≡ None → failed ≡ None
+    reported_so none = go failed refl
       where
         go : (o : Option Addition) → failed ≡ o → failed ≡ None
         go None is = is
@@ -235,9 +239,9 @@ module _ {D S : Type 0} (device : Device D) (state : S → SourceState) (first c
     batch_rows_of began n s = next_rows (receiving g.head began g.route n g.moment) s
 
     batch_in_hand : (addition : Addition) → AreNewTo closed.history addition → (began seen : List Item) (n k count : ℕ) (source : S) → IsPrefix seen closed.history → began ≡ first.history
-        → n ≡ link + k → slice_get sources k ≡ Some source → IsBatchOf (receiving g.head began g.route n g.moment) (state source).left seen (Fault count true addition)
-        → IsFailedAddition first.history closed.history g link lefts addition
-    batch_in_hand addition new began seen n k count source within same numbered there batch =
+        → n ≡ link + k → slice_get sources k ≡ Some source → (end : LinkEnd) → slice_get link_ends k ≡ Some end → refusal_of_end end ≡ Some DiskFault → IsBatchOf (receiving g.head began g.route n g.moment) (state source).left seen (Fault count true addition)
+        → IsFailedAddition first.history closed.history g link lefts link_ends addition
+    batch_in_hand addition new began seen n k count source within same numbered there end ended faulted batch =
         let s = batch.came_to in
         let rows = next_fresh_rows (receiving g.head began g.route n g.moment) s in
         let is : addition ≡ Rows rows = (let e = batch.is in cc e) in
@@ -246,85 +250,91 @@ module _ {D S : Type 0} (device : Device D) (state : S → SourceState) (first c
         let stays = fresh_stays s.reached closed.history (batch_rows_of began n s) reached new_rows in
         let moved : fresh_of closed.history (batch_rows_of began n s) ≡ fresh_of closed.history (batch_rows_of first.history (link + k) s) =
         ap (λ (h : List Item). fresh_of closed.history (batch_rows_of h n s)) same ∙ ap (λ (m : ℕ). fresh_of closed.history (batch_rows_of first.history m s)) numbered in
-        let hand : IsBatchInHand first.history closed.history g link lefts rows = record {
+        let hand : IsBatchInHand first.history closed.history g link lefts link_ends rows = record {
           place = k;
           left = (state source).left;
           of_link = slice_get-map (λ (x : S). (state x).left) sources k ∙ ap (option_map (λ (x : S). (state x).left)) there;
-          dump = batch.dump;
-          whole = batch.whole;
+          end = end;
+          ended = ended;
+          end_is = faulted;
+          read = batch.read;
+          read_of = batch.read_of;
           short = batch.short;
           came_to = record s { reached = closed.history };
           parts = batch.parts;
+          within = batch.within;
           between = batch.between;
           reached_is = refl;
           rows_are = sym stays ∙ moved;
         } in
-        subst (IsFailedAddition first.history closed.history g link lefts) (sym is) hand
+        subst (IsFailedAddition first.history closed.history g link lefts link_ends) (sym is) hand
 
     failed_by : (addition : Addition) → AreNewTo closed.history addition → (p : JobPass (HeldStore D)) (place count k : ℕ) → Contains p.ended.fills.places place → slice_get over.last place ≡ Some (Fault count true addition)
-        → BeganWith first p → EndedWithin closed.history over.last p → (order : Order S) (end : JobEnd S) → slice_get orders k ≡ Some order → CameOf device state first g p.began p.ended order end
-        → IsFailedAddition first.history closed.history g link lefts addition
-    failed_by addition new p place count k has_place there began within (Ordered.Link n source wake) (Ended.Link number back end) ordered came =
-        let batch = link_batch (received_by g n p.began) (state source).left p.began p.ended over.last place (Fault count true addition) within.1 began.none.1 has_place there first end came.0.put came.0.dump in
+        → BeganWith first p → EndedWithin closed.history over.last p → (order : Order S) (end : JobEnd S) → slice_get orders k ≡ Some order → slice_get ends k ≡ Some end → IsOutcomeOf device state first g p.began p.ended order end
+        → IsFailedAddition first.history closed.history g link lefts link_ends addition
+    failed_by addition new p place count k has_place there began within (Ordered.Link n source wake) (Ended.Link number back end) ordered ended came =
+        let batch = link_batch (received_by g n p.began) (state source).left p.began p.ended over.last place (Fault count true addition) within.1 began.none.1 has_place there first end came.0 in
         let linked = link_there link sources readers fillers orders are k n (Ordered.Link n source wake) ordered refl in
         let of_source : source ≡ linked.source = linked.of_order in
-        batch_in_hand addition new p.began.history.seen p.ended.history.seen n k count linked.source within.0 began.history linked.number_is linked.there
+        let faulted = link_faulted (received_by g n p.began) (state source).left p.began p.ended over.last place (Fault count true addition) within.1 began.none.1 has_place there first end came.0 in
+        let stands = parts.stands k (below sources k linked.source linked.there) (Ended.Link number back end) end ended refl in
+        batch_in_hand addition new p.began.history.seen p.ended.history.seen n k count linked.source within.0 began.history linked.number_is linked.there end stands faulted
         (subst (λ (x : S). IsBatchOf (receiving g.head p.began.history.seen g.route n g.moment) (state x).left p.ended.history.seen (Fault count true addition)) of_source batch)
-    failed_by addition new p place count k has_place there began within (Ordered.Reader before) (Ended.Reader answers refusal) ordered came =
+    failed_by addition new p place count k has_place there began within (Ordered.Reader before) (Ended.Reader answers refusal) ordered ended came =
         absurd (none_there p.ended.fills.places place (came.0.put_none.1 ∙ began.none.1) has_place)
-    failed_by addition new p place count k has_place there began within (Ordered.Filler wakes) (Ended.Filler refusal) ordered came =
-        of_fill_failed first.history closed.history g link lefts addition (filler_fault device state first g p closed.history over.last began within place count addition has_place there came.0)
-    failed_by addition new p place count k has_place there began within order end ordered came = absurd came
+    failed_by addition new p place count k has_place there began within (Ordered.Filler wakes) (Ended.Filler refusal) ordered ended came =
+        of_fill_failed first.history closed.history g link lefts link_ends addition (filler_fault device state first g p closed.history over.last began within place count addition has_place there came.0)
+    failed_by addition new p place count k has_place there began within order end ordered ended came = absurd came
 
-    pub failed_so : IfSome failed (IsFailedAddition first.history closed.history g link lefts)
+    pub failed_so : IfSome failed (IsFailedAddition first.history closed.history g link lefts link_ends)
     failed_so = go failed refl
       where
-        go : (o : Option Addition) → failed ≡ o → IfSome o (IsFailedAddition first.history closed.history g link lefts)
+        go : (o : Option Addition) → failed ≡ o → IfSome o (IsFailedAddition first.history closed.history g link lefts link_ends)
         go None is = tt
         go (Some addition) is =
             let at = at_fault addition is in
             let job = at.job in
-            failed_by addition (still_new addition is) at.pass at.place at.count job.number at.has_place at.there job.began job.within job.order job.end job.ordered job.came
+            failed_by addition (still_new addition is) at.pass at.place at.count job.number at.has_place at.there job.began job.within job.order job.end job.ordered job.ended job.came
 
     -- ---- the whole
 
     module _ (of_archive : g.head ≡ first.head) (many_readers : readers ≡ min 4 (length g.asks)) (answers : List AskAnswer)
-        (dealt : HaveAsMany g.asks (answers_at 0 (filter_map answers_in ends)) (answers_at 1 (filter_map answers_in ends)) (answers_at 2 (filter_map answers_in ends)) (answers_at 3 (filter_map answers_in ends))
-        → AreEvery answers (answers_at 0 (filter_map answers_in ends)) (answers_at 1 (filter_map answers_in ends)) (answers_at 2 (filter_map answers_in ends)) (answers_at 3 (filter_map answers_in ends))) where
-      abbrev pub came_to : JobsOutcome
-      came_to = record { reached = closed.history; ends = filter_map end_in ends; answers = answers; others = filter_map other_in ends; failed = failed }
+        (interleaved : HaveAnswersFor g.asks (answers_at 0 (filter_map answers_in ends)) (answers_at 1 (filter_map answers_in ends)) (answers_at 2 (filter_map answers_in ends)) (answers_at 3 (filter_map answers_in ends))
+        → AreEveryFourth answers (answers_at 0 (filter_map answers_in ends)) (answers_at 1 (filter_map answers_in ends)) (answers_at 2 (filter_map answers_in ends)) (answers_at 3 (filter_map answers_in ends))) where
+      abbrev pub outcome : JobsOutcome
+      outcome = record { reached = closed.history; ends = filter_map end_in ends; answers = answers; others = filter_map other_in ends; failed = failed }
 
-      answered : told_of link came_to.ends came_to.others ≡ None → (before : ℕ) → before < 4
+      answered : reported_of link outcome.ends outcome.others ≡ None → (before : ℕ) → before < 4
           → AreAnswered (WhereSound device first) g.head first.history closed.history (every_fourth before g.asks) (every_fourth before answers) None
       answered none =
-          let calm = (unrefused link came_to.ends came_to.others none).1 in
+          let calm = (unrefused link outcome.ends outcome.others none).1 in
           let lists = filter_map answers_in ends in
           let each : (k : ℕ) → k < min 4 (length g.asks) → AreAnswered (WhereSound device first) g.head first.history closed.history (every_fourth k g.asks) (answers_at k lists) None =
           λ k low. subst (λ (h : Head). AreAnswered (WhereSound device first) h first.history closed.history (every_fourth k g.asks) (answers_at k lists) None) (sym of_archive)
           (parts.answered calm k (omega (arith, low, many_readers))) in
           let many : length lists ≡ min 4 (length g.asks) = parts.many ∙ many_readers in
           all_answered (WhereSound device first) g.head first.history closed.history g.asks lists many each answers
-          (dealt (have_as_many (WhereSound device first) g.head first.history closed.history g.asks lists many each))
+          (interleaved (have_as_many (WhereSound device first) g.head first.history closed.history g.asks lists many each))
 
-      pub outcome : IsJobsOutcome (WhereSound device first) first.exponent first.history g link lefts came_to
-      outcome = record {
+      pub possible : IsJobsOutcome (WhereSound device first) first.exponent first.history g link lefts outcome
+      possible = record {
         more = came_rows;
         grown = grown;
         of_links = all_of_links;
         links = parts.loaded;
         answered = answered;
-        others = all_weaker (λ refusal. IsOtherRefusal failed refusal × IfSome refusal (IsSeenIn first closed)) (IsOtherRefusal failed) came_to.others (λ refusal said. said.0) parts.said;
-        told_so = told_so;
+        readers = subst (λ (n : ℕ). AllByRecursion IsReaderCause (take n (filter_map other_in ends))) many_readers parts.causes;
+        fillers = subst (λ (n : ℕ). AllByRecursion (IsFillerCause failed) (drop n (filter_map other_in ends))) many_readers parts.filler_causes;
+        reported_so = reported_so;
         failed = failed_so;
       }
 
-      pub loaded : HasLoaded device first closed link came_to
+      pub loaded : HasLoaded device first closed link outcome
       loaded = record {
         goes = over.goes;
         idle = over.idle;
         late = fills_were_late device state first closed g orders ends over;
         history = refl;
         failed = has;
-        refused = told_known (IsSeenIn first closed) link came_to.ends came_to.others parts.seen
-            (all_weaker (λ refusal. IsOtherRefusal failed refusal × IfSome refusal (IsSeenIn first closed)) (λ refusal. IfSome refusal (IsSeenIn first closed)) came_to.others (λ refusal said. said.1) parts.said);
+        refused = reported_known (IsSeenIn first closed) link outcome.ends outcome.others parts.seen parts.others_seen;
       }

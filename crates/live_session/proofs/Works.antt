@@ -13,7 +13,7 @@ use Rattle.live_session.specs.declared.order.JobEnd.{JobEnd}
 use Rattle.live_session.specs.declared.order.JobEnd.TheVariants as Ended
 use Rattle.live_session.specs.declared.order.Order.{Order}
 use Rattle.live_session.specs.declared.order.Order.TheVariants as Ordered
-use Rattle.live_session.specs.Jobs.{EachCame, Given, JobPass}
+use Rattle.live_session.specs.Jobs.{AreOutcomesOf, JobPass, JobSetting}
 use Rattle.live_session.specs.Session.{BeganWith, EndedWithin}
 use Rattle.live_session.proofs.Lists.{later_contains}
 
@@ -40,9 +40,9 @@ differ_more w ws other differ a b (zero, low, e) (suc j, high, f) same = absurd 
 differ_more w ws other differ a b (suc i, low, e) (zero, high, f) same = absurd (other a (i, omega (arith, low), e) (same ∙ sym (ap (λ (x : LinkWork). x.link) f)))
 differ_more w ws other differ a b (suc i, low, e) (suc j, high, f) same = differ a b (i, omega (arith, low), e) (j, omega (arith, high), f) same
 
-module _ {D T S : Type 0} (device : Device D) (state : S → SourceState) (first : StoreView D) (g : Given) where
+module _ {D T S : Type 0} (device : Device D) (state : S → SourceState) (first : StoreView D) (g : JobSetting) where
   abbrev Came : List (JobPass T) → List (Order S) → List (JobEnd S) → Type 0
-  Came passes orders ends = EachCame device state first g passes orders ends
+  Came passes orders ends = AreOutcomesOf device state first g passes orders ends
 
   -- what the links put, in the order of the jobs
   abbrev pub works_of : (passes : List (JobPass T)) (orders : List (Order S)) (ends : List (JobEnd S)) → Came passes orders ends → List LinkWork

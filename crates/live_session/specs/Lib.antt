@@ -2,6 +2,6 @@ pub mod Jobs
 pub mod Orders
 pub mod Session
 pub mod Links
-pub mod Parts
-pub mod Dealing
+pub mod Results
+pub mod Interleaving
 pub mod Outcome

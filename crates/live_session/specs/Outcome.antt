@@ -1,5 +1,5 @@
 -- What the jobs of a load come to.
-use Rattle.std.specs.Prelude.{◌≡◌, ℕ, suc, ◌+◌, ◌^◌, ◌<◌, ◌≤◌, List, [], ◌∷◌, ◌++◌, length, map, Option, Some, None, IfSome, IsSome, if◌then◌else◌}
+use Rattle.std.specs.Prelude.{◌≡◌, ℕ, suc, ◌+◌, ◌^◌, ◌<◌, ◌≤◌, List, [], ◌∷◌, ◌++◌, length, drop, take, min, map, Option, Some, None, IfSome, IsSome, if◌then◌else◌}
 use Rattle.std.specs.List.{AllByRecursion}
 use Rattle.arch_disk.specs.Disk.{Device}
 use Rattle.arch_types.specs.declared.row.Row.{Row}
@@ -24,12 +24,12 @@ use Rattle.live_fills.specs.Laws.{WereLate}
 use Rattle.load_jobs.specs.declared.ending.LinkEnd.{LinkEnd}
 use Rattle.load_jobs.specs.declared.ending.LinkEnd.TheVariants.{Whole}
 use Rattle.load_jobs.specs.Ends.{is_of_dump, refusal_of_end}
-use Rattle.live_session.specs.declared.told.DumpCounts.{DumpCounts}
-use Rattle.live_session.specs.declared.told.Told.{Told}
-use Rattle.live_session.specs.Jobs.{Given, IsSourceRead}
+use Rattle.live_session.specs.declared.reported.DumpCounts.{DumpCounts}
+use Rattle.live_session.specs.declared.reported.ReportedRefusal.{ReportedRefusal}
+use Rattle.live_session.specs.Jobs.{IsSourceRead, JobSetting}
 use Rattle.live_session.specs.Links.{AreLinksLoaded, IsBatchInHand}
 
--- What the jobs of a load came to: the history that was reached; how each link ended, in the order of the links; the
+-- The outcome of the jobs of a load: the history that was reached; how each link ended, in the order of the links; the
 -- answers to the asks, in their order; why each reader and each filler was refused, if it was, in the jobs' order; and
 -- what a failed write was to add, if one failed.
 pub record JobsOutcome : Type 0 where
@@ -39,27 +39,28 @@ pub record JobsOutcome : Type 0 where
   pub others : List (Option Refusal)
   pub failed : Option Addition
 
--- ---- what is told of it
+-- ---- what is reported of it
 
--- a refusal is told, with the link where its dump is what is wrong
-abbrev pub told : Refusal → Option ℕ → Told
-told refusal link = record { refusal = refusal; link = link }
+-- a refusal is reported, with the link where its dump is what is wrong
+abbrev pub reported : Refusal → Option ℕ → ReportedRefusal
+reported refusal link = record { refusal = refusal; link = link }
 
 -- the refusal of the first of readers and fillers that was refused
-abbrev pub told_of_others : List (Option Refusal) → Option Told
-told_of_others [] = None
-told_of_others (None ∷ others) = told_of_others others
-told_of_others (Some refusal ∷ others) = Some (told refusal None)
+abbrev pub reported_of_others : List (Option Refusal) → Option ReportedRefusal
+reported_of_others [] = None
+reported_of_others (None ∷ others) = reported_of_others others
+reported_of_others (Some refusal ∷ others) = Some (reported refusal None)
 
--- what is told of a link of this number by its refusal, and else what is told of those behind it
-abbrev pub told_of_link : ℕ → LinkEnd → Option Refusal → Option Told → Option Told
-told_of_link link end None next = next
-told_of_link link end (Some refusal) next = Some (told refusal (if is_of_dump end then Some link else None))
+-- what is reported of a link of this number by its refusal, and else what is reported of those behind it
+abbrev pub reported_of_link : ℕ → LinkEnd → Option Refusal → Option ReportedRefusal → Option ReportedRefusal
+reported_of_link link end None next = next
+reported_of_link link end (Some refusal) next = Some (reported refusal (if is_of_dump end then Some link else None))
 
 -- That of the first job that was refused, by its number: links come first, whose numbers rise from this one.
-abbrev pub told_of : ℕ → List LinkEnd → List (Option Refusal) → Option Told
-told_of link [] others = told_of_others others
-told_of link (end ∷ ends) others = told_of_link link end (refusal_of_end end) (told_of (suc link) ends others)
+abbrev pub reported_of : ℕ → List LinkEnd → List (Option Refusal) → Option ReportedRefusal
+reported_of link [] others = reported_of_others others
+reported_of link (end ∷ ends) others =
+    reported_of_link link end (refusal_of_end end) (reported_of (suc link) ends others)
 
 -- what the whole dumps of links had together
 abbrev pub counts_with : LinkEnd → DumpCounts → DumpCounts
@@ -81,37 +82,46 @@ HasFewCounts other = Unit {0}
 
 -- ---- what may come of jobs
 
--- Why a reader or a filler was refused, where this is what a failed write was to add: memory was wanting; a write had
--- failed; a record more passes the limit; or the disk failed at a fill.
-abbrev pub IsOtherRefusal : Option Addition → Option Refusal → Type 0
-IsOtherRefusal failed None = Unit {0}
-IsOtherRefusal failed (Some OutOfMemory) = Unit {0}
-IsOtherRefusal failed (Some (NeedsReopen faults)) = IsSome failed
-IsOtherRefusal failed (Some (Limit which number)) = (which ≡ Records) × (number ≡ limit_of Records)
-IsOtherRefusal failed (Some DiskFault) = (addition : Addition) × (failed ≡ Some addition) × IsOfFill addition
-IsOtherRefusal failed (Some other) = ⊥
+-- a reader is refused for want of memory alone
+abbrev pub IsReaderCause : Option Refusal → Type 0
+IsReaderCause refusal = IfSome refusal (λ e. e ≡ OutOfMemory)
 
--- What a failed write was to add: the batch in hand of one of the links, or a fill.
-abbrev pub IsFailedAddition : List Item → List Item → Given → ℕ → List (Option (List ℕ)) → Addition → Type 0
-IsFailedAddition low reached g link lefts (Rows rows) = IsBatchInHand low reached g link lefts rows
-IsFailedAddition low reached g link lefts other = IsOfFill other
+-- Why a filler was refused, where this is what a failed write was to add: memory was wanting; a write had failed; a
+-- record more passes the limit; or the disk failed at a fill.
+abbrev pub IsFillerCause : Option Addition → Option Refusal → Type 0
+IsFillerCause failed None = Unit {0}
+IsFillerCause failed (Some OutOfMemory) = Unit {0}
+IsFillerCause failed (Some (NeedsReopen faults)) = IsSome failed
+IsFillerCause failed (Some (Limit which number)) = (which ≡ Records) × (number ≡ limit_of Records)
+IsFillerCause failed (Some DiskFault) = (addition : Addition) × (failed ≡ Some addition) × IsOfFill addition
+IsFillerCause failed (Some other) = ⊥
+
+-- What a failed write was to add: the batch in hand of one of the links, which ended so, or a fill.
+abbrev pub IsFailedAddition : List Item → List Item → JobSetting → ℕ → List (Option (List ℕ)) → List LinkEnd → Addition
+    → Type 0
+IsFailedAddition first reached setting link dumps ends (Rows rows) =
+    IsBatchInHand first reached setting link dumps ends rows
+IsFailedAddition first reached setting link dumps ends other = IsOfFill other
 
 -- What the jobs of links from this number on, by what is left of their dumps, may come to behind a history, over
 -- intervals of this exponent; what an answer says of cells holds where `Where` says so.
-pub record IsJobsOutcome (Where : Type 0 → Type 0) (exponent : ℕ) (low : List Item) (g : Given) (link : ℕ)
-    (lefts : List (Option (List ℕ))) (c : JobsOutcome) : Type 0 where
+pub record IsJobsOutcome (Where : Type 0 → Type 0) (exponent : ℕ) (first : List Item) (setting : JobSetting) (link : ℕ)
+    (dumps : List (Option (List ℕ))) (outcome : JobsOutcome) : Type 0 where
   -- rows came, each by one of the links
   pub more : List Row
-  pub grown : c.reached ≡ low ++ items_of more
-  pub of_links : AllByRecursion (λ row. (link ≤ row.link) × (row.link < link + length lefts)) more
-  pub links : AreLinksLoaded exponent c.failed low c.reached g link lefts c.ends
+  pub grown : outcome.reached ≡ first ++ items_of more
+  pub of_links : AllByRecursion (λ row. (link ≤ row.link) × (row.link < link + length dumps)) more
+  pub links : AreLinksLoaded exponent outcome.failed first outcome.reached setting link dumps outcome.ends
   -- where nothing was refused each ask is answered: every fourth over histories that go on from each other
-  pub answered : told_of link c.ends c.others ≡ None → (before : ℕ) → before < 4 →
-      AreAnswered Where g.head low c.reached (every_fourth before g.asks) (every_fourth before c.answers) None
-  pub others : AllByRecursion (IsOtherRefusal c.failed) c.others
-  -- a write that failed is told, and nothing came behind it
-  pub told_so : told_of link c.ends c.others ≡ None → c.failed ≡ None
-  pub failed : IfSome c.failed (IsFailedAddition low c.reached g link lefts)
+  pub answered : reported_of link outcome.ends outcome.others ≡ None → (before : ℕ) → before < 4 →
+      AreAnswered Where setting.head first outcome.reached (every_fourth before setting.asks)
+      (every_fourth before outcome.answers) None
+  -- readers come first, one for each ask, but four at most; behind them come the fillers
+  pub readers : AllByRecursion IsReaderCause (take (min 4 (length setting.asks)) outcome.others)
+  pub fillers : AllByRecursion (IsFillerCause outcome.failed) (drop (min 4 (length setting.asks)) outcome.others)
+  -- a write that failed is reported, and nothing came behind it
+  pub reported_so : reported_of link outcome.ends outcome.others ≡ None → outcome.failed ≡ None
+  pub failed : IfSome outcome.failed (IsFailedAddition first outcome.reached setting link dumps outcome.ends)
 
 -- ---- the store behind it
 
@@ -130,14 +140,15 @@ IsSeenIn first closed other = Unit {0}
 
 -- A store goes on from a first one, and has what the jobs of a load came to. No fill is in flight, and each that came
 -- since was of a late interval.
-pub record HasLoaded {D : Type 0} (device : Device D) (first closed : StoreView D) (link : ℕ) (c : JobsOutcome)
+pub record HasLoaded {D : Type 0} (device : Device D) (first closed : StoreView D) (link : ℕ) (outcome : JobsOutcome)
     : Type 0 where
   pub goes : GoesOn device first closed
   pub idle : (interval : Interval) → in_flight interval closed.fills ≡ None
   pub late : WereLate first closed
-  pub history : closed.history ≡ c.reached
-  pub failed : HasFailed device first closed c.failed
-  pub refused : IfSome (told_of link c.ends c.others) (λ told. IsSeenIn first closed told.refusal)
+  pub history : closed.history ≡ outcome.reached
+  pub failed : HasFailed device first closed outcome.failed
+  pub refused : IfSome (reported_of link outcome.ends outcome.others)
+      (λ reported. IsSeenIn first closed reported.refusal)
 
 -- ---- the whole
 
@@ -152,17 +163,18 @@ AreSourcesRead state ends olds news = ⊥
 abbrev pub lefts_of : {S : Type 0} → (S → SourceState) → List S → List (Option (List ℕ))
 lefts_of state sources = map (λ source. (state source).left) sources
 
--- The jobs of a load by these sources were run over a store, or there was no memory for them, which is told as the
--- refusal of each link. They came to something of which this is told, with these answers; where nothing was refused
--- these are the counts of the dumps, and no more rows came than their packets are.
-pub record CameToLoad {D S : Type 0} (device : Device D) (state : S → SourceState) (first closed : StoreView D)
-    (g : Given) (link : ℕ) (olds news : List S) (said : Option Told) (counts : DumpCounts) (answers : List AskAnswer)
-    : Type 0 where
-  pub came_to : JobsOutcome
-  pub outcome : IsJobsOutcome (WhereSound device first) first.exponent first.history g link (lefts_of state olds) came_to
-  pub loaded : HasLoaded device first closed link came_to
-  pub sources : AreSourcesRead state came_to.ends olds news
-  pub said_is : said ≡ told_of link came_to.ends came_to.others
-  pub counts_are : said ≡ None → counts ≡ counts_of came_to.ends
-  pub no_more : said ≡ None → length came_to.reached ≤ length first.history + counts.routed
-  pub answers_are : answers ≡ came_to.answers
+-- The jobs of a load by these sources were run over a store, or there was no memory for them, which is the refusal of
+-- each link. Of their outcome this is reported, with these answers; where nothing was refused these are the counts of
+-- the dumps, and no more rows came than their packets are.
+pub record IsLoadOutcome {D S : Type 0} (device : Device D) (state : S → SourceState) (first closed : StoreView D)
+    (setting : JobSetting) (link : ℕ) (olds news : List S) (said : Option ReportedRefusal) (counts : DumpCounts)
+    (answers : List AskAnswer) : Type 0 where
+  pub outcome : JobsOutcome
+  pub possible : IsJobsOutcome (WhereSound device first) first.exponent first.history setting link
+      (lefts_of state olds) outcome
+  pub loaded : HasLoaded device first closed link outcome
+  pub sources : AreSourcesRead state outcome.ends olds news
+  pub said_is : said ≡ reported_of link outcome.ends outcome.others
+  pub counts_are : said ≡ None → counts ≡ counts_of outcome.ends
+  pub no_more : said ≡ None → length outcome.reached ≤ length first.history + counts.routed
+  pub answers_are : answers ≡ outcome.answers

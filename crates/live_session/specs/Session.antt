@@ -17,15 +17,16 @@ use Rattle.live_archive.specs.declared.held.HeldStore.{HeldStore}
 use Rattle.live_archive.specs.GoesOn.{GoesOn}
 use Rattle.live_session.specs.declared.order.JobEnd.{JobEnd}
 use Rattle.live_session.specs.declared.order.Order.{Order}
-use Rattle.live_session.specs.Jobs.{EachCame, Given, JobPass}
+use Rattle.live_session.specs.Jobs.{AreOutcomesOf, JobPass, JobSetting}
 
 -- ---- jobs over a live archive
 
 -- Jobs ran with passes that were split off one, and joined to it at their ends. It has its share again.
-pub record HaveRun {D T S : Type 0} (device : Device D) (state : S → SourceState) (first : StoreView D) (g : Given)
-    (old now : PassView Item Fill T) (orders : List (Order S)) (ends : List (JobEnd S)) : Type 0 where
+pub record HaveRun {D T S : Type 0} (device : Device D) (state : S → SourceState) (first : StoreView D)
+    (setting : JobSetting) (old now : PassView Item Fill T) (orders : List (Order S)) (ends : List (JobEnd S))
+    : Type 0 where
   pub passes : List (JobPass T)
-  pub each : EachCame device state first g passes orders ends
+  pub each : AreOutcomesOf device state first setting passes orders ends
   pub began : AllByRecursion (λ p. HasSeenAsMuch old p.began) passes
   pub split : PassView Item Fill T
   pub same : (split.history ≡ old.history) × (split.fills ≡ old.fills)
@@ -48,11 +49,11 @@ EndedWithin history fills pass =
 -- The archive goes on from the first one, with each flight ended. This came of each job, by its pass, and each item
 -- that came to either list stands at a place of one of these passes.
 pub record IsSessionOver {D S : Type 0} (device : Device D) (state : S → SourceState) (first closed : StoreView D)
-    (g : Given) (orders : List (Order S)) (ends : List (JobEnd S)) : Type 0 where
+    (setting : JobSetting) (orders : List (Order S)) (ends : List (JobEnd S)) : Type 0 where
   pub goes : GoesOn device first closed
   pub idle : (interval : Interval) → in_flight interval closed.fills ≡ None
   pub passes : List (JobPass (HeldStore D))
-  pub each : EachCame device state first g passes orders ends
+  pub each : AreOutcomesOf device state first setting passes orders ends
   pub began : AllByRecursion (BeganWith first) passes
   pub last : List Fill
   pub settled : closed.fills ≡ all_freed last

@@ -1,8 +1,8 @@
 //! A session of many jobs over one archive: links that send dumps, readers that answer asks, and fillers.
 //!
-//! Stands for: what a load's jobs come to (`IsJobsOutcome` in specs/Outcome.antt): the rows that came are the links'
-//! (`LinkLoads`), each answer is over a history from the first to the last one, and what is told is the refusal of the
-//! first job that was refused. Beneath it, what came of each job by its pass (`CameOf`), and of the archive
+//! Stands for: the outcome of a load's jobs (`IsJobsOutcome` in specs/Outcome.antt): the rows that came are the links'
+//! (`LinkLoads`), each answer is over a history from the first to the last one, and what is reported is the
+//! refusal of the first job that was refused. Beneath it, the outcome of each job by its pass (`IsOutcomeOf`), and of the archive
 //! (`IsSessionOver` in specs/Session.antt): each item that came stands at a place of a job's pass, and what each job
 //! saw begins what there is at the end. Called by load_command.
 //!
@@ -12,15 +12,15 @@
 //! Begin with `load` and `JobsOutcome`.
 #![tactic(auto)]
 
-mod dealing;
+mod interleaving;
 mod job;
 mod loading;
 mod order;
 mod ordering;
-mod parting;
+mod reported;
+mod results;
 mod running;
 mod session;
-mod told;
 
 pub use loading::{LoadJob, Loaded, load};
-pub use told::{DumpCounts, Told};
+pub use reported::{DumpCounts, ReportedRefusal};

@@ -10,16 +10,16 @@ ghost use Rattle.history_items.specs.Items.{databases_in};
 ghost use Rattle.store_fills.specs.Faults.{IsDone};
 ghost use Rattle.retrieval.specs.FoundAsks.{AreFound};
 ghost use Rattle.load_session.specs.Receiving.{IsRouteOver};
-ghost use Rattle.live_session.specs.Dealing.{AreEvery, HaveAsMany, answers_at};
-ghost use Rattle.live_session.specs.Jobs.{given};
-ghost use Rattle.live_session.specs.Outcome.{CameToLoad, HasFewCounts, counts_of, told, told_of};
+ghost use Rattle.live_session.specs.Interleaving.{AreEveryFourth, HaveAnswersFor, answers_at};
+ghost use Rattle.live_session.specs.Jobs.{job_setting};
+ghost use Rattle.live_session.specs.Outcome.{HasFewCounts, IsLoadOutcome, counts_of, reported, reported_of};
 
-use crate::dealing::in_order_of;
+use crate::interleaving::in_order_of;
 use crate::order::Setting;
 use crate::ordering::orders_of;
-use crate::parting::{Parts, part, sources_back};
+use crate::reported::{DumpCounts, ReportedRefusal, counts_of, reported_of};
+use crate::results::{JobResults, sort_results, sources_back};
 use crate::session::{NotBegun, SessionEnd, run_session};
-use crate::told::{DumpCounts, Told, counts_of, told_of};
 use arch_disk::Disk;
 use archive_store::{Head, Store};
 use live_asks::{AskAnswer, AskAnswers, READERS};
@@ -52,7 +52,7 @@ pub struct Loaded<D: Disk, S> {
     /// In their order, to be closed.
     pub sources: Vec<S>,
     /// Why it was refused.
-    pub told: Option<Told>,
+    pub reported: Option<ReportedRefusal>,
     pub counts: DumpCounts,
     /// The answers to the asks, in their order.
     pub answers: AskAnswers,
@@ -61,8 +61,8 @@ pub struct Loaded<D: Disk, S> {
 /// Sends the packets of dumps to an archive, each dump by a link of its own, answers asks, and fills what is late, all
 /// beside each other. A write that failed stays pending.
 ///
-/// Where jobs are refused, that of the first is told: links come first, then readers, then fillers. Where there's no
-/// memory for the jobs, none is run.
+/// Where jobs are refused, that of the first is reported: links come first, then readers, then fillers. Where there's
+/// no memory for the jobs, none is run.
 pub fn load<D: Disk + Send, S: Source + Send + Drop, G: Gate + Sync, R: Threads + Wait + Sync>(
     rt: &R,
     alloc: Global,
@@ -78,8 +78,9 @@ pub fn load<D: Disk + Send, S: Source + Send + Drop, G: Gate + Sync, R: Threads 
     requires route { IsRouteOver store.head job.graph }
     requires found { AreFound store.head store.history asks.now }
     requires opened { AllByRecursion IsDone store.fills }
-    ensures came_to { CameToLoad D.device S.state store result.store (given store.head job.graph job.moment asks.now)
-        job.link job.sources.items result.sources.items result.told result.counts result.answers }
+    ensures outcome { IsLoadOutcome D.device S.state store result.store
+        (job_setting store.head job.graph job.moment asks.now) job.link job.sources.items
+        result.sources.items result.reported result.counts result.answers }
 {
     let LoadJob {
         moment,
@@ -94,7 +95,7 @@ pub fn load<D: Disk + Send, S: Source + Send + Drop, G: Gate + Sync, R: Threads 
     };
     let Room {
         head,
-        parts,
+        results,
         answers,
     } = room;
     let orders = match orders_of(alloc, link, sources, asks.len(), fillers) {
@@ -112,11 +113,18 @@ pub fn load<D: Disk + Send, S: Source + Send + Drop, G: Gate + Sync, R: Threads 
         Ok(end) => {
             let SessionEnd { store, ends } = end;
             store.is_kept();
-            came_to(alloc, store, link, part(ends, parts), asks, answers)
+            load_end(
+                alloc,
+                store,
+                link,
+                sort_results(ends, results),
+                asks,
+                answers,
+            )
         }
         Err(back) => {
             let NotBegun { store, orders } = back;
-            not_run(alloc, store, sources_back(orders, parts.sources))
+            not_run(alloc, store, sources_back(orders, results.sources))
         }
     }
 }
@@ -125,7 +133,7 @@ pub fn load<D: Disk + Send, S: Source + Send + Drop, G: Gate + Sync, R: Threads 
 #[derive(Drop)]
 struct Room<S> {
     head: Head,
-    parts: Parts<S>,
+    results: JobResults<S>,
     answers: Vec<AskAnswer>,
 }
 
@@ -133,11 +141,11 @@ impl<S: Drop> Room<S> {
     /// A copy of the head, and room for what comes of so many jobs and asks.
     fn new(alloc: Global, head: &Head, jobs: usize, asks: usize) -> Result<Room<S>, AllocError>
         ensures head { IfOk result (λ room. room.head ≡ head.now) }
-        ensures none { IfOk result (λ room. (room.parts.sources.items ≡ []) × (room.parts.ends.items ≡ [])
-            × (room.parts.answers.items ≡ []) × (room.parts.others.items ≡ []) × (room.answers.items ≡ [])) }
-        ensures room { IfOk result (λ room. (vec_capacity room.parts.sources ≡ jobs)
-            × (vec_capacity room.parts.ends ≡ jobs) × (vec_capacity room.parts.answers ≡ jobs)
-            × (vec_capacity room.parts.others ≡ jobs) × (vec_capacity room.answers ≡ asks)) }
+        ensures none { IfOk result (λ room. (room.results.sources.items ≡ []) × (room.results.ends.items ≡ [])
+            × (room.results.answers.items ≡ []) × (room.results.others.items ≡ []) × (room.answers.items ≡ [])) }
+        ensures room { IfOk result (λ room. (vec_capacity room.results.sources ≡ jobs)
+            × (vec_capacity room.results.ends ≡ jobs) × (vec_capacity room.results.answers ≡ jobs)
+            × (vec_capacity room.results.others ≡ jobs) × (vec_capacity room.answers ≡ asks)) }
     {
         let head = Head {
             tables: head.tables.copy(alloc)?,
@@ -145,7 +153,7 @@ impl<S: Drop> Room<S> {
         };
         Ok(Room {
             head,
-            parts: Parts::new(alloc, jobs)?,
+            results: JobResults::new(alloc, jobs)?,
             answers: Vec::with_capacity(alloc, asks)?,
         })
     }
@@ -154,13 +162,13 @@ impl<S: Drop> Room<S> {
 /// What a load leaves whose jobs weren't run.
 fn not_run<D: Disk, S>(alloc: Global, store: Store<D>, sources: Vec<S>) -> Loaded<D, S>
     ensures same { (result.store ≡ store) × (result.sources.items ≡ sources.items) }
-    ensures told { result.told ≡ Some (told refused.OutOfMemory None) }
+    ensures reported { result.reported ≡ Some (reported refused.OutOfMemory None) }
     ensures none { result.answers ≡ [] }
 {
     Loaded {
         store,
         sources,
-        told: Some(Told {
+        reported: Some(ReportedRefusal {
             refusal: Refusal::OutOfMemory,
             link: None,
         }),
@@ -169,41 +177,41 @@ fn not_run<D: Disk, S>(alloc: Global, store: Store<D>, sources: Vec<S>) -> Loade
     }
 }
 
-/// What a load leaves whose jobs came to this.
-fn came_to<D: Disk, S: Drop>(
+/// What a load leaves whose jobs had these results.
+fn load_end<D: Disk, S: Drop>(
     alloc: Global,
     store: Store<D>,
     link: u16,
-    parts: Parts<S>,
+    results: JobResults<S>,
     asks: &[FoundAsk],
     room: Vec<AskAnswer>,
 ) -> Loaded<D, S>
-    requires links { link + vec_len parts.ends ≤ limit_of limits.Links + 1 }
-    requires dumps { vec_len parts.ends ≤ limit_of limits.Dumps }
-    requires few { AllByRecursion HasFewCounts parts.ends.items }
-    requires readers { vec_len parts.answers ≤ 4 }
+    requires links { link + vec_len results.ends ≤ limit_of limits.Links + 1 }
+    requires dumps { vec_len results.ends ≤ limit_of limits.Dumps }
+    requires few { AllByRecursion HasFewCounts results.ends.items }
+    requires readers { vec_len results.answers ≤ 4 }
     requires room { (room.items ≡ []) × (length asks.now ≤ vec_capacity room) }
-    ensures same { (result.store ≡ store) × (result.sources.items ≡ parts.sources.items) }
-    ensures told { result.told ≡ told_of link parts.ends.items parts.others.items }
-    ensures counts { result.counts ≡ counts_of parts.ends.items }
-    ensures answers { HaveAsMany asks.now (answers_at 0 parts.answers.items) (answers_at 1 parts.answers.items)
-        (answers_at 2 parts.answers.items) (answers_at 3 parts.answers.items)
-        → AreEvery result.answers (answers_at 0 parts.answers.items) (answers_at 1 parts.answers.items)
-        (answers_at 2 parts.answers.items) (answers_at 3 parts.answers.items) }
+    ensures same { (result.store ≡ store) × (result.sources.items ≡ results.sources.items) }
+    ensures reported { result.reported ≡ reported_of link results.ends.items results.others.items }
+    ensures counts { result.counts ≡ counts_of results.ends.items }
+    ensures answers { HaveAnswersFor asks.now (answers_at 0 results.answers.items) (answers_at 1 results.answers.items)
+        (answers_at 2 results.answers.items) (answers_at 3 results.answers.items)
+        → AreEveryFourth result.answers (answers_at 0 results.answers.items) (answers_at 1 results.answers.items)
+        (answers_at 2 results.answers.items) (answers_at 3 results.answers.items) }
 {
-    let Parts {
+    let JobResults {
         sources,
         ends,
         answers,
         others,
-    } = parts;
+    } = results;
     let counts = counts_of(ends.as_slice());
-    let told = told_of(link, ends, others);
+    let reported = reported_of(link, ends, others);
     let answers = in_order_of(alloc, asks, answers, room);
     Loaded {
         store,
         sources,
-        told,
+        reported,
         counts,
         answers,
     }

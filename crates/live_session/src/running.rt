@@ -4,7 +4,7 @@ ghost use Rattle.std.specs.Prelude.{◌≡◌, ◌≤◌, ◌+◌, ◌^◌, ◌+
 ghost use Rattle.std.specs.List.{AllByRecursion};
 ghost use Rattle.turn_cell.specs.Pass.{IsFree};
 ghost use Rattle.turn_passes.specs.Passes.{AreSplitOff};
-ghost use Rattle.live_session.specs.Jobs.{IsFit, IsNumbered, MayDo, given};
+ghost use Rattle.live_session.specs.Jobs.{IsFit, IsNumbered, MayDo, job_setting};
 ghost use Rattle.live_session.specs.Session.{HaveRun};
 
 use crate::job::{SessionJob, SessionJobDone};
@@ -38,12 +38,13 @@ pub(crate) fn run_jobs<
     requires free { IsFree live.now.cell pass.old }
     requires share { 2 ^ vec_len orders ≤ pass.old.share }
     requires seen { pass.old.history.seen ≡ live.now.cell.first.store.history }
-    requires fit { IsFit live.now.cell.first.store (given setting.now.head.now setting.now.graph.now
+    requires fit { IsFit live.now.cell.first.store (job_setting setting.now.head.now setting.now.graph.now
         setting.now.moment setting.now.asks.now) }
     requires numbered { AllByRecursion IsNumbered orders.items }
     ensures free { IsFree live.now.cell pass.new }
-    ensures ran { IfOk result (λ ends. HaveRun D.device S.state live.now.cell.first.store (given setting.now.head.now
-        setting.now.graph.now setting.now.moment setting.now.asks.now) pass.old pass.new orders.items ends.items) }
+    ensures ran { IfOk result (λ ends. HaveRun D.device S.state live.now.cell.first.store
+        (job_setting setting.now.head.now setting.now.graph.now setting.now.moment setting.now.asks.now)
+        pass.old pass.new orders.items ends.items) }
     ensures back { IfErr result (λ back. (back.items ≡ orders.items) × (pass.new ≡ pass.old)) }
 {
     let count = orders.len();
@@ -80,7 +81,7 @@ fn make_jobs<'a, D: Disk, S: Drop, G>(
     requires room { vec_len jobs.old + vec_len orders ≤ vec_capacity jobs.old }
     requires share { 2 ^ vec_len orders ≤ pass.old.share }
     requires seen { pass.old.history.seen ≡ live.now.cell.first.store.history }
-    requires fit { IsFit live.now.cell.first.store (given setting.now.head.now setting.now.graph.now
+    requires fit { IsFit live.now.cell.first.store (job_setting setting.now.head.now setting.now.graph.now
         setting.now.moment setting.now.asks.now) }
     requires numbered { AllByRecursion IsNumbered orders.items }
     ensures free { IsFree live.now.cell pass.new }
@@ -88,10 +89,11 @@ fn make_jobs<'a, D: Disk, S: Drop, G>(
     // They are by the orders, in this setting, and may be run.
     ensures orders { map (λ job. job.order) jobs.new.items ≡ orders.items }
     ensures here { AllByRecursion (λ job. (job.live.now.cell ≡ live.now.cell)
-        × (given job.setting.now.head.now job.setting.now.graph.now job.setting.now.moment job.setting.now.asks.now
-        ≡ given setting.now.head.now setting.now.graph.now setting.now.moment setting.now.asks.now)) jobs.new.items }
+        × (job_setting job.setting.now.head.now job.setting.now.graph.now job.setting.now.moment
+        job.setting.now.asks.now ≡ job_setting setting.now.head.now setting.now.graph.now setting.now.moment
+        setting.now.asks.now)) jobs.new.items }
     ensures may { AllByRecursion (λ job. IsFree job.live.now.cell job.pass × MayDo job.live.now.cell.first.store
-        (given job.setting.now.head.now job.setting.now.graph.now job.setting.now.moment job.setting.now.asks.now)
+        (job_setting job.setting.now.head.now job.setting.now.graph.now job.setting.now.moment job.setting.now.asks.now)
         job.pass job.order) jobs.new.items }
     ensures split { AreSplitOff pass.old pass.new [] (map (λ job. job.pass) jobs.new.items) (length jobs.new.items) }
     ensures room { (vec_len jobs.new ≡ vec_len orders) × (vec_capacity jobs.new ≡ vec_capacity jobs.old) }

@@ -4,7 +4,7 @@ ghost use Rattle.std.specs.Prelude.{◌≡◌, ◌≤◌, ◌^◌, vec_len, IfOk
 ghost use Rattle.std.specs.List.{AllByRecursion};
 ghost use Rattle.turn_cell.specs.Lists.{first_seen};
 ghost use Rattle.turn_cell.specs.Pass.{IsFree};
-ghost use Rattle.live_session.specs.Jobs.{IsFit, IsNumbered, given};
+ghost use Rattle.live_session.specs.Jobs.{IsFit, IsNumbered, job_setting};
 ghost use Rattle.live_session.specs.Session.{IsSessionOver, NothingCame};
 
 use crate::order::{JobEnd, Order, Setting};
@@ -46,12 +46,12 @@ pub fn run_session<
     orders: Vec<Order<S>>,
 ) -> Result<SessionEnd<D, S>, NotBegun<D, S>>
     requires few { vec_len orders ≤ 63 }
-    requires fit { IsFit store (given setting.now.head.now setting.now.graph.now setting.now.moment
+    requires fit { IsFit store (job_setting setting.now.head.now setting.now.graph.now setting.now.moment
         setting.now.asks.now) }
     requires numbered { AllByRecursion IsNumbered orders.items }
 
     // What came of each job, and of the archive.
-    ensures over { IfOk result (λ end. IsSessionOver D.device S.state store end.store (given setting.now.head.now
+    ensures over { IfOk result (λ end. IsSessionOver D.device S.state store end.store (job_setting setting.now.head.now
         setting.now.graph.now setting.now.moment setting.now.asks.now) orders.items end.ends.items) }
 
     // No memory for the jobs: none was run, nothing came to the archive, and all is given back.
@@ -78,11 +78,11 @@ fn run_over<D: Disk + Send, S: Source + Send + Drop, G: Gate + Sync, R: Threads 
     requires lists { (pass.history ≡ first_seen live.cell.first.store.history)
         × (pass.fills ≡ first_seen live.cell.first.store.fills) }
     requires few { vec_len orders ≤ 63 }
-    requires fit { IsFit live.cell.first.store (given setting.now.head.now setting.now.graph.now setting.now.moment
-        setting.now.asks.now) }
+    requires fit { IsFit live.cell.first.store (job_setting setting.now.head.now setting.now.graph.now
+        setting.now.moment setting.now.asks.now) }
     requires numbered { AllByRecursion IsNumbered orders.items }
     ensures over { IfOk result (λ end. IsSessionOver D.device S.state live.cell.first.store end.store
-        (given setting.now.head.now setting.now.graph.now setting.now.moment setting.now.asks.now) orders.items
+        (job_setting setting.now.head.now setting.now.graph.now setting.now.moment setting.now.asks.now) orders.items
         end.ends.items) }
     ensures not_begun { IfErr result (λ back. (back.orders.items ≡ orders.items)
         × NothingCame D.device live.cell.first.store back.store) }

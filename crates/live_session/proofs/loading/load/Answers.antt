@@ -8,10 +8,10 @@ use Rattle.archive_store.specs.declared.head.Head.{Head}
 use Rattle.load_session.specs.Receiving.{IsRouteOver}
 use Rattle.load_jobs.specs.declared.ending.LinkEnd.{LinkEnd}
 use Rattle.live_asks.specs.declared.answered.AskAnswer.{AskAnswer}
-use Rattle.live_session.specs.Dealing.{AreEvery, HaveAsMany, answers_at}
-use Rattle.live_session.specs.Jobs.{IsFit, given}
-use Rattle.live_session.specs.Outcome.{CameToLoad, HasFewCounts, counts_of, told_of}
-use Rattle.live_session.specs.Parts.{end_in, source_of}
+use Rattle.live_session.specs.Interleaving.{AreEveryFourth, HaveAnswersFor, answers_at}
+use Rattle.live_session.specs.Jobs.{IsFit, job_setting}
+use Rattle.live_session.specs.Outcome.{HasFewCounts, IsLoadOutcome, counts_of, reported_of}
+use Rattle.live_session.specs.Results.{end_in, source_of}
 use Rattle.live_session.specs.Session.{NothingCame}
 use Rattle.live_session.proofs.Came.{as_many_ended, as_many_links, came, few_counts, few_readers, over_given}
 use Rattle.live_session.proofs.Closing.{given_back}
@@ -23,20 +23,20 @@ use Rattle.live_session.proofs.loading.load.Goals as goal
 
 pub returns-in_default : goal.returns-in_default
 returns-in_default g c =
-    let given_all = given c.args.store.head c.args.job.graph c.args.job.moment c.args.asks.now in
+    let given_all = job_setting c.args.store.head c.args.job.graph c.args.job.moment c.args.asks.now in
     let some : 1 ≤ length c.args.job.sources.items = (let dumps = c.requires.dumps in let ok = c.args.job.sources.ok in omega (arith, dumps, ok)) in
     record {
-      came_to = not_run g.D.Disk.device g.S.Source.state c.args.store c.not_run.result.store given_all (given_back g.D.Disk.device c.args.store c.not_run.result.store c.not_run.ensures.same.0) c.requires.opened c.args.job.link c.args.job.sources.items c.not_run.result.sources.items c.not_run.result.told c.not_run.result.counts
-          c.not_run.result.answers some c.not_run.ensures.same.1 c.not_run.ensures.told c.not_run.ensures.none;
+      outcome = not_run g.D.Disk.device g.S.Source.state c.args.store c.not_run.result.store given_all (given_back g.D.Disk.device c.args.store c.not_run.result.store c.not_run.ensures.same.0) c.requires.opened c.args.job.link c.args.job.sources.items c.not_run.result.sources.items c.not_run.result.reported c.not_run.result.counts
+          c.not_run.result.answers some c.not_run.ensures.same.1 c.not_run.ensures.reported c.not_run.ensures.none;
     }
 
 pub returns-in-Err : goal.returns-in-Err
 returns-in-Err g c =
-    let given_all = given c.args.store.head c.args.job.graph c.args.job.moment c.args.asks.now in
+    let given_all = job_setting c.args.store.head c.args.job.graph c.args.job.moment c.args.asks.now in
     let some : 1 ≤ length c.args.job.sources.items = (let dumps = c.requires.dumps in let ok = c.args.job.sources.ok in omega (arith, dumps, ok)) in
     record {
-      came_to = not_run g.D.Disk.device g.S.Source.state c.args.store c.not_run-in-Err.result.store given_all (given_back g.D.Disk.device c.args.store c.not_run-in-Err.result.store c.not_run-in-Err.ensures.same.0) c.requires.opened c.args.job.link c.args.job.sources.items c.not_run-in-Err.result.sources.items c.not_run-in-Err.result.told c.not_run-in-Err.result.counts
-          c.not_run-in-Err.result.answers some (c.not_run-in-Err.ensures.same.1 ∙ c.in-Err.ensures.back) c.not_run-in-Err.ensures.told c.not_run-in-Err.ensures.none;
+      outcome = not_run g.D.Disk.device g.S.Source.state c.args.store c.not_run-in-Err.result.store given_all (given_back g.D.Disk.device c.args.store c.not_run-in-Err.result.store c.not_run-in-Err.ensures.same.0) c.requires.opened c.args.job.link c.args.job.sources.items c.not_run-in-Err.result.sources.items c.not_run-in-Err.result.reported c.not_run-in-Err.result.counts
+          c.not_run-in-Err.result.answers some (c.not_run-in-Err.ensures.same.1 ∙ c.in-Err.ensures.back) c.not_run-in-Err.ensures.reported c.not_run-in-Err.ensures.none;
     }
 
 pub sources_back-requires-clause-room : goal.sources_back-requires-clause-room
@@ -52,12 +52,12 @@ sources_back-requires-clause-room g c =
 pub returns : goal.returns
 returns g c =
     let gone = c.in-Err-run_session.ensures.not_begun in
-    let given_all = given c.args.store.head c.args.job.graph c.args.job.moment c.args.asks.now in
+    let given_all = job_setting c.args.store.head c.args.job.graph c.args.job.moment c.args.asks.now in
     let some : 1 ≤ length c.args.job.sources.items = (let dumps = c.requires.dumps in let ok = c.args.job.sources.ok in omega (arith, dumps, ok)) in
     record {
-      came_to = not_run g.D.Disk.device g.S.Source.state c.args.store c.not_run-in-Err-run_session.result.store given_all (subst (NothingCame g.D.Disk.device c.args.store) (sym c.not_run-in-Err-run_session.ensures.same.0) gone.1) c.requires.opened c.args.job.link c.args.job.sources.items c.not_run-in-Err-run_session.result.sources.items c.not_run-in-Err-run_session.result.told c.not_run-in-Err-run_session.result.counts
+      outcome = not_run g.D.Disk.device g.S.Source.state c.args.store c.not_run-in-Err-run_session.result.store given_all (subst (NothingCame g.D.Disk.device c.args.store) (sym c.not_run-in-Err-run_session.ensures.same.0) gone.1) c.requires.opened c.args.job.link c.args.job.sources.items c.not_run-in-Err-run_session.result.sources.items c.not_run-in-Err-run_session.result.reported c.not_run-in-Err-run_session.result.counts
           c.not_run-in-Err-run_session.result.answers some (c.not_run-in-Err-run_session.ensures.same.1 ∙ (c.sources_back.ensures ∙ (ap (filter_map source_of) gone.0
-          ∙ sources_ordered c.args.job.link c.args.job.sources.items (min (length c.args.asks.now) 4) c.args.job.fillers c.in-Ok-orders_of.orders.items c.in-Ok-orders_of.ensures.orders))) c.not_run-in-Err-run_session.ensures.told c.not_run-in-Err-run_session.ensures.none;
+          ∙ sources_ordered c.args.job.link c.args.job.sources.items (min (length c.args.asks.now) 4) c.args.job.fillers c.in-Ok-orders_of.orders.items c.in-Ok-orders_of.ensures.orders))) c.not_run-in-Err-run_session.ensures.reported c.not_run-in-Err-run_session.ensures.none;
     }
 
 -- ---- jobs that are run
@@ -91,11 +91,11 @@ run_session-requires-clause-numbered g c κs within =
 
 -- ---- what they left
 
-pub part-requires-clause-none : goal.part-requires-clause-none
-part-requires-clause-none g c = let none = c.in-Ok.ensures.none in (none.0, none.1, none.2, none.3)
+pub sort_results-requires-clause-none : goal.sort_results-requires-clause-none
+sort_results-requires-clause-none g c = let none = c.in-Ok.ensures.none in (none.0, none.1, none.2, none.3)
 
-pub part-requires-clause-room : goal.part-requires-clause-room
-part-requires-clause-room g c =
+pub sort_results-requires-clause-room : goal.sort_results-requires-clause-room
+sort_results-requires-clause-room g c =
     let many = as_many_ended g.D.Disk.device g.S.Source.state c.args.store c.in-Ok-run_session.end.store _ c.in-Ok-orders_of.orders.items c.in-Ok-run_session.end.ends.items c.in-Ok-run_session.ensures.over in
     let ends = c.in-Ok-run_session.end.ends.ok in
     let orders = c.in-Ok-orders_of.orders.ok in
@@ -105,8 +105,8 @@ part-requires-clause-room g c =
     let few : vec_len c.in-Ok-run_session.end.ends ≤ c.len.result + 4 + c.args.job.fillers = omega (arith, many, ends, orders, count, sources) in
     (omega (arith, few, room.0), omega (arith, few, room.1), omega (arith, few, room.2), omega (arith, few, room.3))
 
-pub came_to-requires-clause-links : goal.came_to-requires-clause-links
-came_to-requires-clause-links g c =
+pub load_end-requires-clause-links : goal.load_end-requires-clause-links
+load_end-requires-clause-links g c =
     let moment = c.args.job.moment in
     let fits : SFits w64 moment = search rules in
     let store = c.args.store in
@@ -115,7 +115,7 @@ came_to-requires-clause-links g c =
     let orders = c.in-Ok-orders_of.orders.items in
     let over = over_given g.D.Disk.device g.S.Source.state store end.store c.in-Ok.room.head store.head c.args.job.graph (to_z w64 (of_z w64 moment)) moment asks orders end.ends.items
     (c.in-Ok.ensures.head ∙ c.head.ensures.head) (to_z-of_z w64 moment fits) c.in-Ok-run_session.ensures.over in
-    let fit : IsFit store (given store.head c.args.job.graph moment asks) = record {
+    let fit : IsFit store (job_setting store.head c.args.job.graph moment asks) = record {
       of_archive = refl;
       sound = c.head.ensures.sound;
       alone = c.head.ensures.alone;
@@ -125,15 +125,15 @@ came_to-requires-clause-links g c =
     } in
     let readers = min (length asks) 4 in
     let many : readers ≡ min 4 (length asks) = omega arith in
-    let links = as_many_links g.D.Disk.device g.S.Source.state store end.store (given store.head c.args.job.graph moment asks) orders end.ends.items over c.args.job.link c.args.job.sources.items readers c.args.job.fillers c.in-Ok-orders_of.ensures.orders c.requires.opened c.is_kept.ensures.history.0 fit many in
-    let parted = ap length c.part.ensures.ends in
-    let ends = c.part.result.ends.ok in
+    let links = as_many_links g.D.Disk.device g.S.Source.state store end.store (job_setting store.head c.args.job.graph moment asks) orders end.ends.items over c.args.job.link c.args.job.sources.items readers c.args.job.fillers c.in-Ok-orders_of.ensures.orders c.requires.opened c.is_kept.ensures.history.0 fit many in
+    let parted = ap length c.sort_results.ensures.ends in
+    let ends = c.sort_results.result.ends.ok in
     let sources = c.args.job.sources.ok in
     let high = c.requires.links in
     omega (arith, links, parted, ends, sources, high)
 
-pub came_to-requires-clause-dumps : goal.came_to-requires-clause-dumps
-came_to-requires-clause-dumps g c =
+pub load_end-requires-clause-dumps : goal.load_end-requires-clause-dumps
+load_end-requires-clause-dumps g c =
     let moment = c.args.job.moment in
     let fits : SFits w64 moment = search rules in
     let store = c.args.store in
@@ -142,7 +142,7 @@ came_to-requires-clause-dumps g c =
     let orders = c.in-Ok-orders_of.orders.items in
     let over = over_given g.D.Disk.device g.S.Source.state store end.store c.in-Ok.room.head store.head c.args.job.graph (to_z w64 (of_z w64 moment)) moment asks orders end.ends.items
     (c.in-Ok.ensures.head ∙ c.head.ensures.head) (to_z-of_z w64 moment fits) c.in-Ok-run_session.ensures.over in
-    let fit : IsFit store (given store.head c.args.job.graph moment asks) = record {
+    let fit : IsFit store (job_setting store.head c.args.job.graph moment asks) = record {
       of_archive = refl;
       sound = c.head.ensures.sound;
       alone = c.head.ensures.alone;
@@ -152,15 +152,15 @@ came_to-requires-clause-dumps g c =
     } in
     let readers = min (length asks) 4 in
     let many : readers ≡ min 4 (length asks) = omega arith in
-    let links = as_many_links g.D.Disk.device g.S.Source.state store end.store (given store.head c.args.job.graph moment asks) orders end.ends.items over c.args.job.link c.args.job.sources.items readers c.args.job.fillers c.in-Ok-orders_of.ensures.orders c.requires.opened c.is_kept.ensures.history.0 fit many in
-    let parted = ap length c.part.ensures.ends in
-    let ends = c.part.result.ends.ok in
+    let links = as_many_links g.D.Disk.device g.S.Source.state store end.store (job_setting store.head c.args.job.graph moment asks) orders end.ends.items over c.args.job.link c.args.job.sources.items readers c.args.job.fillers c.in-Ok-orders_of.ensures.orders c.requires.opened c.is_kept.ensures.history.0 fit many in
+    let parted = ap length c.sort_results.ensures.ends in
+    let ends = c.sort_results.result.ends.ok in
     let sources = c.args.job.sources.ok in
     let most = c.requires.dumps in
     omega (arith, links, parted, ends, sources, most)
 
-pub came_to-requires-clause-few : goal.came_to-requires-clause-few
-came_to-requires-clause-few g c =
+pub load_end-requires-clause-few : goal.load_end-requires-clause-few
+load_end-requires-clause-few g c =
     let moment = c.args.job.moment in
     let fits : SFits w64 moment = search rules in
     let store = c.args.store in
@@ -169,7 +169,7 @@ came_to-requires-clause-few g c =
     let orders = c.in-Ok-orders_of.orders.items in
     let over = over_given g.D.Disk.device g.S.Source.state store end.store c.in-Ok.room.head store.head c.args.job.graph (to_z w64 (of_z w64 moment)) moment asks orders end.ends.items
     (c.in-Ok.ensures.head ∙ c.head.ensures.head) (to_z-of_z w64 moment fits) c.in-Ok-run_session.ensures.over in
-    let fit : IsFit store (given store.head c.args.job.graph moment asks) = record {
+    let fit : IsFit store (job_setting store.head c.args.job.graph moment asks) = record {
       of_archive = refl;
       sound = c.head.ensures.sound;
       alone = c.head.ensures.alone;
@@ -179,10 +179,10 @@ came_to-requires-clause-few g c =
     } in
     let readers = min (length asks) 4 in
     let many : readers ≡ min 4 (length asks) = omega arith in
-    subst (AllByRecursion HasFewCounts) (sym c.part.ensures.ends) (few_counts g.D.Disk.device g.S.Source.state store end.store (given store.head c.args.job.graph moment asks) orders end.ends.items over c.args.job.link c.args.job.sources.items readers c.args.job.fillers c.in-Ok-orders_of.ensures.orders c.requires.opened c.is_kept.ensures.history.0 fit many)
+    subst (AllByRecursion HasFewCounts) (sym c.sort_results.ensures.ends) (few_counts g.D.Disk.device g.S.Source.state store end.store (job_setting store.head c.args.job.graph moment asks) orders end.ends.items over c.args.job.link c.args.job.sources.items readers c.args.job.fillers c.in-Ok-orders_of.ensures.orders c.requires.opened c.is_kept.ensures.history.0 fit many)
 
-pub came_to-requires-clause-readers : goal.came_to-requires-clause-readers
-came_to-requires-clause-readers g c =
+pub load_end-requires-clause-readers : goal.load_end-requires-clause-readers
+load_end-requires-clause-readers g c =
     let moment = c.args.job.moment in
     let fits : SFits w64 moment = search rules in
     let store = c.args.store in
@@ -191,7 +191,7 @@ came_to-requires-clause-readers g c =
     let orders = c.in-Ok-orders_of.orders.items in
     let over = over_given g.D.Disk.device g.S.Source.state store end.store c.in-Ok.room.head store.head c.args.job.graph (to_z w64 (of_z w64 moment)) moment asks orders end.ends.items
     (c.in-Ok.ensures.head ∙ c.head.ensures.head) (to_z-of_z w64 moment fits) c.in-Ok-run_session.ensures.over in
-    let fit : IsFit store (given store.head c.args.job.graph moment asks) = record {
+    let fit : IsFit store (job_setting store.head c.args.job.graph moment asks) = record {
       of_archive = refl;
       sound = c.head.ensures.sound;
       alone = c.head.ensures.alone;
@@ -201,13 +201,13 @@ came_to-requires-clause-readers g c =
     } in
     let readers = min (length asks) 4 in
     let many : readers ≡ min 4 (length asks) = omega arith in
-    let most = few_readers g.D.Disk.device g.S.Source.state store end.store (given store.head c.args.job.graph moment asks) orders end.ends.items over c.args.job.link c.args.job.sources.items readers c.args.job.fillers c.in-Ok-orders_of.ensures.orders c.requires.opened c.is_kept.ensures.history.0 fit many in
-    let parted = ap length c.part.ensures.answers in
-    let answers = c.part.result.answers.ok in
+    let most = few_readers g.D.Disk.device g.S.Source.state store end.store (job_setting store.head c.args.job.graph moment asks) orders end.ends.items over c.args.job.link c.args.job.sources.items readers c.args.job.fillers c.in-Ok-orders_of.ensures.orders c.requires.opened c.is_kept.ensures.history.0 fit many in
+    let parted = ap length c.sort_results.ensures.answers in
+    let answers = c.sort_results.result.answers.ok in
     omega (arith, most, parted, answers)
 
-pub came_to-requires-clause-room : goal.came_to-requires-clause-room
-came_to-requires-clause-room g c = (c.in-Ok.ensures.none.4, let room = c.in-Ok.ensures.room.4 in omega (arith, room))
+pub load_end-requires-clause-room : goal.load_end-requires-clause-room
+load_end-requires-clause-room g c = (c.in-Ok.ensures.none.4, let room = c.in-Ok.ensures.room.4 in omega (arith, room))
 
 pub returns-in-Ok-run_session : goal.returns-in-Ok-run_session
 returns-in-Ok-run_session g c =
@@ -219,7 +219,7 @@ returns-in-Ok-run_session g c =
     let orders = c.in-Ok-orders_of.orders.items in
     let over = over_given g.D.Disk.device g.S.Source.state store end.store c.in-Ok.room.head store.head c.args.job.graph (to_z w64 (of_z w64 moment)) moment asks orders end.ends.items
     (c.in-Ok.ensures.head ∙ c.head.ensures.head) (to_z-of_z w64 moment fits) c.in-Ok-run_session.ensures.over in
-    let fit : IsFit store (given store.head c.args.job.graph moment asks) = record {
+    let fit : IsFit store (job_setting store.head c.args.job.graph moment asks) = record {
       of_archive = refl;
       sound = c.head.ensures.sound;
       alone = c.head.ensures.alone;
@@ -229,15 +229,15 @@ returns-in-Ok-run_session g c =
     } in
     let readers = min (length asks) 4 in
     let many : readers ≡ min 4 (length asks) = omega arith in
-    let result = c.came_to.result in
-    let parts = c.part.result in
-    let all = given store.head c.args.job.graph moment asks in
-    let dealt = subst
-    (λ (l : List (List AskAnswer)). HaveAsMany asks (answers_at 0 l) (answers_at 1 l) (answers_at 2 l) (answers_at 3 l) → AreEvery result.answers (answers_at 0 l) (answers_at 1 l) (answers_at 2 l) (answers_at 3 l))
-    c.part.ensures.answers c.came_to.ensures.answers in
-    let ended = came g.D.Disk.device g.S.Source.state store end.store (given store.head c.args.job.graph moment asks) orders end.ends.items over c.args.job.link c.args.job.sources.items readers c.args.job.fillers c.in-Ok-orders_of.ensures.orders c.requires.opened c.is_kept.ensures.history.0 fit many result.sources.items result.told result.counts result.answers (c.came_to.ensures.same.1 ∙ c.part.ensures.sources)
-    (c.came_to.ensures.told ∙ (ap (λ (l : List LinkEnd). told_of c.args.job.link l parts.others.items) c.part.ensures.ends ∙ ap (told_of c.args.job.link (filter_map end_in end.ends.items)) c.part.ensures.others))
-    (c.came_to.ensures.counts ∙ ap counts_of c.part.ensures.ends) dealt in
+    let result = c.load_end.result in
+    let results = c.sort_results.result in
+    let all = job_setting store.head c.args.job.graph moment asks in
+    let interleaved = subst
+    (λ (l : List (List AskAnswer)). HaveAnswersFor asks (answers_at 0 l) (answers_at 1 l) (answers_at 2 l) (answers_at 3 l) → AreEveryFourth result.answers (answers_at 0 l) (answers_at 1 l) (answers_at 2 l) (answers_at 3 l))
+    c.sort_results.ensures.answers c.load_end.ensures.answers in
+    let ended = came g.D.Disk.device g.S.Source.state store end.store (job_setting store.head c.args.job.graph moment asks) orders end.ends.items over c.args.job.link c.args.job.sources.items readers c.args.job.fillers c.in-Ok-orders_of.ensures.orders c.requires.opened c.is_kept.ensures.history.0 fit many result.sources.items result.reported result.counts result.answers (c.load_end.ensures.same.1 ∙ c.sort_results.ensures.sources)
+    (c.load_end.ensures.reported ∙ (ap (λ (l : List LinkEnd). reported_of c.args.job.link l results.others.items) c.sort_results.ensures.ends ∙ ap (reported_of c.args.job.link (filter_map end_in end.ends.items)) c.sort_results.ensures.others))
+    (c.load_end.ensures.counts ∙ ap counts_of c.sort_results.ensures.ends) interleaved in
     record {
-      came_to = subst (λ s. CameToLoad g.D.Disk.device g.S.Source.state store s all c.args.job.link c.args.job.sources.items result.sources.items result.told result.counts result.answers) (sym c.came_to.ensures.same.0) ended;
+      outcome = subst (λ s. IsLoadOutcome g.D.Disk.device g.S.Source.state store s all c.args.job.link c.args.job.sources.items result.sources.items result.reported result.counts result.answers) (sym c.load_end.ensures.same.0) ended;
     }

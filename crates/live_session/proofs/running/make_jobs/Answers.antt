@@ -1,7 +1,7 @@
 use Rattle.std.proofs.Common.{◌≡◌, ◌∙◌, ◌≤◌, ◌^◌, ℕ, ◌∷◌, length, vec_len, refl, sym, ap, subst, arith}
 use Rattle.std.specs.List.{AllByRecursion}
 use Rattle.turn_passes.proofs.Joining.{all_push, halved}
-use Rattle.live_session.specs.Jobs.{IsNumbered, given}
+use Rattle.live_session.specs.Jobs.{IsNumbered, job_setting}
 use Rattle.live_session.proofs.Coming.{may_do}
 use Rattle.live_session.proofs.Lists.{all_made, all_none, left_more, no_items, none_left}
 use Rattle.live_session.proofs.Making.{given_seen_is, lasts, none_split, one_split}
@@ -52,7 +52,7 @@ loop-order-preserved g c =
       here = rw is (all_push _ _ _ inv.here (refl, refl));
       may = rw is (all_push _ _ _ inv.may (
         c.split-own.ensures.free.1,
-        may_do c.args.live.now.cell.first.store (given setting.head.now setting.graph.now setting.moment setting.asks.now) c.split-own.result c.in-Some.order c.requires.fit (sees.0 ∙ c.requires.seen) sees.1 numbered.0,
+        may_do c.args.live.now.cell.first.store (job_setting setting.head.now setting.graph.now setting.moment setting.asks.now) c.split-own.result c.in-Some.order c.requires.fit (sees.0 ∙ c.requires.seen) sees.1 numbered.0,
       ));
       split = one_split (λ job. job.pass) c.args.pass.now c.loop-order.pass c.split-own.new.pass c.split-own.result _ _ _ is refl c.split-own.ensures.kept c.split-own.ensures.given inv.split;
     }

@@ -2,7 +2,7 @@ use Rattle.std.proofs.Common.{◌≡◌, ◌+◌, ◌≤◌, ◌^◌, ◌++◌, 
 use Rattle.std.specs.List.{AllByRecursion}
 use Rattle.turn_cell.specs.Pass.{IsFree}
 use Rattle.turn_passes.specs.Passes.{AreSplitOff}
-use Rattle.live_session.specs.Jobs.{IsNumbered, MayDo, given}
+use Rattle.live_session.specs.Jobs.{IsNumbered, MayDo, job_setting}
 use Rattle.live_session.proofs.running.make_jobs.Given as goal
 
 -- some jobs were made, and there's room and share for those that are left
@@ -15,9 +15,9 @@ invariant-loop-order g l = record {
   share : 2 ^ length l.order-iterator.rest.items ≤ l.pass.share;
   numbered : AllByRecursion IsNumbered l.order-iterator.rest.items;
   here : AllByRecursion (λ job. (job.live.now.cell ≡ l.live.cell)
-      × (given job.setting.now.head.now job.setting.now.graph.now job.setting.now.moment job.setting.now.asks.now
-      ≡ given l.setting.head.now l.setting.graph.now l.setting.moment l.setting.asks.now)) l.jobs.items;
+      × (job_setting job.setting.now.head.now job.setting.now.graph.now job.setting.now.moment job.setting.now.asks.now
+      ≡ job_setting l.setting.head.now l.setting.graph.now l.setting.moment l.setting.asks.now)) l.jobs.items;
   may : AllByRecursion (λ job. IsFree job.live.now.cell job.pass × MayDo job.live.now.cell.first.store
-      (given job.setting.now.head.now job.setting.now.graph.now job.setting.now.moment job.setting.now.asks.now) job.pass job.order) l.jobs.items;
+      (job_setting job.setting.now.head.now job.setting.now.graph.now job.setting.now.moment job.setting.now.asks.now) job.pass job.order) l.jobs.items;
   split : AreSplitOff l.fn.pass l.pass [] (map (λ job. job.pass) l.jobs.items) (length l.jobs.items);
 }

@@ -1,5 +1,5 @@
 use Rattle.std.proofs.Common.{◌≡◌, ◌∙◌, ap}
-use Rattle.live_session.specs.Jobs.{given}
+use Rattle.live_session.specs.Jobs.{job_setting}
 use Rattle.live_session.proofs.Closing.{session_over, untouched}
 use Rattle.live_session.proofs.Lists.{either_way}
 use Rattle.live_session.proofs.Making.{share_lasts}
@@ -19,13 +19,13 @@ close-store-requires-clause-share g c =
 pub returns-in-Ok-clause-over : goal.returns-in-Ok-clause-over
 returns-in-Ok-clause-over g c =
     let s = c.args.setting.now in
-    session_over g.D.Disk.device g.S.Source.state c.args.live.cell.first.store c.close-store.result (given s.head.now s.graph.now s.moment s.asks.now) c.args.pass c.run_jobs-result.new.pass
+    session_over g.D.Disk.device g.S.Source.state c.args.live.cell.first.store c.close-store.result (job_setting s.head.now s.graph.now s.moment s.asks.now) c.args.pass c.run_jobs-result.new.pass
     c.requires.lists.0 c.requires.lists.1 c.close-store.ensures.value c.close-store.ensures.closed c.args.orders.items c.in-Ok.ends.items c.in-Ok.ensures.ran c.close-store.ensures.idle
 
 pub returns-in-Err-clause-not_begun : goal.returns-in-Err-clause-not_begun
 returns-in-Err-clause-not_begun g c =
     let s = c.args.setting.now in (
       c.in-Err.ensures.back.0,
-      untouched g.D.Disk.device g.S.Source.state c.args.live.cell.first.store c.close-store.result (given s.head.now s.graph.now s.moment s.asks.now) c.args.pass c.run_jobs-result.new.pass
+      untouched g.D.Disk.device g.S.Source.state c.args.live.cell.first.store c.close-store.result (job_setting s.head.now s.graph.now s.moment s.asks.now) c.args.pass c.run_jobs-result.new.pass
           c.requires.lists.0 c.requires.lists.1 c.close-store.ensures.value c.close-store.ensures.closed c.in-Err.ensures.back.1 c.close-store.ensures.idle,
     )

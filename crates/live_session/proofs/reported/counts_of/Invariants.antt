@@ -1,6 +1,6 @@
 use Rattle.std.proofs.Common.{◌≡◌, ◌+◌, ◌*◌, ◌≤◌, drop}
 use Rattle.live_session.specs.Outcome.{counts_of}
-use Rattle.live_session.proofs.told.counts_of.Given as goal
+use Rattle.live_session.proofs.reported.counts_of.Given as goal
 
 -- the counts so far, and of the ends that are left
 abbrev pub invariant-loop-end : goal.invariant-loop-end

@@ -1,17 +1,17 @@
-//! What is told of jobs that have ended.
+//! What is reported of jobs that have ended.
 
 ghost use Rattle.std.specs.Prelude.{◌≡◌, ◌≤◌, ◌+◌, length, vec_len};
 ghost use Rattle.std.specs.List.{AllByRecursion};
 ghost use Rattle.refusals.specs.Limits.{limit_of};
 ghost use Rattle.refusals.specs.declared.refusal.Which.TheVariants as limits;
-ghost use Rattle.live_session.specs.Outcome.{HasFewCounts, counts_of, told_of, told_of_others};
+ghost use Rattle.live_session.specs.Outcome.{HasFewCounts, counts_of, reported_of, reported_of_others};
 
 use load_jobs::LinkEnd;
 use refusals::Refusal;
 
 /// Why a load was refused.
 #[derive(Debug, Drop)]
-pub struct Told {
+pub struct ReportedRefusal {
     pub refusal: Refusal,
     /// The link whose dump is too long, or has a rest that is no packet.
     pub link: Option<u16>,
@@ -28,28 +28,32 @@ pub struct DumpCounts {
 }
 
 /// The refusal of the first job that was refused. Links come first, whose numbers rise from this one.
-pub(crate) fn told_of(link: u16, ends: Vec<LinkEnd>, others: Vec<Option<Refusal>>) -> Option<Told>
+pub(crate) fn reported_of(
+    link: u16,
+    ends: Vec<LinkEnd>,
+    others: Vec<Option<Refusal>>,
+) -> Option<ReportedRefusal>
     requires numbers { link + vec_len ends ≤ limit_of limits.Links + 1 }
-    ensures { result ≡ told_of link ends.items others.items }
+    ensures { result ≡ reported_of link ends.items others.items }
 {
     let mut number = link;
     for end in ends {
         let link = if end.is_of_dump() { Some(number) } else { None };
         if let Some(refusal) = end.into_refusal() {
-            return Some(Told { refusal, link });
+            return Some(ReportedRefusal { refusal, link });
         }
         number += 1;
     }
-    told_of_others(others)
+    reported_of_others(others)
 }
 
 /// That of the first reader or filler that was refused.
-fn told_of_others(others: Vec<Option<Refusal>>) -> Option<Told>
-    ensures { result ≡ told_of_others others.items }
+fn reported_of_others(others: Vec<Option<Refusal>>) -> Option<ReportedRefusal>
+    ensures { result ≡ reported_of_others others.items }
 {
     for other in others {
         if let Some(refusal) = other {
-            return Some(Told {
+            return Some(ReportedRefusal {
                 refusal,
                 link: None,
             });

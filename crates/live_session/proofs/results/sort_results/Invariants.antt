@@ -1,9 +1,9 @@
 use Rattle.std.proofs.Common.{◌≡◌, ◌+◌, ◌++◌, ◌≤◌, length, vec_len, vec_capacity}
 use Rattle.std.specs.List.{filter_map}
-use Rattle.live_session.specs.Parts.{answers_in, end_in, other_in, source_in}
-use Rattle.live_session.proofs.parting.part.Given as goal
+use Rattle.live_session.specs.Results.{answers_in, end_in, other_in, source_in}
+use Rattle.live_session.proofs.results.sort_results.Given as goal
 
--- what was parted so far, and what is left
+-- what was sorted so far, and what is left
 abbrev pub invariant-loop-end : goal.invariant-loop-end
 invariant-loop-end g l = record {
   sources : l.sources.items ++ filter_map source_in l.end-iterator.rest.items ≡ filter_map source_in l.fn.ends.items;

@@ -1,4 +1,4 @@
--- What came of jobs, parted by what it is.
+-- The results of jobs, sorted by what they are.
 use Rattle.std.specs.Prelude.{List, Option, Some, None}
 use Rattle.refusals.specs.declared.refusal.Refusal.{Refusal}
 use Rattle.load_jobs.specs.declared.ending.LinkEnd.{LinkEnd}

@@ -1,7 +1,7 @@
 use Rattle.std.proofs.Common.{◌≡◌, ◌+◌, ◌++◌, ◌≤◌, length, vec_len, vec_capacity}
 use Rattle.std.specs.List.{filter_map}
-use Rattle.live_session.specs.Parts.{source_of}
-use Rattle.live_session.proofs.parting.sources_back.Given as goal
+use Rattle.live_session.specs.Results.{source_of}
+use Rattle.live_session.proofs.results.sources_back.Given as goal
 
 abbrev pub invariant-loop-order : goal.invariant-loop-order
 invariant-loop-order g l = record {

@@ -1,8 +1,8 @@
-//! What came of jobs, parted by what it is.
+//! The results of jobs, sorted by what they are.
 
 ghost use Rattle.std.specs.Prelude.{◌≡◌, ◌≤◌, ◌+◌, ◌++◌, [], vec_len, vec_capacity, IfOk};
 ghost use Rattle.std.specs.List.{filter_map};
-ghost use Rattle.live_session.specs.Parts.{answers_in, end_in, other_in, source_in, source_of};
+ghost use Rattle.live_session.specs.Results.{answers_in, end_in, other_in, source_in, source_of};
 
 use crate::order::{JobEnd, Order};
 use live_asks::AskAnswers;
@@ -12,7 +12,7 @@ use std::alloc::{AllocError, Global};
 
 /// What came of jobs, in their order.
 #[derive(Drop)]
-pub(crate) struct Parts<S> {
+pub(crate) struct JobResults<S> {
     /// The sources of the links, and how these ended.
     pub(crate) sources: Vec<S>,
     pub(crate) ends: Vec<LinkEnd>,
@@ -22,15 +22,16 @@ pub(crate) struct Parts<S> {
     pub(crate) others: Vec<Option<Refusal>>,
 }
 
-impl<S: Drop> Parts<S> {
+impl<S: Drop> JobResults<S> {
     /// None, with room for those of so many jobs.
-    pub(crate) fn new(alloc: Global, jobs: usize) -> Result<Parts<S>, AllocError>
-        ensures none { IfOk result (λ parts. (parts.sources.items ≡ []) × (parts.ends.items ≡ [])
-            × (parts.answers.items ≡ []) × (parts.others.items ≡ [])) }
-        ensures room { IfOk result (λ parts. (vec_capacity parts.sources ≡ jobs) × (vec_capacity parts.ends ≡ jobs)
-            × (vec_capacity parts.answers ≡ jobs) × (vec_capacity parts.others ≡ jobs)) }
+    pub(crate) fn new(alloc: Global, jobs: usize) -> Result<JobResults<S>, AllocError>
+        ensures none { IfOk result (λ results. (results.sources.items ≡ []) × (results.ends.items ≡ [])
+            × (results.answers.items ≡ []) × (results.others.items ≡ [])) }
+        ensures room { IfOk result (λ results. (vec_capacity results.sources ≡ jobs)
+            × (vec_capacity results.ends ≡ jobs) × (vec_capacity results.answers ≡ jobs)
+            × (vec_capacity results.others ≡ jobs)) }
     {
-        Ok(Parts {
+        Ok(JobResults {
             sources: Vec::with_capacity(alloc, jobs)?,
             ends: Vec::with_capacity(alloc, jobs)?,
             answers: Vec::with_capacity(alloc, jobs)?,
@@ -39,23 +40,23 @@ impl<S: Drop> Parts<S> {
     }
 }
 
-/// Parts what came of jobs. There's room for it, and nothing was parted before.
-pub(crate) fn part<S: Drop>(ends: Vec<JobEnd<S>>, parts: Parts<S>) -> Parts<S>
-    requires none { (parts.sources.items ≡ []) × (parts.ends.items ≡ []) × (parts.answers.items ≡ [])
-        × (parts.others.items ≡ []) }
-    requires room { (vec_len ends ≤ vec_capacity parts.sources) × (vec_len ends ≤ vec_capacity parts.ends)
-        × (vec_len ends ≤ vec_capacity parts.answers) × (vec_len ends ≤ vec_capacity parts.others) }
+/// Sorts what came of jobs. There's room for it, and nothing was sorted before.
+pub(crate) fn sort_results<S: Drop>(ends: Vec<JobEnd<S>>, results: JobResults<S>) -> JobResults<S>
+    requires none { (results.sources.items ≡ []) × (results.ends.items ≡ []) × (results.answers.items ≡ [])
+        × (results.others.items ≡ []) }
+    requires room { (vec_len ends ≤ vec_capacity results.sources) × (vec_len ends ≤ vec_capacity results.ends)
+        × (vec_len ends ≤ vec_capacity results.answers) × (vec_len ends ≤ vec_capacity results.others) }
     ensures sources { result.sources.items ≡ filter_map source_in ends.items }
     ensures ends { result.ends.items ≡ filter_map end_in ends.items }
     ensures answers { result.answers.items ≡ filter_map answers_in ends.items }
     ensures others { result.others.items ≡ filter_map other_in ends.items }
 {
-    let Parts {
+    let JobResults {
         mut sources,
         ends: mut link_ends,
         mut answers,
         mut others,
-    } = parts;
+    } = results;
     for end in ends {
         match end {
             JobEnd::Link {
@@ -76,7 +77,7 @@ pub(crate) fn part<S: Drop>(ends: Vec<JobEnd<S>>, parts: Parts<S>) -> Parts<S>
             JobEnd::Filler { refusal } => others.push_reserved(refusal),
         }
     }
-    Parts {
+    JobResults {
         sources,
         ends: link_ends,
         answers,

@@ -1,7 +1,7 @@
 //! The answers of readers, in the order of the asks.
 
 ghost use Rattle.std.specs.Prelude.{◌≡◌, ◌<◌, ◌≤◌, ◌+◌, ℕ, [], length, vec_len, vec_capacity};
-ghost use Rattle.live_session.specs.Dealing.{AreEvery, HaveAsMany, answers_at};
+ghost use Rattle.live_session.specs.Interleaving.{AreEveryFourth, HaveAnswersFor, answers_at};
 
 use live_asks::{AskAnswer, AskAnswers};
 use retrieval::found_asks::FoundAsk;
@@ -16,9 +16,9 @@ pub(crate) fn in_order_of(
 ) -> AskAnswers
     requires few { vec_len readers ≤ 4 }
     requires room { (room.items ≡ []) × (length asks.now ≤ vec_capacity room) }
-    ensures dealt { HaveAsMany asks.now (answers_at 0 readers.items) (answers_at 1 readers.items)
+    ensures interleaved { HaveAnswersFor asks.now (answers_at 0 readers.items) (answers_at 1 readers.items)
         (answers_at 2 readers.items) (answers_at 3 readers.items)
-        → AreEvery result (answers_at 0 readers.items) (answers_at 1 readers.items) (answers_at 2 readers.items)
+        → AreEveryFourth result (answers_at 0 readers.items) (answers_at 1 readers.items) (answers_at 2 readers.items)
         (answers_at 3 readers.items) }
 {
     let mut readers = readers;
@@ -26,7 +26,7 @@ pub(crate) fn in_order_of(
     let third = taken(alloc, &mut readers, 2);
     let second = taken(alloc, &mut readers, 1);
     let first = taken(alloc, &mut readers, 0);
-    AskAnswers::from_vec(deal(asks, first, second, third, fourth, room))
+    AskAnswers::from_vec(interleave(asks, first, second, third, fourth, room))
 }
 
 /// The answers of the last reader, where that is the one at a place, and else none.
@@ -34,7 +34,8 @@ fn taken(alloc: Global, readers: &mut Vec<AskAnswers>, place: usize) -> AskAnswe
     requires few { vec_len readers.old ≤ place + 1 }
     ensures taken { result ≡ answers_at place readers.old.items }
     ensures few { vec_len readers.new ≤ place }
-    ensures left { (other : ℕ) → other < place → answers_at other readers.new.items ≡ answers_at other readers.old.items }
+    ensures left { (other : ℕ) → other < place →
+        answers_at other readers.new.items ≡ answers_at other readers.old.items }
 {
     if readers.len() <= place {
         return AskAnswers::new(alloc);
@@ -46,7 +47,7 @@ fn taken(alloc: Global, readers: &mut Vec<AskAnswers>, place: usize) -> AskAnswe
 }
 
 /// One answer of each list in turn, for each ask.
-fn deal(
+fn interleave(
     asks: &[FoundAsk],
     first: AskAnswers,
     second: AskAnswers,
@@ -55,7 +56,8 @@ fn deal(
     room: Vec<AskAnswer>,
 ) -> Vec<AskAnswer>
     requires room { (room.items ≡ []) × (length asks.now ≤ vec_capacity room) }
-    ensures dealt { HaveAsMany asks.now first second third fourth → AreEvery result.items first second third fourth }
+    ensures interleaved { HaveAnswersFor asks.now first second third fourth
+        → AreEveryFourth result.items first second third fourth }
 {
     let mut answers = room;
     let mut next = first.into_vec().into_iter();
@@ -67,11 +69,11 @@ fn deal(
             return answers;
         };
         answers.push_reserved(answer);
-        let dealt = next;
+        let after = next;
         next = second;
         second = third;
         third = fourth;
-        fourth = dealt;
+        fourth = after;
     }
     answers
 }
