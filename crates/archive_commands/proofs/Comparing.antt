@@ -1,5 +1,5 @@
 -- How the plan of `verify` goes.
-use Rattle.std.proofs.Common.{◌≡◌, ◌∙◌, inl, inr, ℕ, List, Option, Some, None, refl, sym, ap}
+use Rattle.std.proofs.Common.{◌≡◌, ◌∙◌, inl, inr, ℕ, List, Option, Some, None, refl, sym, ap, ◌++◌, append_assoc}
 use Rattle.std.specs.Prelude.{IsTrue, map, slice_get}
 use Rattle.arch_disk.specs.Disk.{Device}
 use Rattle.refusals.specs.declared.refusal.Refusal.{Refusal}
@@ -13,7 +13,7 @@ use Rattle.archive_store.specs.StoreView.{StoreView, filled_of}
 use Rattle.archive_store.proofs.UnreadRows.{refusal_is_memory}
 use Rattle.archive_verify.specs.declared.compared_sets.SetDifference.{SetDifference}
 use Rattle.archive_verify.specs.declared.verified.Sound.{Sound}
-use Rattle.archive_verify.specs.Verified.{IsCounted, IsVerifyRefusal, TellsMismatch, database_of_archive}
+use Rattle.archive_verify.specs.Verified.{IsCounted, IsVerifyRefusal, ReportsMismatch, database_of_archive}
 use Rattle.archive_verify.proofs.Counting.{late_by_bases}
 use Rattle.archive_verify.proofs.Currents.{mismatch_unsound, one_mismatch}
 use Rattle.command_plans.specs.Plan.{EachEnd, IsDetermined}
@@ -39,7 +39,7 @@ one_named filled (Mismatch i n k s r) (Mismatch j m l t q) is other =
 one_named filled (Mismatch i n k s r) b is none = absurd none
 one_named filled a b none is = absurd none
 
-compared_once : (filled : FilledArchive) (a b : Option Refusal) → IsCompared filled a → IsCompared filled b → a ≡ b
+pub compared_once : (filled : FilledArchive) (a b : Option Refusal) → IsCompared filled a → IsCompared filled b → a ≡ b
 compared_once filled None None is other = refl
 compared_once filled None (Some (Mismatch i n k s r)) is other = absurd (mismatch_unsound filled i _ other.first is)
 compared_once filled None (Some b) is none = absurd none
@@ -48,14 +48,14 @@ compared_once filled (Some a) None none other = absurd none
 compared_once filled (Some a) (Some b) is other = ap Some (one_named filled a b is other)
 
 -- a mismatch that is told was found
-told_found : (filled : FilledArchive) (refusal : Refusal) → TellsMismatch filled refusal → IsCompared filled (Some refusal)
-told_found filled (Mismatch i n k s r) is = is
-told_found filled other is = absurd is
+reported_found : (filled : FilledArchive) (refusal : Refusal) → ReportsMismatch filled refusal → IsCompared filled (Some refusal)
+reported_found filled (Mismatch i n k s r) is = is
+reported_found filled other is = absurd is
 
--- why verifying was refused, which changed nothing
-pub check_refused : {D : Type 0} (device : Device D) (old new : StoreView D) (refusal : Refusal) → IsVerifyRefusal device old new refusal → new ≡ old → IsCheckRefusal (IsCompared (filled_of old)) refusal
-check_refused device old new refusal (inl told) same = inr (told_found (filled_of old) refusal told)
-check_refused device old new refusal (inr unread) same = inl (refusal_is_memory device old new refusal unread same)
+-- why verifying was refused
+pub check_refused : {D : Type 0} (device : Device D) (old new : StoreView D) (refusal : Refusal) → IsVerifyRefusal device old new refusal → IsCheckRefusal (IsCompared (filled_of old)) refusal
+check_refused device old new refusal (inl reported) = inr (reported_found (filled_of old) refusal reported)
+check_refused device old new refusal (inr unread) = inl (refusal_is_memory device old new refusal unread)
 
 -- ---- the plan
 
@@ -74,6 +74,11 @@ module _ {D : Type 0} (device : Device D) (disk : D) where
   )
 
 -- ---- an archive was opened
+
+-- the four pieces of a line, put behind a text one after the other
+pub four_behind : (old first second third last a b c d e f g : List ℕ) → first ≡ old ++ a ++ b → second ≡ first ++ c ++ d → third ≡ second ++ e ++ f → last ≡ third ++ g
+    → last ≡ old ++ (a ++ b ++ c ++ d ++ e ++ f ++ g)
+four_behind old first second third last a b c d e f g one two three four = rw (four, three, two, one) (simp append_assoc refl)
 
 -- the line of what was counted
 pub counted_line : {D : Type 0} (store : StoreView D) (sound : Sound) → IsCounted store sound → ((i : Interval) → base_in i store.fills ≡ base_of_filling (fillings_in store.filled) i)

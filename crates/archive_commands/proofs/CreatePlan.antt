@@ -28,8 +28,8 @@ use Rattle.command_plans.proofs.Ledgers.{inputs_unused}
 use Rattle.outer_traits.specs.States.{InputsState}
 use Rattle.command_plans.specs.Ledger.{raised_by}
 use Rattle.retrieval.specs.Parameter.{sheets_refusal}
-use Rattle.command_runs.specs.Command.{Effects, Ran, RanOver, archive_sought, nothing_done, printing_plan}
-use Rattle.archive_commands.specs.Create.{HasArchiveAs, IsHeadAnswer, IsScriptUnread, IsTablesAnswer, checking_plan, create_plan, head_inputs, head_plan, made, after_making, named_inputs, named_script_plan, new_archive_plan, making_failed, script_behind_plan, tables_with}
+use Rattle.command_runs.specs.Command.{Effects, Progress, Ran, RanOver, archive_sought, nothing_done, printing_plan}
+use Rattle.archive_commands.specs.Create.{HasArchiveAs, IsHeadAnswer, IsScriptUnread, IsTablesAnswer, checking_plan, create_plan, head_inputs, head_plan, made, making_plan, after_making, named_inputs, named_script_plan, new_archive_plan, making_failed, script_behind_plan, tables_with}
 use Rattle.command_runs.specs.Creation.{create_line}
 use Rattle.command_runs.specs.Report.{unopened}
 use Rattle.command_runs.proofs.Commands.{only_sought, no_text}
@@ -108,10 +108,10 @@ two_writes before now least most = elim (cases_eq now before) [
 
 module _ {D : Type 0} (sources : ℕ) (device : Device D) (e : Effects D) (head : Head) where
   -- no archive was made
-  pub ran_unmade : (refusal : Refusal) → IsStoreCreateRefusal device e.disk e.disk' refusal →
+  pub ran_unmade : (next : CommandPlan Progress ⊥) (refusal : Refusal) → IsStoreCreateRefusal device e.disk e.disk' refusal →
       (IsTrue device.is_transparent → BeginsOpen (device.reads e.disk 0) → JournalLeft device e.disk e.disk') → CrashLeavesHead device e.disk e.disk' head → CountsNeverFall device e.disk e.disk' →
-      e.report ≡ unopened (Some refusal) → e.output' ≡ e.output → Ran device (new_archive_plan sources device e.disk head) e
-  ran_unmade Exists refused kept crash counts report silent = record {
+      e.report ≡ unopened (Some refusal) → e.output' ≡ e.output → Ran device (making_plan sources device e.disk head next) e
+  ran_unmade next Exists refused kept crash counts report silent = record {
     way = Stopped (archive_sought sources) (Some Exists);
     allows = inr (inr (true, refused.held, refl));
     did = record {
@@ -123,7 +123,7 @@ module _ {D : Type 0} (sources : ℕ) (device : Device D) (e : Effects D) (head 
       pending = tt;
     };
   }
-  ran_unmade DiskFault refused kept crash counts report silent = record {
+  ran_unmade next DiskFault refused kept crash counts report silent = record {
     way = Interrupted (making_failed sources head) OfDisk;
     allows = inr (inl refl);
     did = record {
@@ -142,12 +142,12 @@ module _ {D : Type 0} (sources : ℕ) (device : Device D) (e : Effects D) (head 
       pending = tt;
     };
   }
-  ran_unmade OutOfMemory refused kept crash counts report silent = record {
+  ran_unmade next OutOfMemory refused kept crash counts report silent = record {
     way = Interrupted (nothing_done sources) OfMemory;
     allows = inl refl;
     did = record { report = report; printed = rw silent (no_text e.output.written); output = record { counted = rw silent refl }; disk = refused; log = tt; pending = tt };
   }
-  ran_unmade other refused kept crash counts report silent = absurd refused
+  ran_unmade next other refused kept crash counts report silent = absurd refused
 
   -- one was made, and its line printed
   pub ran_made : (IsTrue device.is_transparent → HoldsNone (device.reads e.disk 0)) → Ran device (printing_plan (made sources head) (create_line head)) e → Ran device (new_archive_plan sources device e.disk head) e
@@ -246,7 +246,7 @@ script_read_determined : (all : Files) (script : Option (List ℕ)) (sources : �
 script_read_determined all None sources = tt
 script_read_determined all (Some name) sources = reads_determined ScriptOctets (λ octets. octets) all name sources
 
-holds_once : (image : Image) (a b : Bool) → HasArchiveAs image a → HasArchiveAs image b → a ≡ b
+pub holds_once : (image : Image) (a b : Bool) → HasArchiveAs image a → HasArchiveAs image b → a ≡ b
 holds_once image true true h k = refl
 holds_once image false false h k = refl
 holds_once image true false h k = absurd (one-not-none (image 0) h.0 h.1 k)

@@ -89,7 +89,7 @@ fewer_than_two device old new one = few (device.fault_count old) (device.fault_c
 pub left_alone : {D : Type 0} (device : Device D) (old new : D) → JournalLeft device old new → IsReadAsBefore device old new
 left_alone device old new h = record { reads = h.reads_same; images = h.moments }
 
-no_front : {A : Type 0} (xs t : List A) → xs ++ t ≡ [] → xs ≡ []
+pub no_front : {A : Type 0} (xs t : List A) → xs ++ t ≡ [] → xs ≡ []
 no_front [] t e = refl
 no_front (x ∷ xs) t e = absurd (cc (e))
 

@@ -119,19 +119,27 @@ made sources head = record {
   pending = None;
 }
 
--- what a making leads to, by whether there was an archive
-abbrev pub after_making : ℕ → Head → Bool → CommandPlan Progress ⊥
-after_making sources head true = Stop (archive_sought sources) (Some Exists)
-after_making sources head false = printing_plan (made sources head) (create_line head)
+-- what a making leads to, by whether there was an archive: Exists, or this
+abbrev pub after_sought : ℕ → CommandPlan Progress ⊥ → Bool → CommandPlan Progress ⊥
+after_sought sources next true = Stop (archive_sought sources) (Some Exists)
+after_sought sources next false = next
 
--- makes the archive of a head after so many sources were given: DiskFault; Exists, where the disk says so; and prints
--- its line
-abbrev pub new_archive_plan : {D : Type 0} → ℕ → Device D → D → Head → CommandPlan Progress ⊥
-new_archive_plan sources device disk head =
+-- makes the archive of a head after so many sources were given: DiskFault; Exists, where the disk says so; and goes on
+abbrev pub making_plan : {D : Type 0} → ℕ → Device D → D → Head → CommandPlan Progress ⊥ → CommandPlan Progress ⊥
+making_plan sources device disk head next =
     May OfMemory (nothing_done sources)
     (May OfDisk (making_failed sources head)
     (Question (λ there. IsTrue device.is_transparent → HasArchiveAs (device.reads disk) there)
-    (after_making sources head)))
+    (after_sought sources next)))
+
+-- what the making of `create` leads to: Exists, or its line
+abbrev pub after_making : ℕ → Head → Bool → CommandPlan Progress ⊥
+after_making sources head = after_sought sources (printing_plan (made sources head) (create_line head))
+
+-- makes the archive of a head, and prints its line
+abbrev pub new_archive_plan : {D : Type 0} → ℕ → Device D → D → Head → CommandPlan Progress ⊥
+new_archive_plan sources device disk head =
+    making_plan sources device disk head (printing_plan (made sources head) (create_line head))
 
 -- reads the head of the sheets and a script, and makes its archive
 abbrev pub create_plan : {D : Type 0} → Device D → D → Option Files → CreateWords → CommandPlan Progress ⊥

@@ -6,7 +6,7 @@ use Rattle.refusals.specs.declared.refusal.Refusal.TheVariants.{Mismatch}
 use Rattle.history_items.specs.Items.{rows_in}
 use Rattle.interval_walks.specs.Counts.{intervals_in}
 use Rattle.archive_store.specs.Entries.{FilledArchive}
-use Rattle.archive_verify.specs.Verified.{HoldCurrentFills, TellsMismatch}
+use Rattle.archive_verify.specs.Verified.{HoldCurrentFills, ReportsMismatch}
 use Rattle.command_plans.specs.Plan.{OfMemory, CommandPlan, May, and_then}
 use Rattle.command_runs.specs.Checking.{after_check, checking_plan}
 use Rattle.command_runs.specs.Command.{Progress, archive_opened, nothing_done, opening_plan}
@@ -29,7 +29,7 @@ verify_line filled =
 abbrev pub IsCompared : FilledArchive → Option Refusal → Type 0
 IsCompared filled None = HoldCurrentFills filled
 IsCompared filled (Some (Mismatch interval name key stored replayed)) =
-    TellsMismatch filled (Mismatch interval name key stored replayed)
+    ReportsMismatch filled (Mismatch interval name key stored replayed)
 IsCompared filled (Some other) = ⊥
 
 -- what comparing leads to: the line, or the mismatch and no text

@@ -34,7 +34,7 @@ pub fn recover<D: Disk, K: Sink>(alloc: Global, disk: D, sink: &mut K) -> Ended<
     // The number of the refusal, and 0 exactly where there's none.
     ensures status { result.status ≡ status_at result.report.refusal }
 {
-    Ended::of_work(with_archive(alloc, disk, &mut (), sink, Recovering))
+    Ended::of_work(with_archive(alloc, disk, sink, Recovering))
 }
 
 /// The filling of late intervals, as a work with an archive.
@@ -44,15 +44,12 @@ struct Recovering;
 impl ArchiveWork for Recovering {
     ghost use Rattle.archive_commands.specs.Recover.{recovering_plan};
 
-    type Input = ();
-
     ghost plan = { λ work records found. recovering_plan records found };
 
     fn work<D: Disk, K: Sink>(
         self,
         alloc: Global,
         store: Store<D>,
-        _input: &mut (),
         line_buffer: LineBuffer,
         sink: &mut K,
     ) -> (Store<D>, Report) {

@@ -1,7 +1,8 @@
 //! The command `verify`: whether what is stored of an archive's intervals is what their rows give.
 
-ghost use Rattle.std.specs.Prelude.{◌≡◌, [], IsTrue};
+ghost use Rattle.std.specs.Prelude.{◌≡◌, ◌++◌, [], IsTrue};
 ghost use Rattle.archive_store.specs.StoreView.{filled_of};
+ghost use Rattle.line_buffer.specs.LineRoom.{HasLineRoom};
 ghost use Rattle.command_plans.specs.Plan.{IsDue};
 ghost use Rattle.command_runs.specs.Command.{Ran, effects_of};
 ghost use Rattle.command_runs.specs.Report.{status_at};
@@ -36,7 +37,7 @@ pub fn verify<D: Disk, K: Sink>(alloc: Global, disk: D, sink: &mut K) -> Ended<D
     // The number of the refusal, and 0 exactly where there's none.
     ensures status { result.status ≡ status_at result.report.refusal }
 {
-    Ended::of_work(with_archive(alloc, disk, &mut (), sink, Verifying))
+    Ended::of_work(with_archive(alloc, disk, sink, Verifying))
 }
 
 /// The comparing of what is stored, as a work with an archive.
@@ -46,15 +47,12 @@ struct Verifying;
 impl ArchiveWork for Verifying {
     ghost use Rattle.archive_commands.specs.Verify.{compare_plan};
 
-    type Input = ();
-
     ghost plan = { λ work records found. compare_plan found };
 
     fn work<D: Disk, K: Sink>(
         self,
         alloc: Global,
         store: Store<D>,
-        _input: &mut (),
         line_buffer: LineBuffer,
         sink: &mut K,
     ) -> (Store<D>, Report) {
@@ -89,9 +87,9 @@ fn compare<D: Disk, K: Sink>(
 }
 
 /// Adds the line of a sound archive.
-fn put_sound(line_buffer: &mut LineBuffer, sound: Sound)
-    requires { line_buffer.old ≡ [] }
-    ensures { line_buffer.new ≡ sound_line sound.rows sound.intervals sound.late }
+pub fn put_sound(line_buffer: &mut LineBuffer, sound: Sound)
+    requires { HasLineRoom line_buffer.old }
+    ensures { line_buffer.new ≡ line_buffer.old ++ sound_line sound.rows sound.intervals sound.late }
 {
     line_buffer.put_number(b"sound rows ", sound.rows);
     line_buffer.put_number(b" intervals ", sound.intervals);

@@ -70,6 +70,6 @@ module _ {D : Type 0} (device : Device D) (e : Effects D) (sources : ℕ) (fille
 -- and so it is as a work with an archive, which is left as it was
 pub checked_work : {D : Type 0} (device : Device D) (disk : D) (s new healed : StoreView D) (IsFound : Option Refusal → Type 0) (text : List ℕ) (refusal : Option Refusal) (output output' : OutputState) (report : Report)
     → IsOpenedOn device disk s → new ≡ s → TriesToHeal device new healed → IsKept device healed → IsCheckReply IsFound text refusal output output' → report ≡ read_only refusal (length s.history)
-    → RanWith device (checking_plan 0 (filled_of s) IsFound text) (effects_of disk healed.disk output output' report) (λ way. Unit {0})
+    → Ran device (checking_plan 0 (filled_of s) IsFound text) (effects_of disk healed.disk output output' report)
 checked_work device disk s new healed IsFound text refusal output output' report on same heals kept reply is =
-    record { ran = ran_checked device (effects_of disk healed.disk output output' report) 0 (filled_of s) IsFound text (left_opened device disk s new healed on same heals kept) refusal reply is; used = tt }
+    ran_checked device (effects_of disk healed.disk output output' report) 0 (filled_of s) IsFound text (left_opened device disk s new healed on same heals kept) refusal reply is

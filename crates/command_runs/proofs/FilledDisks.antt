@@ -174,7 +174,7 @@ module _ {D : Type 0} (device : Device D) (disk : D) (old new : StoreView D) (he
         used_failed (omega (arith, rose, first, ap device.fault_count opening)) failed.writes
 
     -- where the disk failed once the write was taken back
-    healed_once : FailedAtMostOnce device disk new.disk → pending_fault_of new.fills ≡ None
+    pub healed_once : FailedAtMostOnce device disk new.disk → pending_fault_of new.fills ≡ None
     healed_once once =
         let back : faults_in new.fills ≡ Fault failed.count false addition ∷ [] =
         subst (λ (b : Bool). faults_in new.fills ≡ Fault failed.count b addition ∷ []) (taken_back_once failed.wrote failed.tried once) failed.fault in
@@ -254,7 +254,7 @@ module _ {D : Type 0} (device : Device D) (disk : D) (old between mid new : Stor
   new_rows = ap (λ (s : StoreView D). s.history) healed.left ∙ filled_on.rows
 
   -- what was added to the fills since the opening
-  new_fills : IsTrue device.is_transparent → AddsRightFills old.head old.exponent new.history (fillings_in old.filled) (fillings_in new.filled)
+  pub new_fills : IsTrue device.is_transparent → AddsRightFills old.head old.exponent new.history (fillings_in old.filled) (fillings_in new.filled)
   new_fills known =
       let behind =
       subst (λ (h : Head). AddsRightFills h old.exponent new.history (fillings_in between.filled) (fillings_in new.filled)) head
@@ -263,6 +263,17 @@ module _ {D : Type 0} (device : Device D) (disk : D) (old between mid new : Stor
       (subst (λ (f : PlacedFills). AddsRightFills between.head between.exponent between.history (fillings_in between.filled) (fillings_in f)) (sym (ap (λ (s : StoreView D). s.filled) healed.left)) filled_on.sets))) in
       adds_then old.head old.exponent new.history (fillings_in old.filled) (fillings_in between.filled) (fillings_in new.filled)
       (subst (λ (h : List Item). AddsRightFills old.head old.exponent h (fillings_in old.filled) (fillings_in between.filled)) (sym new_rows) (sets known)) behind
+
+  new_records : new.records ≡ mid.records
+  new_records = ap (λ (s : StoreView D). s.records) healed.left
+
+  -- where a write failed, and was taken back, the log is as near its limit as the store tells
+  log_near_behind : (addition : Addition) → IsTakenBack device disk new addition → (more : ℕ) → (IsTrue device.is_transparent → pending_fault_of new.fills ≡ None → HasRecordCount (device.reads new.disk) new.records)
+      → limit_of Records ≤ mid.records + more → IsLogNear device disk new.disk (Some more)
+  log_near_behind addition back more counted reaches once known =
+      let same = new_records in
+      let calm = healed_once device disk old new new_head new_exponent new_opening opened first keeps faults kept new_fills addition back once in
+      (new.records, counted known calm, omega (arith, same, reaches))
 
   -- no call of the disk had failed before the fills
   module _ (no_fault : faults_in between.fills ≡ []) (told : NoFault device disk between.disk) (writes : device.failed_writes between.disk ≡ device.failed_writes disk) where
@@ -280,9 +291,9 @@ module _ {D : Type 0} (device : Device D) (disk : D) (old between mid new : Stor
 
     -- the log is as near its limit as the store tells
     pub log_near : (more : ℕ) → (IsTrue device.is_transparent → pending_fault_of new.fills ≡ None → HasRecordCount (device.reads new.disk) new.records) → IsUnfailed device between mid
-        → limit_of Records ≤ mid.records + more → IsLogNear device new.disk false (Some more)
-    log_near more counted unfailed reaches calm known =
-        let same : new.records ≡ mid.records = ap (λ (s : StoreView D). s.records) (untouched unfailed) in
+        → limit_of Records ≤ mid.records + more → IsLogNear device disk new.disk (Some more)
+    log_near more counted unfailed reaches once known =
+        let same = new_records in
         (new.records, counted known (pending_fault_of-in new.fills ∙ ap pending_fault_of (no_faults unfailed)), omega (arith, same, reaches))
 
     -- and none failed at a fill,
@@ -291,11 +302,20 @@ module _ {D : Type 0} (device : Device D) (disk : D) (old between mid new : Stor
         subst (λ (h : List Item). HasDiskOutcome device disk new.disk false (Extended (filled_of old) h)) new_rows
         (still_extended device disk old new new_head new_exponent new_opening opened first keeps faults kept new_fills (no_faults unfailed) (same_count unfailed) (same_writes unfailed))
 
-    -- or one did,
+    -- or one did, which was taken back
+    fill_taken_back : (failed : IsFillFailed device between mid) → IsTakenBack device disk new (additions.Fill failed.interval failed.base)
+    fill_taken_back failed =
+        let fill = additions.Fill failed.interval failed.base in
+        taken_back device disk mid new fill failed.count healed (failed.fault ∙ ap (λ (l : List Fill). l ++ Fault failed.count true fill ∷ []) no_fault) (failed.wrote ∙ ap raised writes)
+
+    -- so it is where a fill failed
+    pub log_near_unfilled : IsFillFailed device between mid → (more : ℕ) → (IsTrue device.is_transparent → pending_fault_of new.fills ≡ None → HasRecordCount (device.reads new.disk) new.records)
+        → limit_of Records ≤ mid.records + more → IsLogNear device disk new.disk (Some more)
+    log_near_unfilled failed more counted reaches = log_near_behind (additions.Fill failed.interval failed.base) (fill_taken_back failed) more counted reaches
+
     pub failed_disk : IsFillFailed device between mid → HasDiskOutcome device disk new.disk true (FillingFailed (filled_of old) between.history)
     failed_disk failed =
-        let fill = additions.Fill failed.interval failed.base in
-        let back = taken_back device disk mid new fill failed.count healed (failed.fault ∙ ap (λ (l : List Fill). l ++ Fault failed.count true fill ∷ []) no_fault) (failed.wrote ∙ ap raised writes) in
+        let back = fill_taken_back failed in
         subst (λ (h : List Item). HasDiskOutcome device disk new.disk true (FillingFailed (filled_of old) h)) new_rows
         (fill_has_failed device disk old new new_head new_exponent new_opening opened first keeps faults kept new_fills failed.interval failed.base back)
 
@@ -322,6 +342,11 @@ module _ {D : Type 0} (device : Device D) (disk : D) (old between mid new : Stor
 
     pub is_taken_back : faults_in mid.fills ≡ Fault count true addition ∷ [] → IsTakenBack device disk new addition
     is_taken_back one = taken_back device disk mid new addition count healed one (ap device.failed_writes (filled_on.no_call unhealed) ∙ wrote)
+
+    -- the log is as near its limit as the store tells
+    pub log_near_failed : (r : Result ℕ Refusal) → IfOk r (AllLateFilled device between mid) → IfErr r (IsFillingRefusal device between mid) → (more : ℕ)
+        → (IsTrue device.is_transparent → pending_fault_of new.fills ≡ None → HasRecordCount (device.reads new.disk) new.records) → limit_of Records ≤ mid.records + more → IsLogNear device disk new.disk (Some more)
+    log_near_failed r done refused more counted reaches = log_near_behind addition (is_taken_back (same_faults r done refused)) more counted reaches
 
     -- the count at which it was pending was reached since the disk was handed in
     pub fault_count_since : (r : Result ℕ Refusal) → IfOk r (AllLateFilled device between mid) → IfErr r (IsFillingRefusal device between mid) → (at : ℕ) → pending_fault_of between.fills ≡ Some at

@@ -5,6 +5,7 @@ pub mod During
 pub mod FilledDisks
 pub mod FillingPlan
 pub mod Healed
+pub mod Making
 pub mod Moments
 pub mod Openings
 pub mod OverInputs

@@ -8,7 +8,7 @@ use Rattle.arch_types.specs.declared.row.Row.{Row}
 use Rattle.disk_journal.specs.Format.{HoldsNone}
 use Rattle.outer_traits.specs.Outside.{WritesSome}
 use Rattle.outer_traits.specs.States.{InputsState, OutputState}
-use Rattle.command_plans.specs.Ledger.{UsedWithoutFailedWrite, UsedDisk, UsedInputs, UsedOutput, WritesFailedAtMost}
+use Rattle.command_plans.specs.Ledger.{RoseIf, UsedWithoutFailedWrite, UsedDisk, UsedInputs, UsedOutput, WritesFailedAtMost}
 use Rattle.line_buffer.specs.Output.{Appends}
 use Rattle.command_plans.specs.Plan.{FailedCalls, OfMemory, OfInputs, OfOutput, OfDisk, interruption_refusal, no_failed_calls, with_failed_call, CommandPlan, Return, Stop, May, Question, Way, Returned, Stopped, Interrupted, Allows}
 use Rattle.archive_store.specs.declared.head.Head.{Head}
@@ -46,6 +46,18 @@ pub data DiskOutcome : Type 0 where
   AllFilled : FilledArchive → List Item → DiskOutcome
   -- it was extended to this, and the disk failed at the fill of a late interval
   FillingFailed : FilledArchive → List Item → DiskOutcome
+  -- an archive of this head was made, and this became of the disk that its making left
+  MadeThen : Head → DiskOutcome → DiskOutcome
+
+-- An archive of this head was made on a disk, of which no call failed by then; this became of the disk that the making
+-- left. The count of faults rose where a call failed behind it, and nowhere else.
+pub record IsMadeBefore {D : Type 0} (device : Device D) (old new : D) (failed : Bool) (head : Head) (After : D → Type 0)
+    : Type 0 where
+  pub between : D
+  pub used : UsedWithoutFailedWrite device old between false
+  pub made : IsTrue device.is_transparent → IsMade device old between head
+  pub after : After between
+  pub faults : RoseIf failed (device.fault_count old) (device.fault_count new)
 
 -- a disk has this outcome: what it holds by then is known where it is transparent, and its counts on any disk
 abbrev pub HasDiskOutcome : {D : Type 0} → Device D → D → D → Bool → DiskOutcome → Type 0
@@ -71,6 +83,8 @@ HasDiskOutcome device old new failed (AllFilled before reached) =
     × (IsTrue device.is_transparent → IsAllFilled device old new before reached)
 HasDiskOutcome device old new failed (FillingFailed before reached) =
     UsedDisk device old new failed 1 2 × (IsTrue device.is_transparent → IsFillingFailed device old new before reached)
+HasDiskOutcome device old new failed (MadeThen head outcome) =
+    IsMadeBefore device old new failed head (λ between. HasDiskOutcome device between new failed outcome)
 
 -- What a command has done so far: the text that it printed, whole, or that it was printing; the report but for its
 -- refusal; the outcome of the disk; how many sources the inputs gave; which calls of the outside failed before, though
@@ -138,6 +152,10 @@ archive_opened sources filled = record {
   pending = None;
 }
 
+-- this was done behind the making of an archive of this head
+abbrev pub behind_making : Head → Progress → Progress
+behind_making head s = record s { disk = MadeThen head s.disk }
+
 -- What a call of the program did: the disk that was handed in and the one that is handed back, the output before and
 -- after, and the report.
 pub record Effects (D : Type 0) : Type 0 where
@@ -164,7 +182,7 @@ pub record EndedAt {D : Type 0} (device : Device D) (e : Effects D) (s : Progres
   pub printed : AppendsAs s.is_whole e.output.written e.output'.written s.text
   pub output : UsedOutput e.output e.output' (failed OfOutput)
   pub disk : HasDiskOutcome device e.disk e.disk' (failed OfDisk) s.disk
-  pub log : IsLogNear device e.disk' (failed OfDisk) s.log
+  pub log : IsLogNear device e.disk e.disk' s.log
   pub pending : IsCountedSince device e.disk e.disk' s.pending
 
 -- a call did what is said where its way ended

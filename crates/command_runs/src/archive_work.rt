@@ -4,9 +4,9 @@ ghost use Rattle.std.specs.Prelude.{◌≡◌, ℕ, []};
 ghost use Rattle.archive_store.specs.Entries.{FilledArchive};
 ghost use Rattle.archive_store.specs.Keeping.{IsKept};
 ghost use Rattle.archive_store.specs.StoreView.{StoreView, filled_of};
-ghost use Rattle.command_plans.specs.Plan.{CommandPlan, Way};
-ghost use Rattle.command_runs.specs.ArchiveWork.{RanWith, UsedByWork, opened_plan};
-ghost use Rattle.command_runs.specs.Command.{Progress, effects_of};
+ghost use Rattle.command_plans.specs.Plan.{CommandPlan};
+ghost use Rattle.command_runs.specs.ArchiveWork.{opened_plan};
+ghost use Rattle.command_runs.specs.Command.{Progress, Ran, effects_of};
 ghost use Rattle.command_runs.specs.FillingPlan.{IsRecordCount};
 ghost use Rattle.command_runs.specs.Healing.{TriesToHeal};
 ghost use Rattle.command_runs.specs.Opened.{IsOpenedOn, WasOpened};
@@ -23,38 +23,28 @@ use std::alloc::Global;
 
 /// What a command does with an archive that was opened.
 pub trait ArchiveWork: Drop {
-    /// What it reads besides the archive, as the source of a dump. Whoever gave it takes it back.
-    type Input;
-
-    /// It may be done with this input.
-    ghost may: { Self → Self.Input → Type 0 } = { λ work input. Unit {0} };
-
-    /// Its plan behind the opening, over the archive that was found, by what is known of the number of the journal's records.
+    /// Its plan behind the opening, over the archive that was found, by what is known of the number of the journal's
+    /// records.
     ghost plan: { Self → (ℕ → Type 0) → FilledArchive → CommandPlan Progress ⊥ };
 
-    /// What it did to its input, by the way that it took.
-    ghost used: { Self.Input → Self.Input → Way Progress ⊥ → Type 0 } = { λ old new way. Unit {0} };
-
-    /// Does it over the store of an archive that was opened, with room for a line, gives the store back, and reports. A write
-    /// that failed may still be pending then: it is taken back behind each work.
+    /// Does it over the store of an archive that was opened, with room for a line, gives the store back, and reports. A
+    /// write that failed may still be pending then: it is taken back behind each work.
     fn work<D: Disk, K: Sink>(
         self,
         alloc: Global,
         store: Store<D>,
-        input: &mut Self::Input,
         line_buffer: LineBuffer,
         sink: &mut K,
     ) -> (Store<D>, Report)
-        requires ready { may self input.old }
         requires line { line_buffer ≡ [] }
         requires opened { WasOpened D.device store }
 
-        // Whichever disk it was opened on, and whatever taking a failed write back leaves: it took a way through its plan, and
-        // did what is said where that ends. What a store keeps is given.
+        // Whichever disk it was opened on, and whatever taking a failed write back leaves: it took a way through its
+        // plan, and did what is said where that ends. What a store keeps is given.
         ensures { (disk : D) (healed : StoreView D) → IsOpenedOn D.device disk store →
             TriesToHeal D.device result.0 healed → IsKept D.device healed →
-            RanWith D.device (plan self (IsRecordCount D.device disk) (filled_of store))
-            (effects_of disk healed.disk (K.state sink.old) (K.state sink.new) result.1) (used input.old input.new) };
+            Ran D.device (plan self (IsRecordCount D.device disk) (filled_of store))
+            (effects_of disk healed.disk (K.state sink.old) (K.state sink.new) result.1) };
 }
 
 /// Takes room for a line, opens the archive of a disk, does a command's work with it, takes back a write that failed, and
@@ -62,21 +52,18 @@ pub trait ArchiveWork: Drop {
 pub fn with_archive<D: Disk, K: Sink, W: ArchiveWork>(
     alloc: Global,
     disk: D,
-    input: &mut W::Input,
     sink: &mut K,
     work: W,
 ) -> Result<(D, Report), (D, Refusal)>
-    requires { W.may work input.old }
     // However many sources were given before, it took a way through its plan: an opening, and behind that the work's.
-    ensures { (sources : ℕ) → RanWith D.device (opened_plan sources D.device disk (W.plan work)) (effects_of disk
-        (disk_of_work result) (K.state sink.old) (K.state sink.new) (report_of_work result))
-        (UsedByWork sources input.old input.new (W.used input.old input.new)) }
+    ensures { (sources : ℕ) → Ran D.device (opened_plan sources D.device disk (W.plan work)) (effects_of disk
+        (disk_of_work result) (K.state sink.old) (K.state sink.new) (report_of_work result)) }
 {
     let Ok(line_buffer) = LineBuffer::new(alloc) else {
         return Err((disk, Refusal::OutOfMemory));
     };
     let store = Store::open(alloc, disk)?;
-    let (mut store, report) = work.work(alloc, store, input, line_buffer, sink);
+    let (mut store, report) = work.work(alloc, store, line_buffer, sink);
     heal(&mut store);
     store.is_kept();
     Ok((store.into_disk(), report))

@@ -7,7 +7,7 @@ use Rattle.clap.specs.Walk.{Row, Text, all_of, first_of}
 use Rattle.text_forms.specs.Digits.{digits_at_most}
 use Rattle.command_words.specs.declared.job.CommandName.{CommandName}
 use Rattle.command_words.specs.declared.job.CommandName.TheVariants as name
-use Rattle.command_words.specs.Job.{Job, Scan, Values, Create, Load, Recover, Verify, values_words, create_words, load_words, query_words, number_or_one, from_one, command_named, app_of_command, job_in, command_job, job_of, HasLoadWords, IsNoJob}
+use Rattle.command_words.specs.Job.{Job, Scan, Values, Create, Load, Recover, Verify, Make, values_words, create_words, load_words, query_words, number_or_one, from_one, seed_of, command_named, app_of_command, job_in, command_job, job_of, HasLoadWords, IsNoJob}
 use Rattle.command_words.specs.Words.{rows_of_words, AreNoRows}
 use Rattle.command_words.specs.Given.{if_any, one_of_two, repeated_words}
 
@@ -77,6 +77,7 @@ found_given name.Load rows job =
 found_given name.Query rows job = named_given query_words (one_of_two (first_of (codes "sql") rows) (first_of (codes "ask") rows)) job query_given
 found_given name.Recover rows job = λ is. this_job Recover job is tt
 found_given name.Verify rows job = λ is. this_job Verify job is tt
+found_given name.Make rows job = named_given Make (option_and_then seed_of (first_of (codes "number") rows)) job (λ seed. tt)
 
 rows_given : (command : CommandName) (found : Option (List Row)) (job : Job) → option_and_then (job_in command) found ≡ Some job → HasLoadWords job
 rows_given command None job e = no_job job e

@@ -4,7 +4,7 @@ use Rattle.clap.specs.Words.{is_simple}
 use Rattle.clap.specs.Faults.{is_simple_and_free}
 use Rattle.clap.proofs.OnLiterals.{clap_on_literals}
 use Rattle.command_words.specs.declared.job.CommandName.{CommandName}
-use Rattle.command_words.specs.declared.job.CommandName.TheVariants.{Scan, Values, Create, Load, Query, Recover, Verify}
+use Rattle.command_words.specs.declared.job.CommandName.TheVariants.{Scan, Values, Create, Load, Query, Recover, Verify, Make}
 use Rattle.command_words.specs.Job.{app_of_command}
 
 -- clap's definitions are exact for each command
@@ -17,6 +17,7 @@ simple Load = refl
 simple Query = refl
 simple Recover = refl
 simple Verify = refl
+simple Make = refl
 
 pub free : (command : CommandName) → is_simple_and_free (app_of_command command) ≡ true
 unfolding clap_on_literals
@@ -27,3 +28,4 @@ free Load = refl
 free Query = refl
 free Recover = refl
 free Verify = refl
+free Make = refl

@@ -28,8 +28,8 @@ pub record CreateWords : Type 0 where
   pub containers : List ℕ
   pub script : Option (List ℕ)
 
--- the names of dumps, the number of the first one's link, how many fillers there are, and the names of a sheet of asks and of a script that routes, where
--- they are given
+-- the names of dumps, the number of the first one's link, how many fillers there are, and the names of a sheet of asks
+-- and of a script that routes, where they are given
 pub record LoadWords : Type 0 where
   pub dumps : List (List ℕ)
   pub link : ℕ
@@ -49,6 +49,8 @@ pub data Job : Type 0 where
   Sql : List ℕ → Job
   Recover : Job
   Verify : Job
+  -- by the seed of the packets that are made
+  Make : ℕ → Job
 
 -- ---- what each command's words ask
 
@@ -73,7 +75,8 @@ abbrev pub number_or_one : Option (List ℕ) → Option ℕ
 number_or_one None = Some 1
 number_or_one (Some word) = option_and_then from_one (digits_at_most 19 word)
 
--- the job of `load`, where there are dumps, and the numbers of a link and of fillers; there may be a sheet of asks, and a script that routes
+-- the job of `load`, where there are dumps, and the numbers of a link and of fillers; there may be a sheet of asks, and
+-- a script that routes
 abbrev pub load_words : Option (List (List ℕ)) → Option ℕ → Option ℕ → Option (List ℕ) → Option (List ℕ) → Option Job
 load_words (Some dumps) (Some link) (Some fillers) asks route =
     Some (Load (record { dumps = dumps; link = link; fillers = fillers; asks = asks; route = route }))
@@ -83,6 +86,14 @@ load_words dumps link fillers asks route = None
 abbrev pub query_words : List ℕ ⊎ List ℕ → Job
 query_words (inl script) = Sql script
 query_words (inr asks) = Query asks
+
+-- the numbers of 32 bits
+abbrev pub of_32_bits : ℕ → Option ℕ
+of_32_bits n = if nat_le n 4294967295 then Some n else None
+
+-- the number of 32 bits that 1 to 19 digits spell
+abbrev pub seed_of : List ℕ → Option ℕ
+seed_of word = option_and_then of_32_bits (digits_at_most 19 word)
 
 -- ---- the commands
 
@@ -96,10 +107,13 @@ command_named word =
     else if bytes_eq word (codes "query") then Some name.Query
     else if bytes_eq word (codes "recover") then Some name.Recover
     else if bytes_eq word (codes "verify") then Some name.Verify
+    else if bytes_eq word (codes "make") then Some name.Make
     else None
 
--- the words that a command takes: `scan DUMP`, `values PARAMETERS CALIBRATIONS CONTAINERS DUMP NAME`, `create PARAMETERS CALIBRATIONS CONTAINERS [SCRIPT]`,
--- `load [--route FILE] [--ask FILE] [--fillers N] [--link N] DUMP..`, `query --sql FILE` or `query --ask FILE`, `recover`, `verify`
+-- the words that a command takes: `scan DUMP`, `values PARAMETERS CALIBRATIONS CONTAINERS DUMP NAME`, `create
+-- PARAMETERS CALIBRATIONS CONTAINERS [SCRIPT]`, `load [--route FILE] [--ask FILE] [--fillers N] [--link N] DUMP..`,
+-- `query --sql FILE` or `query --ask FILE`, `recover`, `verify`,
+-- `make NUMBER`
 abbrev pub app_of_command : CommandName → App
 app_of_command name.Scan = command_app (codes "scan") (word_rule (codes "dump") ∷ [])
 app_of_command name.Values =
@@ -109,10 +123,12 @@ app_of_command name.Create =
     command_app (codes "create") (word_rule (codes "parameters") ∷ word_rule (codes "calibrations") ∷ word_rule (codes "containers") ∷ optional_word_rule (codes "script") ∷ [])
 app_of_command name.Load =
     command_app (codes "load")
-    (repeated_rule (codes "dump") ∷ option_rule (codes "link") false ∷ option_rule (codes "fillers") false ∷ option_rule (codes "ask") false ∷ option_rule (codes "route") false ∷ [])
+    (repeated_rule (codes "dump") ∷ option_rule (codes "link") false ∷ option_rule (codes "fillers") false
+    ∷ option_rule (codes "ask") false ∷ option_rule (codes "route") false ∷ [])
 app_of_command name.Query = command_app (codes "query") (option_rule (codes "sql") false ∷ option_rule (codes "ask") false ∷ [])
 app_of_command name.Recover = command_app (codes "recover") []
 app_of_command name.Verify = command_app (codes "verify") []
+app_of_command name.Make = command_app (codes "make") (word_rule (codes "number") ∷ [])
 
 -- the job of a command, by the words that clap found
 abbrev pub job_in : CommandName → List Row → Option Job
@@ -122,11 +138,13 @@ job_in name.Values rows =
 job_in name.Create rows =
     create_words (first_of (codes "parameters") rows) (first_of (codes "calibrations") rows) (first_of (codes "containers") rows) (first_of (codes "script") rows)
 job_in name.Load rows =
-    load_words (repeated_words (codes "dump") rows) (number_or_one (first_of (codes "link") rows)) (number_or_one (first_of (codes "fillers") rows)) (first_of (codes "ask") rows)
+    load_words (repeated_words (codes "dump") rows) (number_or_one (first_of (codes "link") rows))
+    (number_or_one (first_of (codes "fillers") rows)) (first_of (codes "ask") rows)
     (first_of (codes "route") rows)
 job_in name.Query rows = option_map query_words (one_of_two (first_of (codes "sql") rows) (first_of (codes "ask") rows))
 job_in name.Recover rows = Some Recover
 job_in name.Verify rows = Some Verify
+job_in name.Make rows = option_map Make (option_and_then seed_of (first_of (codes "number") rows))
 
 -- the job of the words behind a command, where they are one
 abbrev pub command_job : CommandName → List (List ℕ) → Option Job

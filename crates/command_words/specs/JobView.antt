@@ -2,7 +2,7 @@
 use Rattle.std.specs.Prelude.{map, option_map}
 use Rattle.command_words.specs.Job as spec
 use Rattle.command_words.specs.declared.job.Job.{Job}
-use Rattle.command_words.specs.declared.job.Job.TheVariants.{Scan, Values, Create, Load, Query, Sql, Recover, Verify}
+use Rattle.command_words.specs.declared.job.Job.TheVariants.{Scan, Values, Create, Load, Query, Sql, Recover, Verify, Make}
 use Rattle.command_words.specs.declared.job.CreateWords.{CreateWords}
 use Rattle.command_words.specs.declared.job.LoadWords.{LoadWords}
 use Rattle.command_words.specs.declared.job.ValuesWords.{ValuesWords}
@@ -46,3 +46,4 @@ job_view (Query name) = spec.Query name.now
 job_view (Sql name) = spec.Sql name.now
 job_view Recover = spec.Recover
 job_view Verify = spec.Verify
+job_view (Make seed) = spec.Make seed

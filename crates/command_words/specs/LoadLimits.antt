@@ -18,7 +18,8 @@ first_refusal None other = other
 
 -- why the words are refused before anything is opened: they name too many dumps, or else ask for too many fillers
 abbrev pub load_limit_refusal : LoadWords → Option Refusal
-load_limit_refusal words = first_refusal (limit_refusal Dumps (length words.dumps)) (limit_refusal Fillers words.fillers)
+load_limit_refusal words =
+    first_refusal (limit_refusal Dumps (length words.dumps)) (limit_refusal Fillers words.fillers)
 
 -- the number of the last dump's link
 abbrev pub last_link : LoadWords → ℕ

@@ -3,7 +3,7 @@
 ghost use Rattle.std.specs.Prelude.{◌≡◌, map, string_bytes, None, Some, IfOk, IfErr, option_map};
 ghost use Rattle.clap.specs.Walk.{first_of};
 ghost use Rattle.clap.specs.Words.{rows_of, found_of};
-ghost use Rattle.command_words.specs.Job.{job_of, command_named, command_job, app_of_command, job_in, number_or_one, IsNoJob};
+ghost use Rattle.command_words.specs.Job.{job_of, command_named, command_job, app_of_command, job_in, number_or_one, seed_of, IsNoJob};
 ghost use Rattle.command_words.specs.JobView.{job_view};
 ghost use Rattle.command_words.specs.Words.{rows_of_words, AreNoRows};
 
@@ -32,8 +32,8 @@ pub struct CreateWords<'a> {
     pub script: Option<&'a str>,
 }
 
-/// The names of dumps, and how they are loaded: by which links, with how many fillers, and with a sheet of asks and a script that routes, where they
-/// are given.
+/// The names of dumps, and how they are loaded: by which links, with how many fillers, and with a sheet of asks and a
+/// script that routes, where they are given.
 #[derive(Debug, Drop)]
 pub struct LoadWords<'a> {
     /// One or more.
@@ -64,6 +64,8 @@ pub enum Job<'a> {
     Recover,
     /// Whether what is stored of intervals is what their rows give.
     Verify,
+    /// An archive of made packets, loaded, compared and summed up.
+    Make { seed: u32 },
 }
 
 /// The command that is asked for.
@@ -76,6 +78,7 @@ pub enum CommandName {
     Query,
     Recover,
     Verify,
+    Make,
 }
 
 /// The job of the words behind the program's name, or Usage where they are none.
@@ -116,6 +119,9 @@ fn command_named(word: &str) -> Option<CommandName>
     }
     if word == "verify" {
         return Some(CommandName::Verify);
+    }
+    if word == "make" {
+        return Some(CommandName::Make);
     }
     None
 }
@@ -180,6 +186,7 @@ fn found_words<'a>(
         }
         CommandName::Recover => read_arguments(alloc, "recover", &[], words),
         CommandName::Verify => read_arguments(alloc, "verify", &[], words),
+        CommandName::Make => read_arguments(alloc, "make", &[Argument::Word("number")], words),
     }
 }
 
@@ -227,6 +234,7 @@ fn job_in<'a>(
         CommandName::Query => or_usage(query_in(found)),
         CommandName::Recover => Ok(Job::Recover),
         CommandName::Verify => Ok(Job::Verify),
+        CommandName::Make => or_usage(make_in(found)),
     }
 }
 
@@ -313,6 +321,27 @@ fn query_in<'a>(found: &ArgMatches<'a>) -> Option<Job<'a>>
         Ok(OneOfTwo::First(script)) => Some(Job::Sql { script }),
         Ok(OneOfTwo::Second(asks)) => Some(Job::Query { asks }),
         Err(_) => None,
+    }
+}
+
+/// The job of `make`.
+fn make_in<'a>(found: &ArgMatches<'a>) -> Option<Job<'a>>
+    ensures { option_map (λ job. job_view job) result ≡ job_in CommandName.Make (rows_of (found_of found.now)) }
+{
+    let word = given_word(found, "number")?;
+    let seed = seed_of(word)?;
+    Some(Job::Make { seed })
+}
+
+/// The number of 32 bits that a word spells.
+fn seed_of(word: &str) -> Option<u32>
+    ensures { result ≡ seed_of word.now }
+{
+    let number = number_of(19, word.as_bytes())?;
+    if number <= 4_294_967_295 {
+        Some(number as u32)
+    } else {
+        None
     }
 }
 

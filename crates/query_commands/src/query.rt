@@ -69,7 +69,7 @@ fn work<D: Disk, I: Inputs, K: Sink>(
         (I.state inputs.old) (I.state inputs.new) }
 {
     match read_asks(alloc, inputs, name) {
-        Ok(sheet) => with_archive(alloc, disk, &mut (), sink, SheetAnswering { sheet }),
+        Ok(sheet) => with_archive(alloc, disk, sink, SheetAnswering { sheet }),
         Err(refusal) => Err((disk, refusal)),
     }
 }
@@ -83,15 +83,12 @@ struct SheetAnswering {
 impl ArchiveWork for SheetAnswering {
     ghost use Rattle.query_commands.specs.Query.{answering_plan};
 
-    type Input = ();
-
     ghost plan = { λ work records found. answering_plan work.sheet found };
 
     fn work<D: Disk, K: Sink>(
         self,
         alloc: Global,
         store: Store<D>,
-        _input: &mut (),
         line_buffer: LineBuffer,
         sink: &mut K,
     ) -> (Store<D>, Report) {

@@ -76,7 +76,7 @@ fn work<D: Disk, I: Inputs, K: Sink>(
     match read_limited(alloc, inputs, name, Which::ScriptOctets) {
         Ok(octets) => {
             let text = octets.as_slice();
-            with_archive(alloc, disk, &mut (), sink, TextAnswering { text })
+            with_archive(alloc, disk, sink, TextAnswering { text })
         }
         Err(refusal) => Err((disk, refusal)),
     }
@@ -91,15 +91,12 @@ struct TextAnswering<'a> {
 impl<'a> ArchiveWork for TextAnswering<'a> {
     ghost use Rattle.query_commands.specs.Sql.{text_plan};
 
-    type Input = ();
-
     ghost plan = { λ work records found. text_plan work.text.now found };
 
     fn work<D: Disk, K: Sink>(
         self,
         alloc: Global,
         store: Store<D>,
-        _input: &mut (),
         line_buffer: LineBuffer,
         sink: &mut K,
     ) -> (Store<D>, Report) {

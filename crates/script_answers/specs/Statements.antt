@@ -21,7 +21,7 @@ use Rattle.ssql_conditions.specs.ConditionBounds.{bounds_of}
 use Rattle.ssql_select.specs.declared.show.ShowLine.{ShowLine}
 use Rattle.ssql_select.specs.declared.show.ShowLine.TheVariants.{Histogram}
 use Rattle.ssql_select.specs.SelectionText.{selection_text}
-use Rattle.ssql_select.specs.ShowText.{partition_lines, show_text}
+use Rattle.ssql_select.specs.ShowText.{partition_lines, show_line, show_text}
 use Rattle.ssql_types.specs.declared.statement.TypedStatement.{TypedStatement}
 use Rattle.ssql_types.specs.declared.statement.TypedStatement.TheVariants as ts
 
@@ -73,6 +73,12 @@ name_spans rows pname = map (Histogram pname) (spans_of_times (times_of pname (n
 -- the records of a table, by the number of the packet name and then by time
 abbrev pub table_spans : ℕ → ℕ → List Item → List ShowLine
 table_spans names table history = flat_map (name_spans (rows_in_table table history)) (range_with_len 0 names)
+
+-- the lines of these records
+abbrev pub records_text : Archive → ℕ → List ℕ
+records_text archive table =
+    let names = packet_names archive.head archive.history in
+    flat_map (show_line names) (table_spans (length names) table archive.history)
 
 -- ---- statements
 

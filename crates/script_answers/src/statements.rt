@@ -28,7 +28,7 @@ use ssql_conditions::bounds::{all_bounds, bounds};
 use ssql_select::laws::pruned_holds_selected;
 use ssql_select::select::select;
 use ssql_select::selection_text::SelectionText;
-use ssql_select::show::{ShowLine, partition_lines, print_show};
+use ssql_select::show::{ShowLine, partition_lines, print_lines, print_show};
 use ssql_types::query::TypedSelect;
 use ssql_types::statement::TypedStatement;
 use std::alloc::{AllocError, Global};
@@ -165,6 +165,30 @@ fn print_spans<D: Disk, K: Sink>(
 {
     match table_spans(alloc, table, store) {
         Ok(lines) => print_show(alloc, names, lines.as_slice(), line_buffer, sink),
+        Err(refusal) => Err(memory_fault(refusal)),
+    }
+}
+
+/// Prints the records of a table without the line that counts them. The end may still be buffered.
+pub fn print_records<D: Disk, K: Sink>(
+    alloc: Global,
+    table: u8,
+    names: &Names,
+    store: &Store<D>,
+    line_buffer: &mut LineBuffer,
+    sink: &mut K,
+) -> Result<(), PrintFault>
+    requires names { names.now ≡ spec.packet_names store.now.head store.now.history }
+    requires tables { table < length store.now.head.tables }
+    requires room { HasLineRoom line_buffer.old }
+    ensures { PrintsText result (K.state sink.old) (K.state sink.new)
+        (line_buffer.old ++ spec.records_text (archive_of store.now) table) line_buffer.new }
+{
+    match table_spans(alloc, table, store) {
+        Ok(lines) => {
+            let mut line = Vec::new(alloc);
+            print_lines(names, lines.as_slice(), &mut line, line_buffer, sink)
+        }
         Err(refusal) => Err(memory_fault(refusal)),
     }
 }

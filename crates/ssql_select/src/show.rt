@@ -145,8 +145,8 @@ fn put_line(line: &mut Vec<u8>, names: &Names, shown: &ShowLine) -> Result<(), A
     }
 }
 
-/// Prints lines, each written in a line that is used again.
-fn print_lines<K: Sink>(
+/// Prints lines, each written in a line that is used again; the end may still be buffered.
+pub fn print_lines<K: Sink>(
     names: &Names,
     lines: &[ShowLine],
     line: &mut Vec<u8>,

@@ -2,7 +2,7 @@ use Rattle.std.proofs.lemmas.Result.{err_from_is_err_and}
 use Rattle.std.proofs.Common.{Some, ◌≡◌, false, inl, refl, sym, subst, arith}
 use Rattle.command_plans.specs.Plan.{OfMemory, Interrupted}
 use Rattle.command_runs.specs.Finishing.{IsFinished}
-use Rattle.command_runs.specs.Command.{HasDiskOutcome, Made, Ran, effects_of, nothing_done}
+use Rattle.command_runs.specs.Command.{HasDiskOutcome, Made, Ran, effects_of, nothing_done, printing_plan}
 use Rattle.archive_commands.specs.Create.{made, new_archive_plan}
 use Rattle.command_runs.specs.Creation.{create_line}
 use Rattle.command_runs.specs.Report.{unopened}
@@ -34,7 +34,7 @@ returns-in_err-store g c = λ sources.
     let went = effects_of c.args.disk refused.0 output output (unopened (Some refused.1)) in
     let p = err_from_is_err_and c.from_residual.result c.from_residual.ensures.1 in
     rw (p.1, p.2)
-    (ran_unmade sources device went c.args.head refused.1 e.refused e.kept e.crash e.counts refl refl)
+    (ran_unmade sources device went c.args.head (printing_plan (made sources c.args.head) (create_line c.args.head)) refused.1 e.refused e.kept e.crash e.counts refl refl)
 
 pub returns : goal.returns
 returns g c = λ sources.

@@ -5,7 +5,7 @@ use Rattle.archive_commands.proofs.Recovered.{recover_determined}
 use Rattle.archive_commands.proofs.recover.recover.Goals as goal
 
 pub returns-clause-ran : goal.returns-clause-ran
-returns-clause-ran g c = rw (c.of_work.ensures.disk, c.of_work.ensures.report) (c.with_archive.ensures 0).ran
+returns-clause-ran g c = rw (c.of_work.ensures.disk, c.of_work.ensures.report) (c.with_archive.ensures 0)
 
 pub returns-clause-due : goal.returns-clause-due
 returns-clause-due g c = λ known.

@@ -1,4 +1,4 @@
-use Rattle.command_words.specs.declared.job.CommandName.TheVariants.{Scan, Values, Create, Query, Recover, Verify}
+use Rattle.command_words.specs.declared.job.CommandName.TheVariants.{Scan, Values, Create, Query, Recover, Verify, Make}
 use Rattle.command_words.proofs.Simple.{free, simple}
 use Rattle.command_words.proofs.job.found_words.Goals as goal
 
@@ -20,6 +20,9 @@ read_arguments-requires-in-Recover c = record { simple = simple Recover; free = 
 pub read_arguments-requires-in-Verify : goal.read_arguments-requires-in-Verify
 read_arguments-requires-in-Verify c = record { simple = simple Verify; free = free Verify }
 
+pub read_arguments-requires-in-Make : goal.read_arguments-requires-in-Make
+read_arguments-requires-in-Make c = record { simple = simple Make; free = free Make }
+
 pub returns-in-Values : goal.returns-in-Values
 returns-in-Values c = rw c.in-Values.is (record { found = c.read_arguments-in-Values.ensures.found; none = c.read_arguments-in-Values.ensures.none })
 
@@ -28,3 +31,6 @@ returns-in-Create-clause-none c = rw c.in-Create.is c.read_arguments-in-Create.e
 
 pub returns-in-Load : goal.returns-in-Load
 returns-in-Load c = rw c.in-Load.is (record { found = c.found_of_load.ensures.found; none = c.found_of_load.ensures.none })
+
+pub returns-in-Make-clause-none : goal.returns-in-Make-clause-none
+returns-in-Make-clause-none c = rw c.in-Make.is c.read_arguments-in-Make.ensures.none

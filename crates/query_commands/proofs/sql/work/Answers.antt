@@ -14,7 +14,7 @@ returns-in-Ok g c =
     let text : List ℕ = c.in-Ok.octets.items in
     let went = effects_of c.args.disk (disk_of_work c.with_archive.result) (g.K.Sink.state c.args.sink.now) (g.K.Sink.state c.with_archive.new.sink) (report_of_work c.with_archive.result) in
     ran_read device went (script_octets_plan files c.args.name.now) (archive_text_plan device c.args.disk) (g.I.Inputs.state c.args.inputs.now) (g.I.Inputs.state c.read_limited.new.inputs) 1 text
-    c.in-Ok.ensures.read (archive_reads device c.args.disk text) (rw c.as_slice-text.ensures.value at (c.with_archive.ensures 1).ran)
+    c.in-Ok.ensures.read (archive_reads device c.args.disk text) (rw c.as_slice-text.ensures.value at (c.with_archive.ensures 1))
 
 pub returns-in-Err : goal.returns-in-Err
 returns-in-Err g c =

@@ -51,10 +51,7 @@ returns-in-Ok g c = λ disk new on heals after.
     filled_disk device disk s s mid new opened on.counts.faults refl refl refl (λ known i. inl refl) left heals after.images after.faults after.kept no_fault on.opened.no_fault on.opened.no_failed_write
     filled done (λ known. after.bases) in
     let still = still_opened device disk s new on kept as_late (unchanged_by device s mid new no_fault left.unchanged heals) in
-    record {
-      ran = ran_recovered device went (IsRecordCount device disk) s mid on.opened.records as_late still refusal text is outcome (ap (filling_refusal s.records) (sym as_filled) ∙ done.fits);
-      used = tt;
-    }
+    ran_recovered device went (IsRecordCount device disk) s mid on.opened.records as_late still refusal text is outcome (ap (filling_refusal s.records) (sym as_filled) ∙ done.fits)
 
 -- not each was
 pub returns-in-Err : goal.returns-in-Err
@@ -76,13 +73,9 @@ returns-in-Err g c = λ disk new on heals after.
     let no_fault = faults_in-done s.fills on.opened.fills in
     let healed = pending_fault_of-in s.fills ∙ ap pending_fault_of no_fault in
     let still = still_opened device disk s new on kept as_late (unchanged_by device s mid new no_fault left.unchanged heals) in
-    record {
-      ran =
-          ran_unrecovered device went (IsRecordCount device disk) s mid on.opened.records as_late still refl healed (none_failed device s mid on.opened.fills as_late left.unchanged)
-          (unfailed_disk device disk s s mid new opened on.counts.faults refl refl refl (λ known i. inl refl) left heals after.images after.faults after.kept no_fault on.opened.no_fault on.opened.no_failed_write)
-          (failed_disk device disk s s mid new opened on.counts.faults refl refl refl (λ known i. inl refl) left heals after.images after.faults after.kept no_fault on.opened.no_fault on.opened.no_failed_write)
-          (λ unfailed reaches. log_near device disk s s mid new opened on.counts.faults refl refl refl (λ known i. inl refl) left heals after.images after.faults after.kept no_fault on.opened.no_fault on.opened.no_failed_write
-          0 after.records unfailed (omega (arith, reaches)))
-          refusal refused is;
-      used = tt;
-    }
+    ran_unrecovered device went (IsRecordCount device disk) s mid on.opened.records as_late still refl healed (none_failed device s mid on.opened.fills as_late left.unchanged)
+    (unfailed_disk device disk s s mid new opened on.counts.faults refl refl refl (λ known i. inl refl) left heals after.images after.faults after.kept no_fault on.opened.no_fault on.opened.no_failed_write)
+    (failed_disk device disk s s mid new opened on.counts.faults refl refl refl (λ known i. inl refl) left heals after.images after.faults after.kept no_fault on.opened.no_fault on.opened.no_failed_write)
+    (λ unfailed reaches. log_near device disk s s mid new opened on.counts.faults refl refl refl (λ known i. inl refl) left heals after.images after.faults after.kept no_fault on.opened.no_fault on.opened.no_failed_write
+    0 after.records unfailed (omega (arith, reaches)))
+    refusal refused is

@@ -16,7 +16,4 @@ returns g c = λ disk healed on heals kept.
     let output' = g.K.Sink.state c.answer_sheet-refusal.new.sink in
     let is : report ≡ read_only refusal (length s.history) = c.read_only.ensures ∙ ap (read_only refusal) c.front-front.ensures in
     let outcome = left_opened device disk s c.answer_sheet-refusal.new.store healed on c.answer_sheet-refusal.ensures.same heals kept in
-    record {
-      ran = ran_replied device (effects_of disk healed.disk output output' report) (filled_of s) outcome c.args.self.sheet refusal c.answer_sheet-refusal.ensures.reply is;
-      used = tt;
-    }
+    ran_replied device (effects_of disk healed.disk output output' report) (filled_of s) outcome c.args.self.sheet refusal c.answer_sheet-refusal.ensures.reply is

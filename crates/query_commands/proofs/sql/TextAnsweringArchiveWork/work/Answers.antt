@@ -16,7 +16,4 @@ returns g c = λ disk healed on heals kept.
     let output' = g.K.Sink.state c.answer_text-refusal.new.sink in
     let is : report ≡ read_only refusal (length s.history) = c.read_only.ensures ∙ ap (read_only refusal) c.front-front.ensures in
     let outcome = left_opened device disk s s healed on refl heals kept in
-    record {
-      ran = ran_reply device (effects_of disk healed.disk output output' report) (filled_of s) c.args.self.text.now outcome refusal c.answer_text-refusal.ensures is;
-      used = tt;
-    }
+    ran_reply device (effects_of disk healed.disk output output' report) (filled_of s) c.args.self.text.now outcome refusal c.answer_text-refusal.ensures is
