@@ -4,10 +4,11 @@ use Rattle.arch_disk.specs.Disk.{Device}
 use Rattle.refusals.specs.declared.refusal.Refusal.TheVariants.{Usage}
 use Rattle.outer_traits.specs.Outside.{Files}
 use Rattle.command_plans.specs.Plan.{OfMemory, CommandPlan, Stop, May, Question}
-use Rattle.command_words.specs.Job.{Job, Scan, Values, Create, Load, Query, Sql, Recover, Verify, job_of}
+use Rattle.command_words.specs.Job.{Job, Scan, Values, Create, Load, Query, Sql, Recover, Verify, Make, job_of}
 use Rattle.command_runs.specs.Command.{Progress, nothing_done}
 use Rattle.archive_commands.specs.Create.{create_plan}
 use Rattle.load_command.specs.Load.{load_plan}
+use Rattle.make_command.specs.Make.{make_plan}
 use Rattle.query_commands.specs.Query.{query_plan}
 use Rattle.archive_commands.specs.Recover.{recover_plan}
 use Rattle.dump_commands.specs.Scan.{scan_plan}
@@ -25,6 +26,7 @@ job_plan device disk files next (Query name) = query_plan device disk files name
 job_plan device disk files next (Sql name) = sql_plan device disk files name
 job_plan device disk files next Recover = recover_plan device disk
 job_plan device disk files next Verify = verify_plan device disk
+job_plan device disk files next (Make seed) = make_plan device disk next seed
 
 -- what words lead to, by the job that they are: Usage, where they are none
 abbrev pub after_words : {D : Type 0} → Device D → D → Option Files → Option ℤ → Option Job → CommandPlan Progress ⊥

@@ -18,6 +18,7 @@ use command_words::job::{Job, job_of};
 use dump_commands::scan::scan;
 use dump_commands::values::values;
 use load_command::load::load;
+use make_command::make::make;
 use outer_traits::clock::Clock;
 use outer_traits::gate::Gate;
 use outer_traits::inputs::Inputs;
@@ -29,7 +30,7 @@ use std::alloc::Global;
 use std::sync::Wait;
 use std::thread::Threads;
 
-/// Does what the words ask, and says how it ended. Of all commands `load` alone may wait: its jobs pass the gate before their turns.
+/// Does what the words ask, and says how it ended. Of all commands `load` and `make` alone may wait: their jobs pass the gate before their turns.
 pub fn run<D: Disk + Send, I: Inputs, K: Sink, C: Clock, G: Gate + Sync, R: Threads + Wait + Sync>(
     rt: &R,
     alloc: Global,
@@ -100,5 +101,6 @@ where
         Job::Sql { script } => query_sql(alloc, script, disk, inputs, sink),
         Job::Recover => recover(alloc, disk, sink),
         Job::Verify => verify(alloc, disk, sink),
+        Job::Make { seed } => make(rt, alloc, seed, disk, sink, clock, gate),
     }
 }

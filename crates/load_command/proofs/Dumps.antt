@@ -32,7 +32,7 @@ module _ {S : Type 0} (state : S → SourceState) where
 
   -- a link used its source as its end tells
   used_by : (end : LinkEnd) (old new : SourceState) → IsSourceRead end old new → UsedSource old new (is_unread end)
-  used_by Unread old new read = record { counted = (read.0, read.1); reliable = read.2 }
+  used_by (Unread refused) old new read = record { counted = (read.0, read.1); reliable = read.2 }
   used_by other old new read = record { counted = read.1; reliable = read.2 }
 
   each_used : (ends : List LinkEnd) (olds news : List S) → AreSourcesRead state ends olds news → EachUsed state olds news (map is_unread ends)

@@ -6,3 +6,4 @@ pub mod LoadReports
 pub mod ReadyLoads
 pub mod RoutePlan
 pub mod RouteTables
+pub mod SessionRuns

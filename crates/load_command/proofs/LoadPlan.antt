@@ -30,10 +30,10 @@ use Rattle.command_runs.proofs.FillingPlan.{filling_determined}
 use Rattle.command_runs.proofs.Openings.{opens_determined}
 use Rattle.command_runs.proofs.OverInputs.{ran_unread}
 use Rattle.script_answers.specs.Scripts.{OrNoMemory}
-use Rattle.live_session.specs.declared.told.Told.{Told}
-use Rattle.live_session.specs.Outcome.{JobsOutcome, told_of}
+use Rattle.live_session.specs.declared.reported.ReportedRefusal.{ReportedRefusal}
+use Rattle.live_session.specs.Outcome.{JobsOutcome, reported_of}
 use Rattle.stream_graph.specs.declared.statement.RouteStatement.{RouteStatement}
-use Rattle.load_command.specs.Load.{WhereSoundOn, after_jobs, after_limits, after_links, after_route, archive_load_plan, history_extended, job_refused, jobs_plan, load_plan, load_printing_plan, loading_plan, read_load_plan, route_plan, routed_load_plan}
+use Rattle.load_command.specs.Load.{WhereSoundOn, after_jobs, after_session, after_limits, after_links, after_route, archive_load_plan, history_extended, job_refused, jobs_plan, load_plan, load_printing_plan, loading_plan, read_load_plan, route_plan, routed_load_plan}
 use Rattle.load_command.specs.Loading.{HaveUsedSources, IsReady, IsRouteAnswer, IsUnready, LoadAsked, is_unread, load_asked}
 use Rattle.load_command.proofs.RoutePlan.{route_determined, route_read_determined}
 
@@ -52,19 +52,22 @@ module _ (dumps : ℕ) (filled : FilledArchive) (c : JobsOutcome) where
   printing_used [] = ((refl, refl), (refl, refl))
   printing_used (ask ∷ asks) = ((refl, refl), ((refl, refl), (refl, refl)))
 
-  pub jobs_used : (asks : List Ask) (told : Option Told) (failed : Option Addition) → EachEnd Used (after_jobs dumps filled asks c told failed)
-  jobs_used asks None failed = ((refl, refl), ((refl, refl), λ full is. each full))
+  pub session_used : (next : CommandPlan Progress ⊥) → EachEnd Used next → (reported : Option ReportedRefusal) (failed : Option Addition) → EachEnd Used (after_session dumps filled c next reported failed)
+  session_used next behind None failed = ((refl, refl), ((refl, refl), λ full is. each full))
     where
-      each : (full : Bool) → EachEnd Used (after_filling (history_extended dumps filled None c) (load_printing_plan dumps filled asks c) full)
+      each : (full : Bool) → EachEnd Used (after_filling (history_extended dumps filled None c) next full)
       each true = (refl, refl)
-      each false = printing_used asks
-  jobs_used asks (Some told) None = λ end is. each end
+      each false = behind
+  session_used next behind (Some reported) None = λ end is. each end
     where
-      each : (end : Option Refusal) → Used (Stopped (filled_to filled c.reached (job_refused dumps filled c told) end) (Some told.refusal))
+      each : (end : Option Refusal) → Used (Stopped (filled_to filled c.reached (job_refused dumps filled c reported) end) (Some reported.refusal))
       each None = (refl, refl)
       each (Some refused.DiskFault) = (refl, refl)
       each (Some other) = (refl, refl)
-  jobs_used asks (Some told) (Some addition) = (refl, refl)
+  session_used next behind (Some reported) (Some addition) = (refl, refl)
+
+  pub jobs_used : (asks : List Ask) (reported : Option ReportedRefusal) (failed : Option Addition) → EachEnd Used (after_jobs dumps filled asks c reported failed)
+  jobs_used asks reported failed = session_used (load_printing_plan dumps filled asks c) (printing_used asks) reported failed
 
 -- ---- dumps that were opened, loaded into an archive that was
 
@@ -212,21 +215,24 @@ module _ {D : Type 0} (device : Device D) (e : Effects D) (files : Option Files)
 
 -- ---- which answer is due
 
-jobs_determined : (dumps : ℕ) (filled : FilledArchive) (asks : List Ask) (c : JobsOutcome) (told : Option Told) (failed : Option Addition) → IsDetermined (after_jobs dumps filled asks c told failed)
-jobs_determined dumps filled asks c None failed =
-    filling_determined (λ full. Unit {0}) filled c.reached (history_extended dumps filled None c) (load_printing_plan dumps filled asks c) (printing asks)
+pub session_determined : (sources : ℕ) (filled : FilledArchive) (c : JobsOutcome) (next : CommandPlan Progress ⊥) → IsDetermined next → (reported : Option ReportedRefusal) (failed : Option Addition)
+    → IsDetermined (after_session sources filled c next reported failed)
+session_determined sources filled c next due None failed = filling_determined (λ full. Unit {0}) filled c.reached (history_extended sources filled None c) next due
+session_determined sources filled c next due (Some reported) None = λ end is. tt
+session_determined sources filled c next due (Some reported) (Some addition) = tt
+
+jobs_determined : (dumps : ℕ) (filled : FilledArchive) (asks : List Ask) (c : JobsOutcome) (reported : Option ReportedRefusal) (failed : Option Addition) → IsDetermined (after_jobs dumps filled asks c reported failed)
+jobs_determined dumps filled asks c reported failed = session_determined dumps filled c (load_printing_plan dumps filled asks c) (printing asks) reported failed
   where
     printing : (asks : List Ask) → IsDetermined (load_printing_plan dumps filled asks c)
     printing [] = tt
     printing (ask ∷ asks) = tt
-jobs_determined dumps filled asks c (Some told) None = λ end is. tt
-jobs_determined dumps filled asks c (Some told) (Some addition) = tt
 
 module _ (Where : Type 0 → Type 0) (files : Option Files) (next : Option ℤ) (words : LoadWords) (sheet : Result (List Ask) Refusal) (filled : FilledArchive) where
   routed_determined : (route : List RouteStatement) → IsDetermined (after_route Where files next words sheet filled route)
   routed_determined route =
       determined (asks_check_plan (archive_opened (length words.dumps) filled) filled.plain sheet) (jobs_plan Where files next words filled route) (check_determined (archive_opened (length words.dumps) filled) filled.plain sheet)
-      (λ asks g given c came. jobs_determined (length words.dumps) filled asks c (told_of words.link c.ends c.others) c.failed)
+      (λ asks g given c came. jobs_determined (length words.dumps) filled asks c (reported_of words.link c.ends c.others) c.failed)
 
   loading_determined : (text : Option (List ℕ)) → IsDetermined (loading_plan Where files next words text sheet filled)
   loading_determined text = (λ a b h k. h ∙ sym k, λ found h. each found)

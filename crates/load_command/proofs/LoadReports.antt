@@ -8,12 +8,12 @@ use Rattle.history_items.specs.Items.{rows_in}
 use Rattle.archive_store.specs.Entries.{Archive}
 use Rattle.outer_traits.specs.States.{OutputState}
 use Rattle.ask_answers.specs.Asks.{ArePrinted}
-use Rattle.ask_answers.specs.Kept.{kept_answers_text}
-use Rattle.ask_answers.proofs.KeptTexts.{same_kept_texts}
+use Rattle.ask_answers.specs.Collected.{collected_answers_text}
+use Rattle.ask_answers.proofs.CollectedTexts.{same_collected_texts}
 use Rattle.command_runs.specs.declared.report.Report.{Report}
 use Rattle.command_runs.specs.Report.{loaded}
 use Rattle.live_asks.specs.declared.answered.AskAnswer.{AskAnswer}
-use Rattle.live_session.specs.declared.told.DumpCounts.{DumpCounts}
+use Rattle.live_session.specs.declared.reported.DumpCounts.{DumpCounts}
 use Rattle.live_session.specs.Outcome.{JobsOutcome, counts_of}
 use Rattle.load_command.specs.LoadLine.{load_line, load_text}
 use Rattle.load_command.specs.Loading.{printed_report}
@@ -41,16 +41,16 @@ not_printed report refusal before rows packets routed idle is =
 module _ (old now : Archive) (c : JobsOutcome) (database : database_in now.head.mdb now.history ≡ database_in old.head.mdb old.history) (names : names_in now.head.mdb now.history ≡ names_in old.head.mdb old.history)
     (rows : now.history ≡ c.reached) (counts : DumpCounts) (counts_are : counts ≡ counts_of c.ends) (answers : List AskAnswer) (answers_are : answers ≡ c.answers) where
   pub wrote_load : (asks : List Ask) (o : Option Refusal) (output output' : OutputState)
-      → ArePrinted asks o output output' (kept_answers_text now 1 asks answers
+      → ArePrinted asks o output output' (collected_answers_text now 1 asks answers
       ++ load_line counts.packets (length now.history - length old.history) (counts.routed - (length now.history - length old.history)) counts.idle (length (rows_in now.history)))
       → ArePrinted asks o output output' (load_text old asks c)
   wrote_load asks o output output' wrote =
       let line = load_line (counts_of c.ends).packets (length c.reached - length old.history) ((counts_of c.ends).routed - (length c.reached - length old.history)) (counts_of c.ends).idle (length (rows_in c.reached)) in
-      subst (λ (l : List AskAnswer). ArePrinted asks o output output' (kept_answers_text old 1 asks l ++ line)) answers_are
-      (subst (λ (t : List ℕ). ArePrinted asks o output output' (t ++ line)) (same_kept_texts now old database names 1 asks answers)
-      (subst (λ (n : DumpCounts). ArePrinted asks o output output' (kept_answers_text now 1 asks answers
+      subst (λ (l : List AskAnswer). ArePrinted asks o output output' (collected_answers_text old 1 asks l ++ line)) answers_are
+      (subst (λ (t : List ℕ). ArePrinted asks o output output' (t ++ line)) (same_collected_texts now old database names 1 asks answers)
+      (subst (λ (n : DumpCounts). ArePrinted asks o output output' (collected_answers_text now 1 asks answers
       ++ load_line n.packets (length c.reached - length old.history) (n.routed - (length c.reached - length old.history)) n.idle (length (rows_in c.reached)))) counts_are
-      (subst (λ (h : List Item). ArePrinted asks o output output' (kept_answers_text now 1 asks answers
+      (subst (λ (h : List Item). ArePrinted asks o output output' (collected_answers_text now 1 asks answers
       ++ load_line counts.packets (length h - length old.history) (counts.routed - (length h - length old.history)) counts.idle (length (rows_in h)))) rows wrote)))
 
   pub reports_load : (report : Report) → report ≡ printed_report report.refusal (length old.history) (length now.history) counts.packets counts.routed counts.idle

@@ -17,41 +17,41 @@ use Rattle.command_runs.specs.Command.{Progress, Extended, archive_opened, nothi
 use Rattle.command_runs.specs.FillingPlan.{all_filled, filling_behind_plan, filling_plan}
 use Rattle.command_runs.specs.Report.{loaded}
 use Rattle.script_answers.specs.Scripts.{after_answer, script_octets_plan}
-use Rattle.live_session.specs.declared.told.Told.{Told}
-use Rattle.live_session.specs.Outcome.{IsJobsOutcome, JobsOutcome, told_of}
+use Rattle.live_session.specs.declared.reported.ReportedRefusal.{ReportedRefusal}
+use Rattle.live_session.specs.Outcome.{IsJobsOutcome, JobsOutcome, reported_of}
 use Rattle.stream_graph.specs.declared.statement.RouteStatement.{RouteStatement}
 use Rattle.load_command.specs.LoadLine.{load_text, whole_report}
-use Rattle.load_command.specs.Loading.{IsGiven, IsRouteAnswer, failed_reads, dumps_of, log_behind, outcome_of_failure, pending_behind}
+use Rattle.load_command.specs.Loading.{IsSettingOf, IsRouteAnswer, failed_reads, dumps_of, log_behind, outcome_of_failure, pending_behind}
 
 -- ---- what was done
 
 -- the history of an archive was extended as far as the jobs of so many dumps came; the report may name a link
 abbrev pub history_extended : ℕ → FilledArchive → Option ℕ → JobsOutcome → Progress
-history_extended dumps filled link c = record {
+history_extended dumps filled link outcome = record {
   text = [];
   is_whole = true;
-  report = loaded None link (length filled.plain.history) (length c.reached) 0 0 0;
-  disk = Extended filled c.reached;
+  report = loaded None link (length filled.plain.history) (length outcome.reached) 0 0 0;
+  disk = Extended filled outcome.reached;
   sources = dumps;
-  failed = failed_reads c.ends;
+  failed = failed_reads outcome.ends;
   log = None;
   pending = None;
 }
 
--- it was, and a job was refused, of which this is told; where by the log's limit, the log reaches it with a record for
--- each row that came
-abbrev pub job_refused : ℕ → FilledArchive → JobsOutcome → Told → Progress
-job_refused dumps filled c told = record (history_extended dumps filled told.link c) {
-  log = log_behind told.refusal (length c.reached - length filled.plain.history);
+-- it was, and a job was refused, of which this is reported; where by the log's limit, the log reaches it with a record
+-- for each row that came
+abbrev pub job_refused : ℕ → FilledArchive → JobsOutcome → ReportedRefusal → Progress
+job_refused dumps filled outcome reported = record (history_extended dumps filled reported.link outcome) {
+  log = log_behind reported.refusal (length outcome.reached - length filled.plain.history);
 }
 
 -- it was, until a write of the disk failed that was to add this; where a job was refused because of that write, the
--- disk had failed so often by then
-abbrev pub write_failed : ℕ → FilledArchive → JobsOutcome → Told → Addition → Progress
-write_failed dumps filled c told addition = record (history_extended dumps filled told.link c) {
-  disk = outcome_of_failure filled c.reached addition;
-  failed = with_failed_call OfDisk (failed_reads c.ends);
-  pending = pending_behind told.refusal;
+-- disk had failed so often by then, and where by the log's limit, the log reaches it as above
+abbrev pub write_failed : ℕ → FilledArchive → JobsOutcome → ReportedRefusal → Addition → Progress
+write_failed dumps filled outcome reported addition = record (job_refused dumps filled outcome reported) {
+  disk = outcome_of_failure filled outcome.reached addition;
+  failed = with_failed_call OfDisk (failed_reads outcome.ends);
+  pending = pending_behind reported.refusal;
 }
 
 -- ---- behind the jobs
@@ -64,26 +64,30 @@ answering_asks_plan (ask ∷ asks) s plan = May OfMemory s plan
 -- prints the answers that the jobs gave to asks, in the asks' order, and then the line of a load; its counts are
 -- reported once all is printed
 abbrev pub load_printing_plan : ℕ → FilledArchive → List Ask → JobsOutcome → CommandPlan Progress ⊥
-load_printing_plan dumps filled asks c =
-    let text = load_text filled.plain asks c in
-    let done = all_filled filled c.reached (history_extended dumps filled None c) in
+load_printing_plan dumps filled asks outcome =
+    let text = load_text filled.plain asks outcome in
+    let done = all_filled filled outcome.reached (history_extended dumps filled None outcome) in
     let printing = record done { text = text; is_whole = false } in
     answering_asks_plan asks printing
     (May OfOutput printing
-    (Stop (record done { text = text; report = whole_report (length filled.plain.history) c }) None))
+    (Stop (record done { text = text; report = whole_report (length filled.plain.history) outcome }) None))
 
--- What the jobs lead to, by what is told of them and what a failed write was to add. Where none was refused, what is
--- late still is filled, and all is printed. Where one was, that is told, whatever the filling comes to. Behind a write
--- that failed no fill comes: it is taken back last.
-abbrev pub after_jobs : ℕ → FilledArchive → List Ask → JobsOutcome → Option Told → Option Addition
+-- What the jobs lead to, by what is reported of them and what a failed write was to add. Where none was refused, what is
+-- late still is filled, and this follows. Where one was, that is reported, whatever the filling comes to. Behind a
+-- write that failed no fill comes: it is taken back last.
+abbrev pub after_session : ℕ → FilledArchive → JobsOutcome → CommandPlan Progress ⊥ → Option ReportedRefusal → Option Addition
     → CommandPlan Progress ⊥
-after_jobs dumps filled asks c None failed =
-    filling_plan (λ full. Unit {0}) filled c.reached (history_extended dumps filled None c)
-    (load_printing_plan dumps filled asks c)
-after_jobs dumps filled asks c (Some told) None =
-    filling_behind_plan filled c.reached (job_refused dumps filled c told) told.refusal
-after_jobs dumps filled asks c (Some told) (Some addition) =
-    Stop (write_failed dumps filled c told addition) (Some told.refusal)
+after_session sources filled outcome next None failed =
+    filling_plan (λ full. Unit {0}) filled outcome.reached (history_extended sources filled None outcome) next
+after_session sources filled outcome next (Some reported) None =
+    filling_behind_plan filled outcome.reached (job_refused sources filled outcome reported) reported.refusal
+after_session sources filled outcome next (Some reported) (Some addition) =
+    Stop (write_failed sources filled outcome reported addition) (Some reported.refusal)
+
+-- what the jobs of a load lead to: where none was refused and all is filled, all is printed
+abbrev pub after_jobs : ℕ → FilledArchive → List Ask → JobsOutcome → Option ReportedRefusal → Option Addition
+    → CommandPlan Progress ⊥
+after_jobs dumps filled asks outcome = after_session dumps filled outcome (load_printing_plan dumps filled asks outcome)
 
 -- ---- the jobs
 
@@ -92,9 +96,10 @@ after_jobs dumps filled asks c (Some told) (Some addition) =
 abbrev pub jobs_plan : (Type 0 → Type 0) → Option Files → Option ℤ → LoadWords → FilledArchive → List RouteStatement
     → List Ask → CommandPlan Progress ⊥
 jobs_plan Where files next words filled route asks =
-    Choose (IsGiven filled.plain next route asks) (λ g.
-    Choose (IsJobsOutcome Where filled.plain.exponent filled.plain.history g words.link (dumps_of files words.dumps))
-    (λ c. after_jobs (length words.dumps) filled asks c (told_of words.link c.ends c.others) c.failed))
+    Choose (IsSettingOf filled.plain next route asks) (λ setting.
+    Choose (IsJobsOutcome Where filled.plain.exponent filled.plain.history setting words.link
+    (dumps_of files words.dumps)) (λ outcome. after_jobs (length words.dumps) filled asks outcome
+    (reported_of words.link outcome.ends outcome.others) outcome.failed))
 
 -- ---- before them
 

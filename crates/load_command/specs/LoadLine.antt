@@ -5,7 +5,7 @@ use Rattle.history_items.specs.Items.{rows_in}
 use Rattle.archive_store.specs.Entries.{Archive}
 use Rattle.command_runs.specs.declared.report.Report.{Report}
 use Rattle.live_session.specs.Outcome.{JobsOutcome, counts_of}
-use Rattle.ask_answers.specs.Kept.{kept_answers_text}
+use Rattle.ask_answers.specs.Collected.{collected_answers_text}
 use Rattle.command_runs.specs.Report.{loaded}
 
 -- the last line of a load: how many packets there were, how many rows are new, were there or are of idle packets, and
@@ -19,17 +19,19 @@ load_line packets new duplicates idle rows =
 -- The line of a load that ingested all packets of its dumps, behind so many items. The rows that they are, one for each
 -- packet and table, are new or were there.
 abbrev pub line_of_load : ℕ → JobsOutcome → List ℕ
-line_of_load before c =
-    let counts = counts_of c.ends in
-    let new = length c.reached - before in
-    load_line counts.packets new (counts.routed - new) counts.idle (length (rows_in c.reached))
+line_of_load before outcome =
+    let counts = counts_of outcome.ends in
+    let new = length outcome.reached - before in
+    load_line counts.packets new (counts.routed - new) counts.idle (length (rows_in outcome.reached))
 
 -- all that such a load prints: the answers that its jobs gave to asks of an archive, and its line
 abbrev pub load_text : Archive → List Ask → JobsOutcome → List ℕ
-load_text archive asks c = kept_answers_text archive 1 asks c.answers ++ line_of_load (length archive.history) c
+load_text archive asks outcome =
+    collected_answers_text archive 1 asks outcome.answers ++ line_of_load (length archive.history) outcome
 
 -- the report of such a load, whose text was printed
 abbrev pub whole_report : ℕ → JobsOutcome → Report
-whole_report before c =
-    let counts = counts_of c.ends in
-    loaded None None before (length c.reached) counts.packets (counts.routed - (length c.reached - before)) counts.idle
+whole_report before outcome =
+    let counts = counts_of outcome.ends in
+    loaded None None before (length outcome.reached) counts.packets
+    (counts.routed - (length outcome.reached - before)) counts.idle

@@ -1,4 +1,4 @@
--- The steps of a load: how its asks are checked, what its jobs are given, and what is told and reported of them.
+-- The steps of a load: how its asks are checked, what its jobs are given, and what is reported of them.
 use Rattle.std.specs.Prelude.{◌≡◌, ◌⊎◌, ◌≤◌, ◌-◌, ℕ, ℤ, List, length, map, Bool, true, false, Option, Some, None, Result, Ok, Err}
 use Rattle.std.specs.FinMap.{get}
 use Rattle.std.specs.List.{list_any}
@@ -21,8 +21,8 @@ use Rattle.command_runs.specs.Command.{DiskOutcome, ExtensionFailed, FillingFail
 use Rattle.command_runs.specs.Moment.{IsMomentOf}
 use Rattle.command_runs.specs.declared.report.Report.{Report}
 use Rattle.command_runs.specs.Report.{loaded}
-use Rattle.live_session.specs.Jobs.{Given}
-use Rattle.live_session.specs.declared.told.Told.{Told}
+use Rattle.live_session.specs.Jobs.{JobSetting}
+use Rattle.live_session.specs.declared.reported.ReportedRefusal.{ReportedRefusal}
 use Rattle.load_jobs.specs.declared.ending.LinkEnd.{LinkEnd}
 use Rattle.load_jobs.specs.declared.ending.LinkEnd.TheVariants.{Unread}
 use Rattle.retrieval.specs.FoundAsks.{AreFound, asks_found}
@@ -87,19 +87,19 @@ dump_of (Some all) name = get all name
 abbrev pub dumps_of : Option Files → List (List ℕ) → List (Option (List ℕ))
 dumps_of files names = map (dump_of files) names
 
--- the jobs are given the head of an archive, this route, the moment that the clock tells, and these asks, as they were
--- found in it
-pub record IsGiven (archive : Archive) (next : Option ℤ) (route : List RouteStatement) (asks : List Ask) (g : Given)
-    : Type 0 where
-  pub head : g.head ≡ archive.head
-  pub route_is : g.route ≡ route
-  pub moment : IsMomentOf next g.moment
-  pub found : AreFound archive.head archive.history g.asks
-  pub asked : asks_found g.asks ≡ asks
+-- the setting of jobs has the head of an archive, this route, the moment that the clock tells, and these asks, as they
+-- were found in it
+pub record IsSettingOf (archive : Archive) (next : Option ℤ) (route : List RouteStatement) (asks : List Ask)
+    (setting : JobSetting) : Type 0 where
+  pub head : setting.head ≡ archive.head
+  pub route_is : setting.route ≡ route
+  pub moment : IsMomentOf next setting.moment
+  pub found : AreFound archive.head archive.history setting.asks
+  pub asked : asks_found setting.asks ≡ asks
 
 -- a read of a link's source failed
 abbrev pub is_unread : LinkEnd → Bool
-is_unread Unread = true
+is_unread (Unread refused) = true
 is_unread other = false
 
 -- which calls failed of the outside while links read their dumps
@@ -117,7 +117,7 @@ abbrev pub log_behind : Refusal → ℕ → Option ℕ
 log_behind (Limit Records number) new = Some new
 log_behind other new = None
 
--- what is said of the disk's count of faults behind a refusal that tells one
+-- what is said of the disk's count of faults behind a refusal that names one
 abbrev pub pending_behind : Refusal → Option ℕ
 pending_behind (NeedsReopen faults) = Some faults
 pending_behind other = None
@@ -129,7 +129,7 @@ pub record HaveUsedSources {S : Type 0} (state : S → SourceState) (olds news :
   pub given : sources_at way ≡ length olds
   pub used : UsedSources state olds news (failed_at way OfInputs)
 
--- ---- what is told and reported
+-- ---- what is reported
 
 -- the report of a load whose line was printed, or not
 abbrev pub printed_report : Option Refusal → ℕ → ℕ → ℕ → ℕ → ℕ → Report
@@ -137,12 +137,12 @@ printed_report None before after packets routed idle =
     loaded None None before after packets (routed - (after - before)) idle
 printed_report (Some refusal) before after packets routed idle = loaded (Some refusal) None before after 0 0 0
 
--- What is told of a load: what is told of its jobs, and where none was refused, why what was late still isn't filled.
-abbrev pub IsTold : Option Told → Result ℕ Refusal → Told → Type 0
-IsTold (Some told) filled one = one ≡ told
-IsTold None filled one = (filled ≡ Err one.refusal) × (one.link ≡ None)
+-- What is reported of a load: what is of its jobs, and where none was refused, why what was late still isn't filled.
+abbrev pub IsReported : Option ReportedRefusal → Result ℕ Refusal → ReportedRefusal → Type 0
+IsReported (Some reported) filled one = one ≡ reported
+IsReported None filled one = (filled ≡ Err one.refusal) × (one.link ≡ None)
 
 -- nothing is: no job was refused, and each late interval is filled
-abbrev pub IsNothingTold : Option Told → Result ℕ Refusal → Type 0
-IsNothingTold (Some told) filled = ⊥
-IsNothingTold None filled = (late : ℕ) × (filled ≡ Ok late)
+abbrev pub IsNothingReported : Option ReportedRefusal → Result ℕ Refusal → Type 0
+IsNothingReported (Some reported) filled = ⊥
+IsNothingReported None filled = (late : ℕ) × (filled ≡ Ok late)

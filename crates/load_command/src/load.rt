@@ -40,7 +40,7 @@ use std::thread::Threads;
 /// `Limit` Records, `DiskFault` or `NeedsReopen`; behind the jobs fill by fill by `Limit` Records or by `DiskFault`; by `WriteFault`. `OutOfMemory` may come
 /// anywhere before the line.
 ///
-/// A job that is refused leaves the others to go on to their ends, and what is late is filled behind them whatever was refused; what is told is that. Where a
+/// A job that is refused leaves the others to go on to their ends, and what is late is filled behind them whatever was refused; what is reported is that. Where a
 /// write failed, it is taken back before it ends, as far as the disk lets it; until then nothing more is filled (`fill_late`).
 pub fn load<D: Disk + Send, I: Inputs, K: Sink, C: Clock, G: Gate + Sync, R: Threads + Wait + Sync>(
     rt: &R,

@@ -76,7 +76,8 @@ pub(crate) fn load_opened<
     requires moment { IsClockTime moment }
     // By whichever inputs gave the sources, and whichever clock told the moment.
     ensures { (files : AnOption Files) (next : AnOption ℤ) →
-        lefts_of S.state sources.items ≡ dumps_of files (load_words_of asked.entry.words.now).dumps → IsMomentOf next moment →
+        lefts_of S.state sources.items ≡ dumps_of files (load_words_of asked.entry.words.now).dumps →
+        IsMomentOf next moment →
         RanWith D.device (opened_plan (length sources.items) D.device disk (λ records.
         loading_plan (WhereSoundOn D.device disk) files next (load_words_of asked.entry.words.now)
         (option_map (λ text. text.now) asked.entry.text) asked.entry.sheet))
@@ -137,7 +138,8 @@ fn load_into<
     // what is said where that ends. What a store keeps is given.
     ensures { (disk : D) (healed : StoreView D) (files : AnOption Files) (next : AnOption ℤ) →
         IsOpenedOn D.device disk store → TriesToHeal D.device result.0 healed → IsKept D.device healed →
-        lefts_of S.state sources.items ≡ dumps_of files (load_words_of asked.entry.words.now).dumps → IsMomentOf next moment →
+        lefts_of S.state sources.items ≡ dumps_of files (load_words_of asked.entry.words.now).dumps →
+        IsMomentOf next moment →
         RanWith D.device (loading_plan (WhereSoundOn D.device disk) files next (load_words_of asked.entry.words.now)
         (option_map (λ text. text.now) asked.entry.text) asked.entry.sheet (filled_of store))
         (effects_of disk healed.disk (K.state sink.old) (K.state sink.new) result.2)
@@ -223,7 +225,8 @@ fn route_of_load<D: Disk>(
     store: &Store<D>,
     text: Option<&[u8]>,
 ) -> Result<Graph, Refusal>
-    ensures answer { OrNoMemory (IsRouteAnswer (archive_of store.now) (option_map (λ text. text.now) text.entry)) result }
+    ensures answer { OrNoMemory
+        (IsRouteAnswer (archive_of store.now) (option_map (λ text. text.now) text.entry)) result }
     ensures over { IfOk result (IsRouteOver store.now.head) }
 {
     match text {

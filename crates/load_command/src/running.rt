@@ -1,6 +1,6 @@
 //! The jobs of a load, what is filled behind them, and what is printed.
 
-ghost use Rattle.std.specs.Prelude.{◌≡◌, ◌<◌, ◌≤◌, ◌+◌, ◌-◌, ◌++◌, ℤ, Option as AnOption, [], IfNone, IfSome, None, OnErr, Some, length};
+ghost use Rattle.std.specs.Prelude.{◌≡◌, ◌<◌, ◌≤◌, ◌+◌, ◌-◌, ◌++◌, ℤ, Option as AnOption, [], None, OnErr, Some, length};
 ghost use Rattle.refusals.specs.Limits.{limit_of};
 ghost use Rattle.outer_traits.specs.Outside.{Files};
 ghost use Rattle.text_forms.specs.ClockTime.{IsClockTime};
@@ -9,7 +9,7 @@ ghost use Rattle.line_buffer.specs.LineRoom.{HasLineRoom};
 ghost use Rattle.line_buffer.specs.Printed.{PrintsText};
 ghost use Rattle.retrieval.specs.FoundAsks.{AreFound, asks_found};
 ghost use Rattle.ask_answers.specs.Asks.{ArePrinted};
-ghost use Rattle.ask_answers.specs.Kept.{AreAnswersTo, kept_answers_text};
+ghost use Rattle.ask_answers.specs.Collected.{AreAnswersTo, collected_answers_text};
 ghost use Rattle.command_words.specs.Job.{AreLoadWords};
 ghost use Rattle.command_words.specs.JobView.{load_words_of};
 ghost use Rattle.command_words.specs.LoadLimits.{links_refusal, load_limit_refusal};
@@ -18,24 +18,24 @@ ghost use Rattle.command_runs.specs.Command.{effects_of};
 ghost use Rattle.command_runs.specs.Healing.{TriesToHeal};
 ghost use Rattle.command_runs.specs.Moment.{IsMomentOf};
 ghost use Rattle.command_runs.specs.Opened.{IsOpenedOn, WasOpened};
-ghost use Rattle.command_runs.specs.Report.{loaded};
 ghost use Rattle.archive_store.specs.Keeping.{IsKept};
 ghost use Rattle.archive_store.specs.StoreView.{StoreView, archive_of, filled_of};
 ghost use Rattle.live_session.specs.Outcome.{lefts_of};
 ghost use Rattle.load_session.specs.Receiving.{IsRouteOver};
 ghost use Rattle.load_command.specs.Load.{WhereSoundOn, jobs_plan};
 ghost use Rattle.load_command.specs.LoadLine.{load_line};
-ghost use Rattle.load_command.specs.Loading.{HaveUsedSources, IsNothingTold, IsTold, dumps_of, printed_report};
+ghost use Rattle.load_command.specs.Loading.{HaveUsedSources, dumps_of, printed_report};
 
+use crate::reports::{reported_of_load, stopped};
 use arch_disk::Disk;
 use archive_store::Store;
-use ask_answers::kept::print_kept_answers;
+use ask_answers::collected::print_collected_answers;
 use command_runs::finishing::finish;
 use command_runs::report::{LoadCounts, Report};
 use command_words::job::LoadWords;
 use line_buffer::LineBuffer;
 use live_asks::AskAnswer;
-use live_session::{DumpCounts, LoadJob, Loaded, Told, load};
+use live_session::{DumpCounts, LoadJob, Loaded, load};
 use load_session::fill_late;
 use outer_traits::gate::Gate;
 use outer_traits::sink::Sink;
@@ -48,7 +48,7 @@ use std::thread::Threads;
 use stream_graph::graph::Graph;
 
 /// Runs the jobs of a load over an archive, and fills what is late behind them whatever they came to. Then it prints the answers to the asks and what became
-/// of the packets, or tells why not. A write that failed stays pending: what comes behind takes it back.
+/// of the packets, or reports why not. A write that failed stays pending: what comes behind takes it back.
 pub(crate) fn run_jobs<
     D: Disk + Send,
     S: Source + Send + Drop,
@@ -83,8 +83,8 @@ pub(crate) fn run_jobs<
     ensures { (disk : D) (healed : StoreView D) (files : AnOption Files) (next : AnOption ℤ) →
         IsOpenedOn D.device disk store → TriesToHeal D.device result.0 healed → IsKept D.device healed →
         lefts_of S.state sources.items ≡ dumps_of files (load_words_of words.now).dumps → IsMomentOf next moment →
-        RanWith D.device (jobs_plan (WhereSoundOn D.device disk) files next (load_words_of words.now) (filled_of store) graph
-        (asks_found asks)) (effects_of disk healed.disk (K.state sink.old) (K.state sink.new) result.2)
+        RanWith D.device (jobs_plan (WhereSoundOn D.device disk) files next (load_words_of words.now) (filled_of store)
+        graph (asks_found asks)) (effects_of disk healed.disk (K.state sink.old) (K.state sink.new) result.2)
         (HaveUsedSources S.state sources.items result.1.items) }
 {
     store.is_kept();
@@ -99,12 +99,12 @@ pub(crate) fn run_jobs<
     let Loaded {
         mut store,
         sources,
-        told,
+        reported,
         counts,
         answers,
     } = load(rt, alloc, store, job, asks.as_slice(), gate);
     let filled = fill_late(alloc, &mut store);
-    match told_of_load(told, filled) {
+    match reported_of_load(reported, filled) {
         None => {
             let report = print(
                 alloc,
@@ -118,37 +118,11 @@ pub(crate) fn run_jobs<
             );
             (store, sources, report)
         }
-        Some(told) => {
-            let report = stopped(before, store.front(), told.link, told.refusal);
+        Some(reported) => {
+            let report = stopped(before, store.front(), reported.link, reported.refusal);
             (store, sources, report)
         }
     }
-}
-
-/// What is told of a load: what is told of its jobs, and where that is nothing, why what was late still isn't filled.
-fn told_of_load(told: Option<Told>, filled: Result<u64, Refusal>) -> Option<Told>
-    ensures told { IfSome result (IsTold told filled) }
-    ensures nothing { IfNone result (IsNothingTold told filled) }
-{
-    match told {
-        Some(told) => Some(told),
-        None => match filled {
-            Ok(_) => None,
-            Err(refusal) => Some(Told {
-                refusal,
-                link: None,
-            }),
-        },
-    }
-}
-
-/// The report of a load that was refused behind its jobs, by the lengths of the history before and after.
-fn stopped(before: u64, after: u64, link: Option<u16>, refusal: Refusal) -> Report
-    requires { before ≤ after }
-    ensures { result ≡ loaded (Some refusal) link before after 0 0 0 }
-{
-    let counts = LoadCounts::default();
-    Report::loaded(Some(refusal), link, before, after, counts)
 }
 
 /// Prints the answers that readers gave to asks, and what became of the packets of whole dumps.
@@ -168,7 +142,7 @@ fn print<D: Disk, K: Sink>(
     requires grown { before ≤ length store.now.history }
     requires counts { length store.now.history ≤ before + dumps.routed }
     ensures printed { ArePrinted (asks_found asks.now) result.refusal (K.state sink.old) (K.state sink.new)
-        (kept_answers_text (archive_of store.now) 1 (asks_found asks.now) answers.now ++ load_line dumps.packets
+        (collected_answers_text (archive_of store.now) 1 (asks_found asks.now) answers.now ++ load_line dumps.packets
         (length store.now.history - before) (dumps.routed - (length store.now.history - before)) dumps.idle
         (length (rows_in store.now.history))) }
     ensures report { result ≡ printed_report result.refusal before (length store.now.history) dumps.packets dumps.routed
@@ -182,7 +156,7 @@ fn print<D: Disk, K: Sink>(
         duplicates: dumps.routed - (after - before),
         idle: dumps.idle,
     };
-    match print_kept_answers(alloc, asks, answers, store, &mut line_buffer, sink) {
+    match print_collected_answers(alloc, asks, answers, store, &mut line_buffer, sink) {
         Ok(()) => {
             put_line(&mut line_buffer, counts, after - before, rows);
             match finish(line_buffer, sink) {

@@ -4,6 +4,8 @@ use Rattle.archive_commands.specs.Recover.{recover_plan}
 use Rattle.archive_commands.specs.Verify.{verify_plan}
 use Rattle.archive_commands.proofs.Recovered.{recover_reads}
 use Rattle.archive_commands.proofs.Comparing.{verify_reads}
+use Rattle.make_command.specs.Make.{make_plan}
+use Rattle.make_command.proofs.MakePlan.{make_reads}
 use Rattle.command_runs.proofs.OverInputs.{over_any_inputs}
 use Rattle.archive_cli.proofs.RunPlan.{job_due, job_ran}
 use Rattle.archive_cli.proofs.run.run_job.Goals as goal
@@ -95,6 +97,20 @@ returns-in-Verify-clause-ran g c =
 pub returns-in-Verify-clause-due : goal.returns-in-Verify-clause-due
 returns-in-Verify-clause-due g c = λ transparent known.
     job_due g.D.Disk.device c.args.disk (g.I.Inputs.state c.args.inputs.now).files (g.C.Clock.state c.args.clock.now).next c.args.job _ c.verify.result.report.refusal c.in-Verify.is (c.verify.ensures.due transparent)
+
+pub returns-in-Make-clause-ran : goal.returns-in-Make-clause-ran
+returns-in-Make-clause-ran g c =
+    let device = g.D.Disk.device in
+    let state = g.I.Inputs.state in
+    let next = (g.C.Clock.state c.args.clock.now).next in
+    let went = effects_of c.args.disk c.make.result.disk (g.K.Sink.state c.args.sink.now)
+    (g.K.Sink.state c.make.new.sink) c.make.result.report in
+    job_ran device went (g.I.Inputs.state c.args.inputs.now).files next (state c.args.inputs.now) (state c.args.inputs.now) c.args.job _ c.in-Make.is
+    (over_any_inputs device went (make_plan device c.args.disk next c.in-Make.seed) (make_reads device c.args.disk next c.in-Make.seed) c.make.ensures.ran (state c.args.inputs.now))
+
+pub returns-in-Make-clause-due : goal.returns-in-Make-clause-due
+returns-in-Make-clause-due g c = λ transparent known.
+    job_due g.D.Disk.device c.args.disk (g.I.Inputs.state c.args.inputs.now).files (g.C.Clock.state c.args.clock.now).next c.args.job _ c.make.result.report.refusal c.in-Make.is (c.make.ensures.due transparent)
 
 pub returns-in-Create-clause-clock : goal.returns-in-Create-clause-clock
 returns-in-Create-clause-clock g c = clock_unused (g.C.Clock.state c.args.clock.now)

@@ -1,0 +1,283 @@
+-- How the jobs of a session over an archive went, what was filled behind them, and what they leave of the disk.
+use Rattle.std.proofs.Common.{◌≡◌, ◌⊎◌, inl, inr, ℕ, ◌+◌, ◌-◌, ◌≤◌, true, false, List, [], ◌∷◌, ◌++◌, length, Some, None, Option, refl, sym, ap, ◌∙◌, subst, arith}
+use Rattle.std.specs.Prelude.{IfErr, IfOk, IfSome, IsTrue, Result}
+use Rattle.arch_disk.specs.Image.{Image}
+use Rattle.arch_disk.specs.Disk.{Device, LeavesOnly, NoFault, raised}
+use Rattle.refusals.specs.declared.refusal.Refusal.{Refusal}
+use Rattle.refusals.specs.declared.refusal.Refusal.TheVariants.{Limit, NeedsReopen}
+use Rattle.refusals.specs.declared.refusal.Which.TheVariants.{Records}
+use Rattle.refusals.specs.Limits.{limit_of}
+use Rattle.history_items.specs.declared.fills.Addition.{Addition}
+use Rattle.history_items.specs.declared.fills.Addition.TheVariants as additions
+use Rattle.history_items.specs.declared.fills.Fill.{Fill}
+use Rattle.history_items.specs.declared.fills.Fill.TheVariants.{Fault}
+use Rattle.history_items.specs.declared.items.Item.{Item}
+use Rattle.history_items.specs.Fills.{pending_fault_of, rows_of_faults}
+use Rattle.store_fills.specs.Faults.{faults_in}
+use Rattle.store_fills.specs.LastFills.{fillings_in}
+use Rattle.store_fills.proofs.Faults.{faults_in-done, pending_fault_of-in}
+use Rattle.archive_store.specs.AddedFills.{AddsRightFills}
+use Rattle.archive_store.specs.Keeping.{IsKept}
+use Rattle.archive_store.specs.Stands.{IsSoundImage}
+use Rattle.archive_store.specs.StoreView.{OnlyAppends, StoreView, archive_of, filled_of}
+use Rattle.command_plans.specs.Plan.{CommandPlan, Stopped}
+use Rattle.outer_traits.specs.States.{OutputState, SourceState}
+use Rattle.command_runs.specs.declared.report.Report.{Report}
+use Rattle.command_runs.specs.Causes.{IsCountedSince, IsLogNear}
+use Rattle.command_runs.specs.Command.{AllFilled, Effects, Extended, FillingFailed, HasDiskOutcome, Progress, Ran, effects_of}
+use Rattle.command_runs.specs.Healing.{TriesToHeal}
+use Rattle.command_runs.specs.Opened.{IsOpenedOn}
+use Rattle.command_runs.specs.Report.{loaded}
+use Rattle.command_runs.proofs.Commands.{no_text}
+use Rattle.command_runs.proofs.During.{IsOpened, opened_store}
+use Rattle.command_runs.proofs.FilledDisks.{batch_failed_disk, failed_disk, fill_failed_disk, fault_count_since, filled_disk, log_near, log_near_failed, log_near_unfilled, new_fills, unfailed_disk}
+use Rattle.command_runs.proofs.FillingPlan.{ran_all_filled, ran_behind, ran_unfilled}
+use Rattle.live_archive.specs.GoesOn.{NoneFailed, OneFailed}
+use Rattle.live_asks.specs.declared.answered.AskAnswer.{AskAnswer}
+use Rattle.live_fills.proofs.Late.{fills_of_late}
+use Rattle.live_session.specs.declared.reported.DumpCounts.{DumpCounts}
+use Rattle.live_session.specs.declared.reported.ReportedRefusal.{ReportedRefusal}
+use Rattle.live_session.specs.Jobs.{JobSetting}
+use Rattle.live_session.specs.Outcome.{HasFailed, IsFailedAddition, IsJobsOutcome, IsLoadOutcome, IsSeenIn, JobsOutcome, lefts_of, reported_of}
+use Rattle.load_jobs.proofs.Closing.{left_during}
+use Rattle.load_session.specs.During.{IsDuring}
+use Rattle.load_session.specs.Filling.{AllLateFilled, IsFillFailed, IsFilledOn, IsFillingRefusal, IsUnfailed}
+use Rattle.load_command.specs.Load.{WhereSoundOn, after_session, history_extended, job_refused, write_failed}
+use Rattle.load_command.specs.Loading.{IsNothingReported, IsReported, log_behind, outcome_of_failure, pending_behind}
+
+-- where nothing is reported, no job is refused
+pub nothing_reported : (said : Option ReportedRefusal) (filling : Result ℕ Refusal) → IsNothingReported said filling → said ≡ None
+nothing_reported None filling is = refl
+nothing_reported (Some reported) filling is = absurd is
+
+-- A store was opened, jobs ran over it, what was late still was filled behind them, and a failed write was taken back.
+module _ {D S : Type 0} (device : Device D) (disk : D) (old between mid new : StoreView D) (on : IsOpenedOn device disk old) (state : S → SourceState) (link sources : ℕ) (contents : List (Option (List ℕ))) (next : CommandPlan Progress ⊥)
+    (g : JobSetting) (olds news : List S) (said : Option ReportedRefusal) (counts : DumpCounts) (answers : List AskAnswer)
+    (came : IsLoadOutcome device state old between g link olds news said counts answers) (lefts : lefts_of state olds ≡ contents)
+    (filling : Result ℕ Refusal) (filled : IfOk filling (AllLateFilled device between mid)) (unfilled : IfErr filling (IsFillingRefusal device between mid)) (filled_on : IsFilledOn between mid)
+    (healed : TriesToHeal device mid new) (kept_old : IsKept device old) (kept : IsKept device new) (output output' : OutputState) (report : Report) where
+  abbrev Where : Type 0 → Type 0
+  Where = WhereSoundOn device disk
+
+  abbrev c : JobsOutcome
+  c = came.outcome
+
+  abbrev went : Effects D
+  went = effects_of disk new.disk output output' report
+
+  abbrev Loaded : Type 0
+  Loaded = Ran device (after_session sources (filled_of old) c next (reported_of link c.ends c.others) c.failed) went
+
+  -- ---- the way of the plan
+
+  pub outcome : IsJobsOutcome Where old.exponent old.history g link contents c
+  outcome =
+      subst (λ (image : Image). IsJobsOutcome (λ (P : Type 0). IsTrue device.is_transparent → IsSoundImage image → P) old.exponent old.history g link contents c) on.opened.opening
+      (subst (λ (l : List (Option (List ℕ))). IsJobsOutcome (λ (P : Type 0). IsTrue device.is_transparent → IsSoundImage (device.reads old.opened) → P) old.exponent old.history g link l c) lefts came.possible)
+
+  -- it goes on by what is reported of the jobs, and by the write that failed
+  goes_on : (reported : Option ReportedRefusal) (failed : Option Addition) → reported_of link c.ends c.others ≡ reported → c.failed ≡ failed → Ran device (after_session sources (filled_of old) c next reported failed) went → Loaded
+  goes_on reported failed is also ran =
+      subst (λ (t : Option ReportedRefusal). Ran device (after_session sources (filled_of old) c next t c.failed) went) (sym is)
+      (subst (λ (f : Option Addition). Ran device (after_session sources (filled_of old) c next reported f) went) (sym also) ran)
+
+  -- what the store tells of a refusal
+  seen : (reported : ReportedRefusal) → reported_of link c.ends c.others ≡ Some reported → IsSeenIn old between reported.refusal
+  seen reported is = subst (λ (t : Option ReportedRefusal). IfSome t (λ one. IsSeenIn old between one.refusal)) is came.loaded.refused
+
+  -- ---- the disk
+
+  opened : IsTrue device.is_transparent → IsOpened device disk old
+  opened known = opened_store device disk old (on.opened.filled known) on.reads on.opened.opening on.crash
+
+  none_at_first : faults_in old.fills ≡ []
+  none_at_first = faults_in-done old.fills on.opened.fills
+
+  sets : IsTrue device.is_transparent → AddsRightFills old.head old.exponent between.history (fillings_in old.filled) (fillings_in between.filled)
+  sets known = fills_of_late device old between known kept_old.bases came.loaded.goes came.loaded.late
+
+  appends : OnlyAppends old between
+  appends = came.loaded.goes.appends
+
+  -- how many rows came
+  abbrev came_rows : ℕ
+  came_rows = length c.reached - length old.history
+
+  -- a record more would pass the log's limit, if these are counted too
+  log_reaches : limit_of Records + length old.history ≤ between.records + length between.history → limit_of Records ≤ mid.records + came_rows
+  log_reaches full =
+      let same = ap length came.loaded.history in
+      let later = filled_on.records in
+      omega (arith, full, same, later)
+
+  -- the fills that there are behind all: those that there were, and right ones
+  pub right_fills : IsTrue device.is_transparent → AddsRightFills old.head old.exponent new.history (fillings_in old.filled) (fillings_in new.filled)
+  right_fills = new_fills device disk old between mid new opened on.counts.faults appends.head appends.exponent appends.opened sets filled_on healed kept.images kept.faults kept.kept
+
+  -- no write of it failed while the jobs ran
+  module _ (none : NoneFailed device old between) where
+    no_faults : faults_in between.fills ≡ []
+    no_faults = none.same_faults ∙ none_at_first
+
+    no_fault : NoFault device disk between.disk
+    no_fault = none.no_fault ∙ on.opened.no_fault
+
+    no_write : device.failed_writes between.disk ≡ device.failed_writes disk
+    no_write = none.no_failed_write ∙ on.opened.no_failed_write
+
+    calm : pending_fault_of between.fills ≡ None
+    calm = pending_fault_of-in between.fills ∙ ap pending_fault_of no_faults
+
+    unfailed : IsUnfailed device between mid → HasDiskOutcome device disk new.disk false (Extended (filled_of old) c.reached)
+    unfailed is =
+        subst (λ (h : List Item). HasDiskOutcome device disk new.disk false (Extended (filled_of old) h)) came.loaded.history
+        (unfailed_disk device disk old between mid new opened on.counts.faults appends.head appends.exponent appends.opened sets filled_on healed kept.images kept.faults kept.kept no_faults no_fault no_write is)
+
+    failed : IsFillFailed device between mid → HasDiskOutcome device disk new.disk true (FillingFailed (filled_of old) c.reached)
+    failed is =
+        subst (λ (h : List Item). HasDiskOutcome device disk new.disk true (FillingFailed (filled_of old) h)) came.loaded.history
+        (failed_disk device disk old between mid new opened on.counts.faults appends.head appends.exponent appends.opened sets filled_on healed kept.images kept.faults kept.kept no_faults no_fault no_write is)
+
+    all : (count : ℕ) → AllLateFilled device between mid count → HasDiskOutcome device disk new.disk false (AllFilled (filled_of old) c.reached)
+    all count is =
+        subst (λ (h : List Item). HasDiskOutcome device disk new.disk false (AllFilled (filled_of old) h)) came.loaded.history
+        (filled_disk device disk old between mid new opened on.counts.faults appends.head appends.exponent appends.opened sets filled_on healed kept.images kept.faults kept.kept no_faults no_fault no_write count is
+        (λ known. kept.bases))
+
+    near : (more : ℕ) → IsUnfailed device between mid → limit_of Records ≤ mid.records + more → IsLogNear device disk new.disk (Some more)
+    near more is reaches =
+        log_near device disk old between mid new opened on.counts.faults appends.head appends.exponent appends.opened sets filled_on healed kept.images kept.faults kept.kept no_faults no_fault no_write more kept.records is reaches
+
+    near_unfilled : (more : ℕ) → IsFillFailed device between mid → limit_of Records ≤ mid.records + more → IsLogNear device disk new.disk (Some more)
+    near_unfilled more is reaches =
+        log_near_unfilled device disk old between mid new opened on.counts.faults appends.head appends.exponent appends.opened sets filled_on healed kept.images kept.faults kept.kept no_faults no_fault no_write is more kept.records reaches
+
+    -- ---- a job was refused, which is reported whatever the filling came to
+
+    log_reported : (refusal : Refusal) → IsSeenIn old between refusal → IsUnfailed device between mid ⊎ IsFillFailed device between mid → IsLogNear device disk new.disk (log_behind refusal came_rows)
+    log_reported (Limit Records number) seen (inl is) = near came_rows is (log_reaches (seen refl))
+    log_reported (Limit Records number) seen (inr is) = near_unfilled came_rows is (log_reaches (seen refl))
+    log_reported other seen how = tt
+
+    refused : (reported : ReportedRefusal) → reported_of link c.ends c.others ≡ Some reported → c.failed ≡ None → IsSeenIn old between reported.refusal → output' ≡ output
+        → report ≡ loaded (Some reported.refusal) reported.link (length old.history) (length c.reached) 0 0 0 → Loaded
+    refused reported is also seen silent report_is =
+        goes_on (Some reported) None is also
+        (ran_behind (filled_of old) c.reached (job_refused sources (filled_of old) c reported) device went between mid calm refl refl
+        (rw silent (no_text output.written)) (record { counted = ap (λ (o : OutputState). o.faults) silent }) unfailed failed all reported.refusal report_is (log_reported reported.refusal seen) tt filling filled unfilled)
+
+    -- ---- no job was
+
+    abbrev st : Progress
+    st = history_extended sources (filled_of old) None c
+
+    -- a fill was refused
+    not_filled : (refusal : Refusal) → reported_of link c.ends c.others ≡ None → c.failed ≡ None → IsFillingRefusal device between mid refusal → output' ≡ output
+        → report ≡ loaded (Some refusal) None (length old.history) (length c.reached) 0 0 0 → Loaded
+    not_filled refusal is also cause silent report_is =
+        goes_on None None is also
+        (ran_unfilled (filled_of old) c.reached st device went between mid calm refl refl
+        (rw silent (no_text output.written)) (record { counted = ap (λ (o : OutputState). o.faults) silent }) unfailed failed (λ full. Unit {0}) next (refl, refl) (λ other reported. tt)
+        (λ is reaches. near 0 is (omega (arith, reaches))) refusal cause report_is)
+
+    -- each late interval was filled, and what follows was done
+    all_done : (late : ℕ) → reported_of link c.ends c.others ≡ None → c.failed ≡ None → AllLateFilled device between mid late
+        → (HasDiskOutcome device disk new.disk false (AllFilled (filled_of old) c.reached) → Ran device next went) → Loaded
+    all_done late is also done_is follows =
+        goes_on None None is also (ran_all_filled (λ full. Unit {0}) (filled_of old) c.reached st next device went tt (follows (all late done_is)))
+
+  -- ---- a write failed while they ran
+
+  module _ (addition : Addition) (one : OneFailed device old between) (adds : one.addition ≡ addition) where
+    held : faults_in between.fills ≡ Fault one.count true addition ∷ []
+    held = one.faults ∙ ap (λ (l : List Fill). l ++ Fault one.count true one.addition ∷ []) none_at_first ∙ ap (λ (a : Addition). Fault one.count true a ∷ []) adds
+
+    wrote_once : device.failed_writes between.disk ≡ raised (device.failed_writes disk)
+    wrote_once = one.wrote ∙ ap raised on.opened.no_failed_write
+
+    session : IsTrue device.is_transparent → LeavesOnly device old.disk between.disk (IsDuring (archive_of old) between.history (rows_of_faults between.fills))
+    session known = left_during device old between known came.loaded.goes (kept_old.kept known (pending_fault_of-in old.fills ∙ ap pending_fault_of none_at_first))
+
+    what_failed : (a : Addition) → addition ≡ a → IsFailedAddition old.history c.reached g link contents c.ends a
+        → HasDiskOutcome device disk new.disk true (outcome_of_failure (filled_of old) c.reached a)
+    what_failed (additions.Rows rows) is in_hand =
+        subst (λ (h : List Item). HasDiskOutcome device disk new.disk true (outcome_of_failure (filled_of old) h (additions.Rows rows))) came.loaded.history
+        (batch_failed_disk device disk old between mid new opened on.counts.faults appends.head appends.exponent appends.opened sets filled_on healed kept.images kept.faults kept.kept addition one.count held wrote_once
+        filling filled unfilled rows is on.opened.since appends.history session)
+    what_failed (additions.Fill i base) is fill =
+        subst (λ (h : List Item). HasDiskOutcome device disk new.disk true (outcome_of_failure (filled_of old) h (additions.Fill i base))) came.loaded.history
+        (fill_failed_disk device disk old between mid new opened on.counts.faults appends.head appends.exponent appends.opened sets filled_on healed kept.images kept.faults kept.kept addition one.count held wrote_once
+        filling filled unfilled i base is)
+    what_failed additions.Nothing is never = absurd never
+
+    -- the count at which it is pending was reached in the call
+    counted_since : (refusal : Refusal) → IsSeenIn old between refusal → IsCountedSince device disk new.disk (pending_behind refusal)
+    counted_since (NeedsReopen faults) seen =
+        fault_count_since device disk old between mid new opened on.counts.faults appends.head appends.exponent appends.opened sets filled_on healed kept.images kept.faults kept.kept addition one.count held wrote_once
+        filling filled unfilled faults seen
+    counted_since other seen = tt
+
+    log_failed : (refusal : Refusal) → IsSeenIn old between refusal → IsLogNear device disk new.disk (log_behind refusal came_rows)
+    log_failed (Limit Records number) seen =
+        log_near_failed device disk old between mid new opened on.counts.faults appends.head appends.exponent appends.opened sets filled_on healed kept.images kept.faults kept.kept addition one.count held wrote_once
+        filling filled unfilled came_rows kept.records (log_reaches (seen refl))
+    log_failed other seen = tt
+
+    write_refused : (reported : ReportedRefusal) → reported_of link c.ends c.others ≡ Some reported → c.failed ≡ Some addition → IsFailedAddition old.history c.reached g link contents c.ends addition
+        → IsSeenIn old between reported.refusal → output' ≡ output → report ≡ loaded (Some reported.refusal) reported.link (length old.history) (length c.reached) 0 0 0 → Loaded
+    write_refused reported is also failed seen silent report_is =
+        goes_on (Some reported) (Some addition) is also (record {
+          way = Stopped (write_failed sources (filled_of old) c reported addition) (Some reported.refusal);
+          allows = refl;
+          did = record {
+            report = report_is;
+            printed = rw silent (no_text output.written);
+            output = record { counted = ap (λ (o : OutputState). o.faults) silent };
+            disk = what_failed addition refl failed;
+            log = log_failed reported.refusal seen;
+            pending = counted_since reported.refusal seen;
+          };
+        })
+
+  -- ---- what is reported
+
+  abbrev reports : ReportedRefusal → Type 0
+  reports reported = report ≡ loaded (Some reported.refusal) reported.link (length old.history) (length c.reached) 0 0 0
+
+  -- a job was refused
+  job_reported : (reported : ReportedRefusal) → reported_of link c.ends c.others ≡ Some reported → (failed : Option Addition) → c.failed ≡ failed → HasFailed device old between failed → output' ≡ output → reports reported → Loaded
+  job_reported reported is None also none silent report_is = refused none reported is also (seen reported is) silent report_is
+  job_reported reported is (Some addition) also one silent report_is =
+      write_refused addition one.0 one.1 reported is also (subst (λ (f : Option Addition). IfSome f (IsFailedAddition old.history c.reached g link contents c.ends)) also outcome.failed)
+      (seen reported is) silent report_is
+
+  no_write_failed : reported_of link c.ends c.others ≡ None → c.failed ≡ None
+  no_write_failed is = outcome.reported_so is
+
+  none_failed : reported_of link c.ends c.others ≡ None → NoneFailed device old between
+  none_failed is = subst (HasFailed device old between) (no_write_failed is) came.loaded.failed
+
+  -- the jobs, or else the filling behind them
+  pub ran_reported : (reported : ReportedRefusal) → IsReported said filling reported → output' ≡ output → reports reported → Loaded
+  ran_reported reported is silent report_is = go said refl is
+    where
+      go : (s : Option ReportedRefusal) → said ≡ s → IsReported s filling reported → Loaded
+      go (Some one) same this =
+          let known : reported_of link c.ends c.others ≡ Some reported = sym came.said_is ∙ same ∙ ap (λ (t : ReportedRefusal). Some t) (sym this) in
+          job_reported reported known c.failed refl came.loaded.failed silent report_is
+      go None same this =
+          let known : reported_of link c.ends c.others ≡ None = sym came.said_is ∙ same in
+          let cause = subst (λ (r : Result ℕ Refusal). IfErr r (IsFillingRefusal device between mid)) this.0 unfilled in
+          not_filled (none_failed known) reported.refusal known (no_write_failed known) cause silent
+          (subst (λ (l : Option ℕ). report ≡ loaded (Some reported.refusal) l (length old.history) (length c.reached) 0 0 0) this.1 report_is)
+
+  -- nothing was refused, each late interval was filled, and what follows was done
+  pub ran_whole : IsNothingReported said filling → (HasDiskOutcome device disk new.disk false (AllFilled (filled_of old) c.reached) → Ran device next went) → Loaded
+  ran_whole is follows = go said refl is
+    where
+      go : (s : Option ReportedRefusal) → said ≡ s → IsNothingReported s filling → Loaded
+      go (Some one) same this = absurd this
+      go None same this =
+          let known : reported_of link c.ends c.others ≡ None = sym came.said_is ∙ same in
+          let done_is = subst (λ (r : Result ℕ Refusal). IfOk r (AllLateFilled device between mid)) this.1 filled in
+          all_done (none_failed known) this.0 known (no_write_failed known) done_is follows

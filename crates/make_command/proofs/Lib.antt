@@ -1,0 +1,7 @@
+pub mod Created
+pub mod LoadRuns
+pub mod MadeLoads
+pub mod MadeRuns
+pub mod MakePlan
+pub mod SummaryRuns
+pub mod SummaryTexts

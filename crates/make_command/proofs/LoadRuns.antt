@@ -1,0 +1,154 @@
+-- How the jobs of a load into an archive that was made went, what was filled behind them, and what was summed up.
+use Rattle.std.proofs.Common.{◌≡◌, ◌∙◌, ℕ, ℤ, false, List, [], length, Option, Some, None, refl, sym, ap, subst}
+use Rattle.std.specs.Prelude.{IfErr, IfOk, IsTrue, Result}
+use Rattle.arch_disk.specs.Disk.{Device}
+use Rattle.intervals.specs.Interval.{format_1_exponent}
+use Rattle.interval_walks.proofs.Counts.{none_late}
+use Rattle.refusals.specs.declared.refusal.Refusal.{Refusal}
+use Rattle.outer_traits.specs.States.{OutputState}
+use Rattle.history_items.specs.declared.items.Item.{Item}
+use Rattle.store_fills.specs.LastFills.{PlacedFills, fillings_in}
+use Rattle.store_fills.specs.Sound.{Fillings, no_fillings}
+use Rattle.param_segments.specs.Rows.{SetRow}
+use Rattle.archive_store.specs.declared.head.Head.{Head}
+use Rattle.archive_store.specs.AddedFills.{AddsRightFills}
+use Rattle.archive_store.specs.Calls.{IsStoreCreated}
+use Rattle.archive_store.specs.Entries.{FilledArchive, filled_archive}
+use Rattle.archive_store.specs.Keeping.{IsKept}
+use Rattle.archive_store.specs.LateFills.{late_in_archive}
+use Rattle.archive_store.specs.StoreView.{StoreView, filled_of}
+use Rattle.command_plans.specs.Plan.{CommandPlan}
+use Rattle.command_runs.specs.declared.report.LoadCounts.{LoadCounts}
+use Rattle.command_runs.specs.declared.report.Report.{Report}
+use Rattle.command_runs.specs.Command.{AllFilled, Effects, HasDiskOutcome, Progress, Ran, effects_of}
+use Rattle.command_runs.specs.Extension.{filled_at}
+use Rattle.command_runs.specs.Healing.{TriesToHeal}
+use Rattle.command_runs.specs.Moment.{IsMomentOf}
+use Rattle.command_runs.specs.Opened.{IsOpenedOn}
+use Rattle.command_runs.specs.Report.{loaded}
+use Rattle.command_runs.proofs.FilledDisks.{late_as_filled}
+use Rattle.live_asks.specs.declared.answered.AskAnswer.{AskAnswer}
+use Rattle.live_session.specs.declared.reported.DumpCounts.{DumpCounts}
+use Rattle.live_session.specs.declared.reported.ReportedRefusal.{ReportedRefusal}
+use Rattle.live_session.specs.Jobs.{JobSetting, job_setting}
+use Rattle.live_session.specs.Outcome.{IsJobsOutcome, IsLoadOutcome, JobsOutcome, counts_of, lefts_of, reported_of}
+use Rattle.load_session.specs.Filling.{AllLateFilled, IsFilledOn, IsFillingRefusal}
+use Rattle.stream_graph.specs.Routes.{every_packet_route}
+use Rattle.load_command.specs.Load.{WhereSoundOn, after_session}
+use Rattle.load_command.specs.Loading.{IsNothingReported, IsReported}
+use Rattle.load_command.proofs.SessionRuns.{nothing_reported, outcome as session_outcome, ran_reported as session_reported, ran_whole as session_whole, right_fills}
+use Rattle.make_command.specs.Made.{IsFilledBy, IsMadeOutcome, dumps_of_seed, made_archive, made_contents, made_head, memory_state}
+use Rattle.make_command.specs.Make.{made_load_plan, summary_plan}
+use Rattle.make_command.specs.Summing.{IsSummaryReply, counts_behind, summary_report}
+use Rattle.make_command.proofs.Created.{archive_is, opened_on}
+use Rattle.make_command.proofs.MadeLoads.{made_outcome, none_unread}
+use Rattle.make_command.proofs.SummaryRuns.{ran_summary}
+
+-- An archive was made, jobs ran over its store, what was late still was filled behind them, and a failed write was taken
+-- back.
+module _ {D : Type 0} (device : Device D) (disk : D) (s between mid new : StoreView D) (created : IsStoreCreated device disk made_head s) (kept_first : IsKept device s) (seed : ℕ) (next : Option ℤ) (moment : ℤ)
+    (is_moment : IsMomentOf next moment) (g : JobSetting) (g_is : g ≡ job_setting made_head every_packet_route moment []) (olds news : List (List ℕ)) (dumps : olds ≡ dumps_of_seed seed)
+    (said : Option ReportedRefusal) (counts : DumpCounts) (answers : List AskAnswer) (came : IsLoadOutcome device memory_state s between g 1 olds news said counts answers)
+    (filling : Result ℕ Refusal) (filled : IfOk filling (AllLateFilled device between mid)) (unfilled : IfErr filling (IsFillingRefusal device between mid)) (filled_on : IsFilledOn between mid)
+    (healed : TriesToHeal device mid new) (kept : IsKept device new) (output output' : OutputState) (report : Report) where
+  abbrev c : JobsOutcome
+  c = came.outcome
+
+  abbrev went : Effects D
+  went = effects_of s.disk new.disk output output' report
+
+  abbrev Loaded : Type 0
+  Loaded = Ran device (made_load_plan device next seed) went
+
+  abbrev behind : CommandPlan Progress ⊥
+  behind = summary_plan device seed c
+
+  on : IsOpenedOn device s.disk s
+  on = opened_on device disk made_head s created kept_first
+
+  first_is : filled_of s ≡ made_archive
+  first_is = archive_is device disk made_head s created kept_first
+
+  -- ---- the way of the plan
+
+  lefts : lefts_of memory_state olds ≡ made_contents seed
+  lefts = ap (lefts_of memory_state) dumps
+
+  possible : IsJobsOutcome (WhereSoundOn device s.disk) s.exponent s.history g 1 (made_contents seed) c
+  possible =
+      session_outcome device s.disk s between mid new on memory_state 1 0 (made_contents seed) behind g olds news said counts answers came lefts filling filled unfilled filled_on healed kept_first kept output output' report
+
+  came_to : IsMadeOutcome seed moment c
+  came_to =
+      made_outcome (WhereSoundOn device s.disk) seed moment c
+      (subst (λ (h : List Item). IsJobsOutcome (WhereSoundOn device s.disk) format_1_exponent h (job_setting made_head every_packet_route moment []) 1 (made_contents seed) c) created.history
+      (subst (λ (e : ℕ). IsJobsOutcome (WhereSoundOn device s.disk) e s.history (job_setting made_head every_packet_route moment []) 1 (made_contents seed) c) created.exponent
+      (subst (λ (f : JobSetting). IsJobsOutcome (WhereSoundOn device s.disk) s.exponent s.history f 1 (made_contents seed) c) g_is possible)))
+      (none_unread memory_state c.ends olds news (λ source. tt) (λ source. refl) came.sources)
+
+  chosen : Ran device (after_session 0 (filled_of s) c behind (reported_of 1 c.ends c.others) c.failed) went → Loaded
+  chosen ran =
+      let made = subst (λ (f : FilledArchive). Ran device (after_session 0 f c behind (reported_of 1 c.ends c.others) c.failed) went) first_is ran in
+      record { way = made.way; allows = (moment, is_moment, (c, came_to, made.allows)); did = made.did }
+
+  -- the jobs were refused, or else the filling behind them
+  pub ran_refused : (reported : ReportedRefusal) → IsReported said filling reported → output' ≡ output → report ≡ loaded (Some reported.refusal) reported.link 0 (length c.reached) 0 0 0 → Loaded
+  ran_refused reported is silent report_is =
+      chosen (session_reported device s.disk s between mid new on memory_state 1 0 (made_contents seed) behind g olds news said counts answers came lefts filling filled unfilled filled_on healed kept_first kept
+      output output' report reported is silent
+      (subst (λ (h : List Item). report ≡ loaded (Some reported.refusal) reported.link (length h) (length c.reached) 0 0 0) (sym created.history) report_is))
+
+  -- ---- all was filled
+
+  rows : mid.history ≡ c.reached
+  rows = filled_on.rows ∙ came.loaded.history
+
+  filled_is : filled_of mid ≡ filled_at made_archive c.reached (fillings_in mid.filled)
+  filled_is =
+      ap (λ (h : Head). filled_archive h mid.exponent mid.history (fillings_in mid.filled)) (filled_on.head ∙ came.loaded.goes.appends.head ∙ created.head_is)
+      ∙ ap (λ (e : ℕ). filled_archive made_head e mid.history (fillings_in mid.filled)) (filled_on.exponent ∙ came.loaded.goes.appends.exponent ∙ created.exponent)
+      ∙ ap (λ (l : List Item). filled_archive made_head format_1_exponent l (fillings_in mid.filled)) rows
+
+  -- taking a failed write back leaves rows and fills
+  same_rows : new.history ≡ c.reached
+  same_rows = ap (λ (v : StoreView D). v.history) healed.left ∙ rows
+
+  same_fills : new.filled ≡ mid.filled
+  same_fills = ap (λ (v : StoreView D). v.filled) healed.left
+
+  adds : IsTrue device.is_transparent → AddsRightFills made_head format_1_exponent c.reached no_fillings (fillings_in mid.filled)
+  adds known =
+      subst (λ (h : Head). AddsRightFills h format_1_exponent c.reached no_fillings (fillings_in mid.filled)) created.head_is
+      (subst (λ (e : ℕ). AddsRightFills s.head e c.reached no_fillings (fillings_in mid.filled)) created.exponent
+      (subst (λ (l : List Item). AddsRightFills s.head s.exponent l no_fillings (fillings_in mid.filled)) same_rows
+      (subst (λ (f : Fillings (List SetRow)). AddsRightFills s.head s.exponent new.history f (fillings_in mid.filled)) created.filled
+      (subst (λ (f : PlacedFills). AddsRightFills s.head s.exponent new.history (fillings_in s.filled) (fillings_in f)) same_fills
+      (right_fills device s.disk s between mid new on memory_state 1 0 (made_contents seed) behind g olds news said counts answers came lefts filling filled unfilled filled_on healed kept_first kept output output' report known)))))
+
+  each_filled : (o : Option ReportedRefusal) → IsNothingReported o filling → (count : ℕ) × AllLateFilled device between mid count
+  each_filled (Some reported) nothing = absurd nothing
+  each_filled None nothing = (nothing.0, subst (λ (r : Result ℕ Refusal). IfOk r (AllLateFilled device between mid)) nothing.1 filled)
+
+  is_filled : IsNothingReported said filling → IsKept device mid → IsFilledBy device c.reached (fillings_in mid.filled)
+  is_filled nothing kept_mid = record {
+    adds = adds;
+    none_late = subst (λ (f : FilledArchive). late_in_archive f ≡ []) filled_is
+        (sym (late_as_filled (filled_of mid) mid.fills kept_mid.bases) ∙ none_late mid.exponent mid.history mid.fills (each_filled said nothing).1.none_late);
+  }
+
+  -- nothing was refused, and what there is was compared and printed, or not
+  pub ran_summed : IsNothingReported said filling → IsKept device mid → (refusal : Option Refusal) → IsSummaryReply seed (counts_behind counts (length mid.history)) (filled_of mid) refusal output output'
+      → report ≡ summary_report refusal (length mid.history) (counts_behind counts (length mid.history)) → Loaded
+  ran_summed nothing kept_mid refusal reply report_is =
+      let same : counts_behind counts (length mid.history) ≡ counts_behind (counts_of c.ends) (length c.reached) =
+      ap (λ (d : DumpCounts). counts_behind d (length mid.history)) (came.counts_are (nothing_reported said filling nothing)) ∙ ap (λ (l : List Item). counts_behind (counts_of c.ends) (length l)) rows in
+      let replied =
+      subst (λ (f : FilledArchive). IsSummaryReply seed (counts_behind (counts_of c.ends) (length c.reached)) f refusal output output') filled_is
+      (subst (λ (n : LoadCounts). IsSummaryReply seed n (filled_of mid) refusal output output') same reply) in
+      let reports =
+      subst (λ (l : List Item). report ≡ summary_report refusal (length l) (counts_behind (counts_of c.ends) (length c.reached))) rows
+      (subst (λ (n : LoadCounts). report ≡ summary_report refusal (length mid.history) n) same report_is) in
+      chosen (session_whole device s.disk s between mid new on memory_state 1 0 (made_contents seed) behind g olds news said counts answers came lefts filling filled unfilled filled_on healed kept_first kept
+      output output' report nothing
+      (λ disk_is. ran_summary device s.disk new.disk output output' report seed c (fillings_in mid.filled) (is_filled nothing kept_mid)
+      (subst (λ (f : FilledArchive). HasDiskOutcome device s.disk new.disk false (AllFilled f c.reached)) first_is disk_is) refusal replied reports))

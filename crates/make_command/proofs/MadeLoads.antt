@@ -1,0 +1,84 @@
+-- The load of made packets: what it is given, and what its jobs came to.
+use Rattle.std.proofs.Common.{◌≡◌, ℕ, ℤ, false, List, [], ◌∷◌, codes, length, None, refl, arith}
+use Rattle.std.specs.List.{list_any}
+use Rattle.outer_traits.specs.States.{SourceState}
+use Rattle.field_codec.specs.Entries.{AreTables}
+use Rattle.mdb_items.specs.CalibrationRows.{calibration_fault_at}
+use Rattle.mdb_items.specs.Checks.{first_at}
+use Rattle.mdb_items.specs.ContainerRows.{container_fault_at}
+use Rattle.mdb_items.specs.ParameterRows.{parameter_fault_at}
+use Rattle.mdb_items.specs.Paths.{paths_of}
+use Rattle.intervals.specs.Interval.{format_1_exponent}
+use Rattle.history_items.specs.declared.items.Item.{Item}
+use Rattle.archive_store.specs.declared.head.Head.{Head}
+use Rattle.live_asks.specs.declared.answered.AskAnswer.{AskAnswer}
+use Rattle.live_asks.specs.LiveAsks.{AreAnswered}
+use Rattle.live_session.specs.Jobs.{IsSourceRead, job_setting}
+use Rattle.live_session.specs.Outcome.{AreSourcesRead, IsJobsOutcome, JobsOutcome}
+use Rattle.load_jobs.specs.declared.ending.LinkEnd.{LinkEnd}
+use Rattle.load_jobs.specs.declared.ending.LinkEnd.TheVariants.{Unread}
+use Rattle.load_session.specs.Receiving.{IsRouteOver}
+use Rattle.stream_graph.specs.Routes.{every_packet_route}
+use Rattle.load_command.specs.Loading.{is_unread}
+use Rattle.make_command.specs.Made.{IsMadeOutcome, made_contents, made_head, two_dumps}
+use Rattle.make_command.specs.Summing.{KnowsParameters}
+
+-- ---- what it is given
+
+-- there are two sources, however many packets their dumps have
+pub dumps_are_two : (seed packets : ℕ) → length (two_dumps seed packets) ≡ 2
+unfolding two_dumps
+dumps_are_two seed packets = refl
+
+-- the one table is `tm`
+pub made_tables : AreTables (codes "tm" ∷ [])
+made_tables = record { names = (refl, tt); few = omega arith; first = refl; distinct = (tt, tt) }
+
+-- the route is one over the archive's tables
+pub made_route : IsRouteOver made_head every_packet_route
+unfolding made_head
+made_route = (omega arith, tt)
+
+-- the database has the parameters whose values are counted
+pub made_parameters_known : KnowsParameters made_head.mdb
+unfolding made_head first_at calibration_fault_at container_fault_at parameter_fault_at paths_of
+made_parameters_known = (refl, (refl, (refl, tt)))
+
+-- ---- what its jobs came to
+
+-- where nothing is asked an answer says nothing
+no_ask : (Where Other : Type 0 → Type 0) (head : Head) (low reached : List Item) (answers : List AskAnswer) → AreAnswered Where head low reached [] answers None → AreAnswered Other head low reached [] answers None
+no_ask Where Other head low reached [] is = tt
+no_ask Where Other head low reached (answer ∷ answers) is = absurd is
+
+-- a source that never fails was read to where its link stopped
+module _ {S : Type 0} (state : S → SourceState) where
+  read_on : (end : LinkEnd) (old new : SourceState) → old.never_fails → IsSourceRead end old new → old.faults ≡ 0 → is_unread end ≡ false
+  read_on (Unread refused) old new never read none =
+      let still = read.2 never in
+      let risen = read.1 (omega (arith, still, none)) in
+      absurd (omega (arith, still, risen))
+  read_on other old new never read none = refl
+
+  pub none_unread : (ends : List LinkEnd) (olds news : List S) → ((source : S) → (state source).never_fails) → ((source : S) → (state source).faults ≡ 0) → AreSourcesRead state ends olds news → list_any is_unread ends ≡ false
+  none_unread [] [] [] never none read = refl
+  none_unread (end ∷ ends) (old ∷ olds) (new ∷ news) never none read =
+      rw (read_on end (state old) (state new) (never old) read.0 (none old)) (none_unread ends olds news never none read.1)
+  none_unread ends olds news never none read = absurd read
+
+pub made_outcome : (Where : Type 0 → Type 0) (seed : ℕ) (moment : ℤ) (c : JobsOutcome) → IsJobsOutcome Where format_1_exponent [] (job_setting made_head every_packet_route moment []) 1 (made_contents seed) c
+    → list_any is_unread c.ends ≡ false → IsMadeOutcome seed moment c
+made_outcome Where seed moment c is read = record {
+  came = record {
+    more = is.more;
+    grown = is.grown;
+    of_links = is.of_links;
+    links = is.links;
+    answered = λ none before few. no_ask Where (λ (P : Type 0). Unit {0}) made_head [] c.reached _ (is.answered none before few);
+    readers = is.readers;
+    fillers = is.fillers;
+    reported_so = is.reported_so;
+    failed = is.failed;
+  };
+  read = read;
+}

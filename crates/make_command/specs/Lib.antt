@@ -1,0 +1,4 @@
+pub mod Made
+pub mod Make
+pub mod Summary
+pub mod Summing
