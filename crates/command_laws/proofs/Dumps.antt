@@ -17,7 +17,7 @@ use Rattle.command_runs.proofs.DumpRest.{bad_ending}
 use Rattle.command_laws.specs.Calls.{Call, IsRefusedBy, Prints, PrintsSome, Succeeded, WasInterrupted}
 use Rattle.command_laws.specs.Dumps.{IsDumpPrinted}
 use Rattle.command_laws.proofs.Readings.{IsNoBadPacket}
-use Rattle.command_laws.proofs.Runs.{IsEndOf, all_is_some, none_is_some, none_or_some, or_unwritten, same_refusal, told}
+use Rattle.command_laws.proofs.Runs.{IsEndOf, all_is_some, none_is_some, none_or_some, or_unwritten, reported, same_refusal}
 
 -- there's a moment that the clock tells, or one in its range
 pub some_moment : (clock : Option ℤ) → (moment : ℤ) × IsMomentOf clock moment
@@ -112,7 +112,7 @@ module _ {D : Type 0} (e : Call D) (lines last : List ℕ) where
 module _ {D : Type 0} {device : Device D} (e : Call D) (way : Way Progress ⊥) (at : IsEndOf device e way) (s : Progress) (text dump rest : List ℕ) where
   ends_so : Requires (printing_then_plan s text (ending_of_rest dump rest)) way → (e.report.refusal ≡ ending_of_rest dump rest) ⊎ WasInterrupted device e
   ends_so (inl is) = or_unwritten e way at (e.report.refusal ≡ ending_of_rest dump rest) _ is
-  ends_so (inr is) = inl (told e way at ∙ ap refusal_at is)
+  ends_so (inr is) = inl (reported e way at ∙ ap refusal_at is)
 
   -- all of a dump of packets alone
   pub whole_due : rest ≡ [] → Requires (printing_then_plan s text (ending_of_rest dump rest)) way → Succeeded e ⊎ WasInterrupted device e

@@ -97,9 +97,9 @@ no_ending dump (octet ∷ rest) refusal is reading =
 
 -- ---- asks
 
-unless_told : (o : Option Refusal) (records : List Fields) (refusal : Refusal) → asks_unless o records ≡ Err refusal → o ≡ Some refusal
-unless_told None records refusal is = absurd (cc (is))
-unless_told (Some own) records refusal is = cc (is)
+unless_reported : (o : Option Refusal) (records : List Fields) (refusal : Refusal) → asks_unless o records ≡ Err refusal → o ≡ Some refusal
+unless_reported None records refusal is = absurd (cc (is))
+unless_reported (Some own) records refusal is = cc (is)
 
 no_sheet_of_asks : (broken : Option (ℕ × ℕ)) (many : Bool) (refusal : Refusal)
     → or_else (option_map (λ (broken : ℕ × ℕ). BadSheet sheets.Asks broken.0 broken.1) broken) (if many then Some (Limit which.Asks (limit_of which.Asks)) else None) ≡ Some refusal → TellsOfOutside refusal → ⊥
@@ -111,7 +111,7 @@ pub no_asks_sheet : (octets : List ℕ) (refusal : Refusal) → asks_of octets �
 unfolding asks_of
 no_asks_sheet octets refusal is tells =
     let records = sheet_of octets in
-    no_sheet_of_asks (ask_sheet_fault records) (nat_lt (limit_of which.Asks) (length (drop 1 records))) refusal (unless_told (ask_sheet_refusal records) records refusal is) tells
+    no_sheet_of_asks (ask_sheet_fault records) (nat_lt (limit_of which.Asks) (length (drop 1 records))) refusal (unless_reported (ask_sheet_refusal records) records refusal is) tells
 
 no_ask : (own : AskRefusal) → TellsOfOutside (refusal_of_ask own) → ⊥
 no_ask unanswered.UnknownParameter tells = tells

@@ -1,6 +1,6 @@
 -- The rows that a link put are among the first arrivals of each table and key of its dump, and the table and key of each arrival are in the history.
-use Rattle.std.proofs.Common.{◌≡◌, ◌∙◌, inl, inr, ℕ, List, [], ◌∷◌, ◌++◌, take, drop, Bool, true, refl, sym, ap, subst, append-nil, take-append-drop}
-use Rattle.std.specs.Prelude.{All, if◌then◌else◌}
+use Rattle.std.proofs.Common.{◌≡◌, ◌∙◌, inl, inr, ℕ, List, [], ◌∷◌, ◌++◌, true, refl, sym, subst, append-nil}
+use Rattle.std.specs.Prelude.{All}
 use Rattle.std.specs.List.{AllByRecursion, list_any}
 use Rattle.std.proofs.lemmas.List.Elements.{All-from_recursion}
 use Rattle.std.proofs.lemmas.List.Folds.{Any-from_list_any}
@@ -11,11 +11,8 @@ use Rattle.arch_types.specs.declared.row.Row.{Row}
 use Rattle.arch_types.specs.History.{firsts, is_duplicate_of, with_row}
 use Rattle.arch_types.proofs.Histories.{only_adds}
 use Rattle.history_items.specs.declared.items.Item.{Item}
-use Rattle.history_items.specs.Items.{has_key_of, row_item, rows_in}
-use Rattle.history_items.specs.Outcomes.{fresh_of}
+use Rattle.history_items.specs.Items.{has_key_of, rows_in}
 use Rattle.history_items.proofs.ItemLists.{any_row_with}
-use Rattle.history_items.proofs.Outcomes.{fresh_of_cons}
-use Rattle.load_session.specs.Batches.{batch_at}
 use Rattle.load_session.specs.Receiving.{Receiving, rows_received}
 use Rattle.load_session.proofs.Arrived.{rows-append}
 use Rattle.shared_history.specs.Sent.{AreKept, AreSomeOf}
@@ -57,24 +54,3 @@ each_there history (row ∷ rows) kept = (key_there history row kept.0, each_the
 -- the table and key of each row that arrived are in the history
 pub arrivals_there : (history : List Item) (rows : List Row) → AreKept history rows → All (HasKeyIn history) rows
 arrivals_there history rows kept = All-from_recursion (HasKeyIn history) rows (each_there history rows kept)
-
--- ---- what is there already
-
--- rows whose tables and keys are all there add none
-pub none_fresh : (history : List Item) (rows : List Row) → AreKept history rows → fresh_of history rows ≡ []
-none_fresh history [] kept = refl
-none_fresh history (row ∷ rows) kept =
-    fresh_of_cons history row rows ∙ ap (λ (b : Bool). if b then fresh_of history rows else row ∷ fresh_of (history ++ row_item row ∷ []) rows) kept.0 ∙ none_fresh history rows kept.1
-
-kept_parts : (history : List Item) (first second : List Row) → AreKept history (first ++ second) → AreKept history first × AreKept history second
-kept_parts history [] second kept = (tt, kept)
-kept_parts history (row ∷ first) second kept = let rest = kept_parts history first second kept.1 in ((kept.0, rest.0), rest.1)
-
-kept_split : (r : Receiving) (history : List Item) (n : ℕ) (packets : List (List ℕ)) → AreKept history (rows_received r packets) → AreKept history (rows_received r (take n packets)) × AreKept history (rows_received r (drop n packets))
-kept_split r history n packets kept =
-    kept_parts history (rows_received r (take n packets)) (rows_received r (drop n packets))
-    (subst (AreKept history) (ap (rows_received r) (sym (take-append-drop n packets)) ∙ rows-append r (take n packets) (drop n packets)) kept)
-
--- so do those of each batch of packets that all arrived
-pub kept_batch : (r : Receiving) (history : List Item) (place : ℕ) (packets : List (List ℕ)) → AreKept history (rows_received r packets) → AreKept history (rows_received r (batch_at place packets))
-kept_batch r history place packets kept = (kept_split r history 64 (drop place packets) (kept_split r history place packets kept).1).0

@@ -1,17 +1,18 @@
 -- What the jobs of a load came to, dump by dump: what each link received, and how the history grew.
-use Rattle.std.proofs.Common.{◌≡◌, ◌⊎◌, ◌∙◌, inl, inr, ℕ, ℤ, zero, suc, ◌+◌, ◌-◌, ◌<◌, ◌≤◌, List, [], ◌∷◌, ◌++◌, length, take, drop, Option, Some, None, refl, sym, ap, subst, take-append-drop, arith}
-use Rattle.std.specs.Prelude.{All, IfSome, IsSome, Ok, slice_get}
+use Rattle.std.proofs.Common.{◌≡◌, ◌∙◌, inr, ℕ, ℤ, zero, suc, ◌+◌, ◌-◌, ◌<◌, ◌≤◌, List, [], ◌∷◌, ◌++◌, length, take, drop, Option, Some, None, refl, sym, ap, subst, take-append-drop, arith}
+use Rattle.std.specs.Prelude.{All, IfSome, IsSome, IsSomeAnd, Ok, slice_get}
 use Rattle.std.specs.FinMap.{get}
 use Rattle.std.specs.List.{AllByRecursion}
 use Rattle.std.proofs.lemmas.List.{length-map, take_all}
 use Rattle.std.proofs.lemmas.List.Elements.{All-from_recursion}
 use Rattle.std.proofs.lemmas.List.Sums.{sum_by-cons}
-use mathlib.Core.List.{Sublist}
+use mathlib.Core.List.{IsPrefix, Sublist}
 use Rattle.arch_types.specs.declared.row.Row.{Row}
 use Rattle.arch_types.specs.Dump.{IsDump}
 use Rattle.arch_types.specs.History.{firsts}
-use Rattle.arch_types.proofs.Dumps.{dump_is_one}
 use Rattle.asks.specs.declared.ask.Ask.{Ask}
+use Rattle.refusals.specs.declared.refusal.Refusal.{Refusal}
+use Rattle.refusals.specs.declared.refusal.Refusal.TheVariants.{DiskFault}
 use Rattle.refusals.specs.Limits.{limit_of}
 use Rattle.refusals.specs.declared.refusal.Which.TheVariants.{DumpOctets}
 use Rattle.outer_traits.specs.Outside.{Files}
@@ -27,19 +28,19 @@ use Rattle.stream_graph.specs.declared.statement.RouteStatement.{RouteStatement}
 use Rattle.load_session.specs.declared.session.DumpSummary.{DumpSummary}
 use Rattle.load_session.specs.Batches.{batch_at}
 use Rattle.load_session.specs.Receiving.{Receiving, arrived, receiving, rows_received}
-use Rattle.shared_history.specs.Sent.{AreKept}
-use Rattle.load_jobs.specs.Ends.{IsReadingEnd}
+use Rattle.load_jobs.specs.Ends.{refusal_of_end}
+use Rattle.load_jobs.specs.Reading.{IsReadOf}
+use Rattle.load_jobs.proofs.Pieces.{read_of_end}
 use Rattle.load_jobs.specs.declared.ending.LinkEnd.{LinkEnd}
 use Rattle.load_jobs.specs.declared.ending.LinkEnd.TheVariants.{Whole, Rest, Unread, TooLong, Refused}
-use Rattle.live_session.specs.Jobs.{Given}
+use Rattle.live_session.specs.Jobs.{JobSetting}
 use Rattle.live_session.specs.Links.{AreLinksLoaded, IsBatchInHand, IsSentInto, LinkLoads}
-use Rattle.live_session.specs.Outcome.{IsFailedAddition, IsJobsOutcome, JobsOutcome, counts_of, told_of}
+use Rattle.live_session.specs.declared.reported.ReportedRefusal.{ReportedRefusal}
+use Rattle.live_session.specs.Outcome.{IsFailedAddition, IsJobsOutcome, JobsOutcome, counts_of, reported_of, reported_of_link}
 use Rattle.command_words.specs.Job.{LoadWords}
-use Rattle.load_command.specs.Loading.{IsGiven, IsRouteAnswer, dump_of, dumps_of}
-use Rattle.command_laws.specs.Links.{AreNewOfBatch, AreReceived, AreThere, CameWhole, ComesBy, HasAsks, HasKeyIn, HasRouteText, HaveCome, IsGrown, IsLinkOf, IsReceived, IsWholeIn, ReceivedDump, arrivals_of, arrived_of, idle_of, packets_of, rows_of_link}
-use Rattle.command_laws.specs.NamedFiles.{HasFile}
-use Rattle.command_laws.proofs.Files.{one_content}
-use Rattle.command_laws.proofs.Firsts.{arrivals_there, kept_batch, none_fresh, put_among}
+use Rattle.load_command.specs.Loading.{IsRouteAnswer, IsSettingOf, dump_of, dumps_of}
+use Rattle.command_laws.specs.Links.{AreNewOfBatch, AreReceived, AreThere, CameWhole, ComesBy, HasAsks, HasKeyIn, HasRouteText, HaveCome, IsGrown, IsLinkOf, IsReceived, IsReceivedWhole, IsWholeIn, ReceivedDump, arrivals_of, arrived_of, idle_of, packets_of, rows_of_link}
+use Rattle.command_laws.proofs.Firsts.{arrivals_there, put_among}
 
 -- ---- names and their places
 
@@ -79,13 +80,17 @@ comes_of words link name comes =
     let within = place_within words.dumps comes.place name comes.name_is in
     let number = comes.number in (omega (arith, number), omega (arith, number, within))
 
+pub some_front : (o : Option (List ℕ)) (read : List ℕ) → IsSome o → IsReadOf o read → IsSomeAnd o (IsPrefix read)
+some_front None read some of = absurd (cc (some))
+some_front (Some octets) read some of = of
+
 pub some_left : (o : Option (List ℕ)) (dump : List ℕ) → IsSome o → IfSome o (λ octets. octets ≡ dump) → o ≡ Some dump
 some_left None dump some is = absurd (cc (some))
 some_left (Some octets) dump some is = ap Some is
 
 -- ---- what came of one link
 
-loads_at : (files : Files) (exponent : ℕ) (failed : Option Addition) (low history : List Item) (g : Given) (first : ℕ) (names : List (List ℕ)) (ends : List LinkEnd)
+loads_at : (files : Files) (exponent : ℕ) (failed : Option Addition) (low history : List Item) (g : JobSetting) (first : ℕ) (names : List (List ℕ)) (ends : List LinkEnd)
     → AreLinksLoaded exponent failed low history g first (dumps_of (Some files) names) ends → (place link : ℕ) (name : List ℕ) → link ≡ first + place → slice_get names place ≡ Some name
     → (end : LinkEnd) × LinkLoads exponent failed history (receiving g.head low g.route link g.moment) (get files name) end
 loads_at files exponent failed low history g first [] ends loaded place link name number is = absurd (cc (is))
@@ -99,6 +104,16 @@ loads_at files exponent failed low history g first (other ∷ names) (end ∷ en
     )
 loads_at files exponent failed low history g first (other ∷ names) (end ∷ ends) loaded (suc place) link name number is =
     loads_at files exponent failed low history g (suc first) names ends loaded.1 place link name (omega (arith, number)) is
+
+-- where the first link was refused by a fault of the disk, that is reported
+reported_of_fault : (link : ℕ) (ends : List LinkEnd) (others : List (Option Refusal)) (t : ReportedRefusal) (end : LinkEnd) → slice_get ends 0 ≡ Some end → refusal_of_end end ≡ Some DiskFault
+    → reported_of link ends others ≡ Some t → t.refusal ≡ DiskFault
+reported_of_fault link [] others t end first faulted is = absurd (cc (first))
+reported_of_fault link (x ∷ ends) others t end first faulted is =
+    let same : x ≡ end = cc (first) in
+    let known : reported_of_link link x (Some DiskFault) (reported_of (suc link) ends others) ≡ Some t =
+    subst (λ (o : Option Refusal). reported_of_link link x o (reported_of (suc link) ends others) ≡ Some t) (ap refusal_of_end same ∙ faulted) is in
+    subst (λ (o : Option ReportedRefusal). IfSome o (λ (r : ReportedRefusal). r.refusal ≡ DiskFault)) known refl
 
 -- ---- rows of one link alone
 
@@ -125,8 +140,8 @@ pub record CameToJobs (files : Files) (clock : Option ℤ) (words : LoadWords) (
   pub routed : IsRouteAnswer before.plain text (Ok route)
   pub sheet : HasAsks files words.asks (Ok asks)
   pub there : AreThere files words.dumps
-  pub g : Given
-  pub given : IsGiven before.plain clock route asks g
+  pub g : JobSetting
+  pub given : IsSettingOf before.plain clock route asks g
   pub outcome : IsJobsOutcome Where before.plain.exponent before.plain.history g words.link (dumps_of (Some files) words.dumps) c
 
 module _ (files : Files) (clock : Option ℤ) (words : LoadWords) (before : FilledArchive) (Where : Type 0 → Type 0) (asks : List Ask) (c : JobsOutcome) (came : CameToJobs files clock words before Where asks c) where
@@ -147,12 +162,12 @@ module _ (files : Files) (clock : Option ℤ) (words : LoadWords) (before : Fill
   dump_there link name comes = there_at files words.dumps came.there comes.place name comes.name_is
 
   -- a dump of this content is received
-  abbrev pub receives : (link : ℕ) (name : List ℕ) → ComesBy words link name → (dump : List ℕ) → get files name ≡ Some dump → length dump ≤ limit_of DumpOctets → (packets : List (List ℕ)) (rest : List ℕ) → IsDump dump packets rest
+  abbrev pub receives : (link : ℕ) (name : List ℕ) → ComesBy words link name → (read : List ℕ) → IsReadOf (get files name) read → length read ≤ limit_of DumpOctets → (packets : List (List ℕ)) (rest : List ℕ) → IsDump read packets rest
       → IsReceived files moment words before link (record { by = to link; packets = packets; rest = rest })
-  receives link name comes dump is short packets rest parts = record {
+  receives link name comes read of short packets rest parts = record {
     name = name;
     comes = comes;
-    has = record { dump = dump; file = record { there = is; short = short }; parts = parts };
+    has = record { read = read; front = some_front (get files name) read (dump_there link name comes) of; short = short; parts = parts };
     text = came.text;
     named = came.named;
     route = came.route;
@@ -162,14 +177,14 @@ module _ (files : Files) (clock : Option ℤ) (words : LoadWords) (before : Fill
 
   -- what became of a link's dump that was sent
   module _ (link : ℕ) (name : List ℕ) (comes : ComesBy words link name) (put : List Row) (end : LinkEnd) (sent : IsSentInto before.plain.exponent c.failed c.reached (to link) (get files name) put end) where
-    pub sent_file : get files name ≡ Some sent.dump
-    sent_file = some_left (get files name) sent.dump (dump_there link name comes) sent.whole
+    pub sent_of : IsReadOf (get files name) sent.read
+    sent_of = read_of_end (get files name) sent.read end sent.read_to
 
     abbrev pub sent_dump : ReceivedDump
     sent_dump = record { by = to link; packets = sent.came_to.packets; rest = sent.came_to.rest }
 
     abbrev pub sent_received : IsReceived files moment words before link sent_dump
-    sent_received = receives link name comes sent.dump sent_file sent.short sent.came_to.packets sent.came_to.rest sent.parts
+    sent_received = receives link name comes sent.read sent_of sent.short sent.came_to.packets sent.came_to.rest sent.parts
 
     -- all of its packets were sent
     module _ (all : sent.came_to.place ≡ length sent.came_to.packets) where
@@ -187,7 +202,7 @@ module _ (files : Files) (clock : Option ℤ) (words : LoadWords) (before : Fill
 
   -- it came whole, and is counted so
   record CameDump (link : ℕ) (summary : DumpSummary) (d : ReceivedDump) : Type 0 where
-    received : IsReceived files moment words before link d
+    received : IsReceivedWhole files moment words before link d
     whole : IsWholeIn c.reached d
     alone : (more : List Row) → c.reached ≡ low ++ items_of more → AllByRecursion (λ row. row.link ≡ link) more → c.reached ≡ after_rows low (arrivals_of d)
     packets_are : summary.packets ≡ length d.packets
@@ -195,15 +210,19 @@ module _ (files : Files) (clock : Option ℤ) (words : LoadWords) (before : Fill
     arrived_are : summary.routed ≡ length (arrivals_of d)
 
   came_dump : (link : ℕ) (name : List ℕ) → ComesBy words link name → (summary : DumpSummary) → Loads link name (Whole summary) → (d : ReceivedDump) × CameDump link summary d
-  came_dump link name comes summary loads = go loads.dump
+  came_dump link name comes summary loads = go loads.sent
     where
-      go : IsSentInto before.plain.exponent c.failed c.reached (to link) (get files name) loads.put (Whole summary) ⊎ (⊥ × (loads.put ≡ [])) → (d : ReceivedDump) × CameDump link summary d
-      go (inl sent) =
+      go : IsSentInto before.plain.exponent c.failed c.reached (to link) (get files name) loads.put (Whole summary) → (d : ReceivedDump) × CameDump link summary d
+      go sent =
+          let file = some_left (get files name) sent.read (dump_there link name comes) sent.read_to in
           let counted = sent.sent_to.2 in
           let idle = counted.of_idle in (
             sent_dump link name comes loads.put (Whole summary) sent,
             record {
-              received = sent_received link name comes loads.put (Whole summary) sent;
+              received = (
+                sent_received link name comes loads.put (Whole summary) sent,
+                record { dump = sent.read; file = record { there = file; short = sent.short }; parts = sent.parts },
+              );
               whole = (sent.sent_to.1, sent_there link name comes loads.put (Whole summary) sent sent.sent_to.0);
               alone = sent_alone link name comes loads.put (Whole summary) sent sent.sent_to.0;
               packets_are = counted.of_packets;
@@ -211,7 +230,6 @@ module _ (files : Files) (clock : Option ℤ) (words : LoadWords) (before : Fill
               arrived_are = counted.of_routed;
             },
           )
-      go (inr reading) = absurd reading.0
 
   pub came_whole : (link : ℕ) (name : List ℕ) → ComesBy words link name → (summary : DumpSummary) → Loads link name (Whole summary) → CameWhole files moment words before c.reached link
   came_whole link name comes summary loads = let d = came_dump link name comes summary loads in (d.0, d.1.received, d.1.whole)
@@ -248,14 +266,14 @@ module _ (files : Files) (clock : Option ℤ) (words : LoadWords) (before : Fill
   abbrev pub AreLoaded : ℕ → List (List ℕ) → List LinkEnd → Type 0
   AreLoaded link names ends = AreLinksLoaded before.plain.exponent c.failed low c.reached came.g link (dumps_of (Some files) names) ends
 
-  whole_from : (link : ℕ) (names : List (List ℕ)) (ends : List LinkEnd) → AreNamesFrom link names → AreLoaded link names ends → told_of link ends c.others ≡ None → AreWholeFrom link ends
-  whole_from link [] [] are loaded told = let last = are.last in
+  whole_from : (link : ℕ) (names : List (List ℕ)) (ends : List LinkEnd) → AreNamesFrom link names → AreLoaded link names ends → reported_of link ends c.others ≡ None → AreWholeFrom link ends
+  whole_from link [] [] are loaded reported = let last = are.last in
       record { dumps = []; received = omega (arith, last); whole = tt; alone = λ d is. absurd (cc (is)); packets_are = refl; idle = refl; arrived_are = refl }
-  whole_from link [] (end ∷ ends) are loaded told = absurd loaded
-  whole_from link (name ∷ names) [] are loaded told = absurd loaded
-  whole_from link (name ∷ names) (Whole summary ∷ ends) are loaded told =
+  whole_from link [] (end ∷ ends) are loaded reported = absurd loaded
+  whole_from link (name ∷ names) [] are loaded reported = absurd loaded
+  whole_from link (name ∷ names) (Whole summary ∷ ends) are loaded reported =
       let d = came_dump link name (first_name link name names are) summary loaded.0 in
-      let rest = whole_from (suc link) names ends (later_names link name names are) loaded.1 told in
+      let rest = whole_from (suc link) names ends (later_names link name names are) loaded.1 reported in
       let packets_first = d.1.packets_are in
       let packets_rest = rest.packets_are in
       let packets_all = sum_by-cons (λ (x : ReceivedDump). length x.packets) d.0 rest.dumps in
@@ -274,14 +292,15 @@ module _ (files : Files) (clock : Option ℤ) (words : LoadWords) (before : Fill
         idle = omega (arith, idle_first, idle_rest, idle_all);
         arrived_are = omega (arith, arrived_first, arrived_rest, arrived_all);
       }
-  whole_from link (name ∷ names) (Rest place kind ∷ ends) are loaded told = absurd (cc (told))
-  whole_from link (name ∷ names) (Unread ∷ ends) are loaded told = absurd (cc (told))
-  whole_from link (name ∷ names) (TooLong ∷ ends) are loaded told = absurd (cc (told))
-  whole_from link (name ∷ names) (Refused refusal ∷ ends) are loaded told = absurd (cc (told))
+  whole_from link (name ∷ names) (Rest place kind ∷ ends) are loaded reported = absurd (cc (reported))
+  whole_from link (name ∷ names) (Unread None ∷ ends) are loaded reported = absurd (cc (reported))
+  whole_from link (name ∷ names) (Unread (Some refusal) ∷ ends) are loaded reported = absurd (cc (reported))
+  whole_from link (name ∷ names) (TooLong ∷ ends) are loaded reported = absurd (cc (reported))
+  whole_from link (name ∷ names) (Refused refusal ∷ ends) are loaded reported = absurd (cc (reported))
 
-  -- so all are, where nothing was told of a job
-  pub all_whole : told_of words.link c.ends c.others ≡ None → AreWholeFrom words.link c.ends
-  all_whole told = whole_from words.link words.dumps c.ends all_names came.outcome.links told
+  -- so all are, where nothing was reported of a job
+  pub all_whole : reported_of words.link c.ends c.others ≡ None → AreWholeFrom words.link c.ends
+  all_whole reported = whole_from words.link words.dumps c.ends all_names came.outcome.links reported
 
   -- ---- the history
 
@@ -318,7 +337,7 @@ module _ (files : Files) (clock : Option ℤ) (words : LoadWords) (before : Fill
       sym (ap (λ (l : List Row). rows_of_link link l) (ap rows_in come_behind ∙ rows_of_rows came.outcome.more)) ∙ loads.own
 
   come_by : (link : ℕ) → IsLinkOf words link → HaveCome files moment words before link (rows_of_link link came.outcome.more)
-  come_by link own = go loads.1.dump
+  come_by link own = go loads.1.sent
     where
       found : (name : List ℕ) × ComesBy words link name
       found = link_dump link own
@@ -329,9 +348,8 @@ module _ (files : Files) (clock : Option ℤ) (words : LoadWords) (before : Fill
       same : rows_of_link link came.outcome.more ≡ loads.1.put
       same = own_rows link found.0 loads.0 loads.1
 
-      go : IsSentInto before.plain.exponent c.failed c.reached (to link) (get files found.0) loads.1.put loads.0 ⊎ (IsReadingEnd (get files found.0) loads.0 × (loads.1.put ≡ []))
-          → HaveCome files moment words before link (rows_of_link link came.outcome.more)
-      go (inl sent) =
+      go : IsSentInto before.plain.exponent c.failed c.reached (to link) (get files found.0) loads.1.put loads.0 → HaveCome files moment words before link (rows_of_link link came.outcome.more)
+      go sent =
           let s = sent.came_to in
           let among = put_among (to link) loads.1.put (take s.place s.packets) (drop s.place s.packets) sent.sent.some in
           inr (
@@ -340,7 +358,6 @@ module _ (files : Files) (clock : Option ℤ) (words : LoadWords) (before : Fill
             subst (λ (l : List Row). Sublist l (firsts (rows_received (to link) s.packets))) (sym same)
                 (subst (λ (ps : List (List ℕ)). Sublist loads.1.put (firsts (rows_received (to link) ps))) (take-append-drop s.place s.packets) among),
           )
-      go (inr unread) = inl (same ∙ unread.1)
 
   pub grown : IsGrown files moment words before c.reached
   grown = record {
@@ -355,56 +372,29 @@ module _ (files : Files) (clock : Option ℤ) (words : LoadWords) (before : Fill
 
   -- the rows that it was to add are those of a batch
   pub in_hand : (rows : List Row) → c.failed ≡ Some (Rows rows) → AreNewOfBatch files moment words before c.reached rows
-  in_hand rows failed = go (subst (λ (o : Option Addition). IfSome o (IsFailedAddition low c.reached came.g words.link (dumps_of (Some files) words.dumps))) failed came.outcome.failed)
+  in_hand rows failed = go (subst (λ (o : Option Addition). IfSome o (IsFailedAddition low c.reached came.g words.link (dumps_of (Some files) words.dumps) c.ends)) failed came.outcome.failed)
     where
-      go : IsBatchInHand low c.reached came.g words.link (dumps_of (Some files) words.dumps) rows → AreNewOfBatch files moment words before c.reached rows
+      go : IsBatchInHand low c.reached came.g words.link (dumps_of (Some files) words.dumps) c.ends rows → AreNewOfBatch files moment words before c.reached rows
       go batch =
           let s = batch.came_to in
           let link = words.link + batch.place in
           let found = left_name files words.dumps batch.place batch.left batch.of_link in
           let comes : ComesBy words link found.0 = record { place = batch.place; number = refl; name_is = found.1 } in
-          let file = some_left (get files found.0) batch.dump (dump_there link found.0 comes) (subst (λ (o : Option (List ℕ)). IfSome o (λ octets. octets ≡ batch.dump)) found.2 batch.whole) in record {
+          let of = subst (λ (o : Option (List ℕ)). IsReadOf o batch.read) found.2 batch.read_of in record {
             link = link;
             d = record { by = to link; packets = s.packets; rest = s.rest };
-            received = receives link found.0 comes batch.dump file batch.short s.packets s.rest batch.parts;
+            received = receives link found.0 comes batch.read of batch.short s.packets s.rest batch.parts;
             place = s.place;
             rows_are = batch.rows_are ∙ ap (λ (h : List Item). fresh_of h (rows_received (to link) (batch_at s.place s.packets))) batch.reached_is;
           }
 
-  -- where there is one dump the batch is of that
-  hand_of_one : length words.dumps ≡ 1 → (link : ℕ) (name : List ℕ) → ComesBy words link name → (rows : List Row) → c.failed ≡ Some (Rows rows)
-      → (batch : IsBatchInHand low c.reached came.g words.link (dumps_of (Some files) words.dumps) rows) × (words.link + batch.place ≡ link) × (get files name ≡ Some batch.dump)
-  hand_of_one one link name comes rows failed = go (subst (λ (o : Option Addition). IfSome o (IsFailedAddition low c.reached came.g words.link (dumps_of (Some files) words.dumps))) failed came.outcome.failed)
+  -- where there is one dump, its link was refused by that fault, which is reported
+  pub fault_of_one : length words.dumps ≡ 1 → (rows : List Row) → c.failed ≡ Some (Rows rows) → (t : ReportedRefusal) → reported_of words.link c.ends c.others ≡ Some t → t.refusal ≡ DiskFault
+  fault_of_one one rows failed t is = go (subst (λ (o : Option Addition). IfSome o (IsFailedAddition low c.reached came.g words.link (dumps_of (Some files) words.dumps) c.ends)) failed came.outcome.failed)
     where
-      go : IsBatchInHand low c.reached came.g words.link (dumps_of (Some files) words.dumps) rows
-          → (batch : IsBatchInHand low c.reached came.g words.link (dumps_of (Some files) words.dumps) rows) × (words.link + batch.place ≡ link) × (get files name ≡ Some batch.dump)
+      go : IsBatchInHand low c.reached came.g words.link (dumps_of (Some files) words.dumps) c.ends rows → t.refusal ≡ DiskFault
       go batch =
           let found = left_name files words.dumps batch.place batch.left batch.of_link in
           let within = place_within words.dumps batch.place found.0 found.1 in
-          let other = place_within words.dumps comes.place name comes.name_is in
-          let number = comes.number in
-          let same : words.link + batch.place ≡ link = omega (arith, one, within, other, number) in
-          let own : ComesBy words link found.0 = record { place = batch.place; number = sym same; name_is = found.1 } in
-          let names = comes_once words link found.0 name own comes in
-          let file = some_left (get files found.0) batch.dump (dump_there link found.0 own) (subst (λ (o : Option (List ℕ)). IfSome o (λ octets. octets ≡ batch.dump)) found.2 batch.whole) in
-          (batch, same, subst (λ (n : List ℕ). get files n ≡ Some batch.dump) names file)
-
-  -- and has no new rows where all packets of it came,
-  pub none_in_hand : length words.dumps ≡ 1 → (link : ℕ) (name : List ℕ) → ComesBy words link name → (put : List Row) (end : LinkEnd) (sent : IsSentInto before.plain.exponent c.failed c.reached (to link) (get files name) put end)
-      → sent.came_to.place ≡ length sent.came_to.packets → (rows : List Row) → c.failed ≡ Some (Rows rows) → rows ≡ []
-  none_in_hand one link name comes put end sent all rows failed =
-      let hand = hand_of_one one link name comes rows failed in
-      let batch = hand.0 in
-      let s = sent.came_to in
-      let dump = one_content (get files name) batch.dump sent.dump hand.2 (sent_file link name comes put end sent) in
-      let packets = (dump_is_one batch.dump batch.came_to.packets s.packets batch.came_to.rest s.rest batch.parts (subst (λ (d : List ℕ). IsDump d s.packets s.rest) (sym dump) sent.parts)).0 in
-      let kept = subst (λ (ps : List (List ℕ)). AreKept c.reached (rows_received (to link) ps)) (take_all s.place s.packets (omega (arith, all))) sent.sent.kept in
-      batch.rows_are ∙ ap (λ (h : List Item). fresh_of h (rows_received (to (words.link + batch.place)) (batch_at batch.came_to.place batch.came_to.packets))) batch.reached_is
-      ∙ ap (λ (n : ℕ). fresh_of c.reached (rows_received (to n) (batch_at batch.came_to.place batch.came_to.packets))) hand.1
-      ∙ ap (λ (ps : List (List ℕ)). fresh_of c.reached (rows_received (to link) (batch_at batch.came_to.place ps))) packets
-      ∙ none_fresh c.reached (rows_received (to link) (batch_at batch.came_to.place s.packets)) (kept_batch (to link) c.reached batch.came_to.place s.packets kept)
-
-  -- or is of a dump within the limit
-  pub short_in_hand : length words.dumps ≡ 1 → (link : ℕ) (name : List ℕ) → ComesBy words link name → (rows : List Row) → c.failed ≡ Some (Rows rows) → (dump : List ℕ) × HasFile files DumpOctets name dump
-  short_in_hand one link name comes rows failed =
-      let hand = hand_of_one one link name comes rows failed in (hand.0.dump, record { there = hand.2; short = hand.0.short })
+          let at_first : batch.place ≡ 0 = omega (arith, one, within) in
+          reported_of_fault words.link c.ends c.others t batch.end (subst (λ (n : ℕ). slice_get c.ends n ≡ Some batch.end) at_first batch.ended) batch.end_is is

@@ -12,6 +12,8 @@ pub mod LoadDue
 pub mod LoadOnly
 pub mod LoadTexts
 pub mod Loaded
+pub mod Made
+pub mod MadeDumps
 pub mod OnTheWay
 pub mod OnlyUnread
 pub mod OverRows
@@ -21,7 +23,7 @@ pub mod Recovered
 pub mod Runs
 pub mod Scanned
 pub mod Selected
-pub mod Told
+pub mod Reported
 pub mod Valued
 pub mod Verified
 pub mod Ways

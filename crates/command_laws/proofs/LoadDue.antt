@@ -15,8 +15,8 @@ use Rattle.history_items.specs.declared.fills.Addition.{Addition}
 use Rattle.archive_store.specs.Entries.{FilledArchive}
 use Rattle.archive_store.specs.Stands.{StandsFilled}
 use Rattle.stream_graph.specs.declared.statement.RouteStatement.{RouteStatement}
-use Rattle.live_session.specs.declared.told.Told.{Told}
-use Rattle.live_session.specs.Outcome.{JobsOutcome, told_of}
+use Rattle.live_session.specs.declared.reported.ReportedRefusal.{ReportedRefusal}
+use Rattle.live_session.specs.Outcome.{JobsOutcome, reported_of}
 use Rattle.command_plans.specs.Ledger.{Counted}
 use Rattle.command_plans.specs.Plan.{CommandPlan, FailedCalls, May, OfInputs, OfOutput, Requires, Stop, Stopped, Way, map_done, refusal_at}
 use Rattle.command_plans.specs.Sources.{opening_all_plan}
@@ -33,13 +33,13 @@ use Rattle.command_laws.specs.Calls.{Call, IsInterruption, IsNoArchive, IsRefuse
 use Rattle.command_laws.specs.Links.{AreThere, HasAsks, HasRouteText, IsFirstMissing, load_files}
 use Rattle.command_laws.specs.Load.{IsAsked, IsBegun, IsLoadRefusal, WasHindered, WasOverLimit}
 use Rattle.command_laws.specs.NamedFiles.{IsFirstUnread, named_file}
-use Rattle.command_laws.proofs.FirstRefused.{first_told}
-use Rattle.command_laws.proofs.JobsEnds.{filled_end, is_reached, near_passed, no_fewer, written_end}
+use Rattle.command_laws.proofs.FirstRefused.{first_reported}
+use Rattle.command_laws.proofs.JobsEnds.{filled_end, is_reached, kept_stands, near_passed, no_fewer, written_end}
 use Rattle.command_laws.proofs.JobsLoaded.{CameToJobs, moment}
 use Rattle.command_laws.proofs.OnTheWay.{extended_disk}
 use Rattle.command_laws.proofs.Readings.{first_missing_due, opened_due, read_due, unread_due}
-use Rattle.command_laws.proofs.Runs.{IsEndOf, cut_off, disk_call, no_archive_due, no_memory, refused, told, unwritten_call}
-use Rattle.command_laws.proofs.Told.{IsCut, IsToldCause, IsToldEnd, cause_of}
+use Rattle.command_laws.proofs.Runs.{IsEndOf, cut_off, disk_call, no_archive_due, no_memory, refused, reported, unwritten_call}
+use Rattle.command_laws.proofs.Reported.{IsCut, IsReportedCause, IsReportedEnd, cause_of}
 use Rattle.command_laws.proofs.Ways.{due_alone, due_twice, due_under}
 
 -- the same is done, but for how many sources were given
@@ -48,12 +48,12 @@ pub record KeepsDone {D : Type 0} (device : Device D) (e : Call D) (f : Progress
   pub failed : (s : Progress) → (f s).failed ≡ s.failed
   pub ended : (s : Progress) (refusal : Option Refusal) → EndedAt device (effects e) (f s) refusal (f s).failed → EndedAt device (effects e) s refusal s.failed
 
--- What jobs came to: nothing is told of them, and the load succeeded, or was hindered; or something is, and why.
-abbrev pub AreToldSo : {D : Type 0} (device : Device D) (e : Call D) (files : Files) (clock : Option ℤ) (words : LoadWords) (before : FilledArchive) (asks : List Ask) (c : JobsOutcome)
+-- What jobs came to: nothing is reported of them, and the load succeeded, or was hindered; or something is, and why.
+abbrev pub AreReportedSo : {D : Type 0} (device : Device D) (e : Call D) (files : Files) (clock : Option ℤ) (words : LoadWords) (before : FilledArchive) (asks : List Ask) (c : JobsOutcome)
     → CameToJobs files clock words before (WhereSoundOn device e.disk) asks c → Type 0
-AreToldSo device e files clock words before asks c came =
-    ((told_of words.link c.ends c.others ≡ None) × (Succeeded e ⊎ WasHindered device e files clock words before))
-    ⊎ ((t : Told) × (e.report.refusal ≡ Some t.refusal) × IsToldCause files clock words before (WhereSoundOn device e.disk) asks c came device e t
+AreReportedSo device e files clock words before asks c came =
+    ((reported_of words.link c.ends c.others ≡ None) × (Succeeded e ⊎ WasHindered device e files clock words before))
+    ⊎ ((t : ReportedRefusal) × (e.report.refusal ≡ Some t.refusal) × IsReportedCause files clock words before (WhereSoundOn device e.disk) asks c came device e t
     × (IsCut files clock words before (WhereSoundOn device e.disk) asks c came device e t.refusal → WasInterrupted device e))
 
 module _ {D : Type 0} (device : Device D) (e : Call D) (files : Files) (clock : Option ℤ) (words : LoadWords) (way : Way Progress ⊥) (at : IsEndOf device e way) where
@@ -236,7 +236,7 @@ module _ {D : Type 0} (device : Device D) (e : Call D) (files : Files) (clock : 
     Came c = CameToJobs files clock words before Where ready.asks c
 
     abbrev IsSo : (c : JobsOutcome) → Came c → Type 0
-    IsSo c came = AreToldSo device e files clock words before ready.asks c came
+    IsSo c came = AreReportedSo device e files clock words before ready.asks c came
 
     module _ (known : IsTrue device.is_transparent) (f : Progress → Progress) (keeps : KeepsDone device e f) (c : JobsOutcome) (came : Came c) where
       abbrev now : ℤ
@@ -252,14 +252,14 @@ module _ {D : Type 0} (device : Device D) (e : Call D) (files : Files) (clock : 
       did_at : (s : Progress) (refusal : Option Refusal) → way ≡ Stopped (f s) refusal → EndedAt device (effects e) s refusal s.failed
       did_at s refusal is = keeps.ended s refusal (subst (HasEffects device (effects e)) is at.did)
 
-      -- ---- nothing is told of a job
+      -- ---- nothing is reported of a job
 
       printing_due : (a : List Ask) (t u : Progress) → Requires (map_done f (answering_asks_plan a t (May OfOutput t (Stop u None)))) way → Hindered
       printing_due [] t u (inl cut) = cut_due (unwritten_call e way at (f t) cut)
-      printing_due [] t u (inr is) = inl (told e way at ∙ ap refusal_at is)
+      printing_due [] t u (inr is) = inl (reported e way at ∙ ap refusal_at is)
       printing_due (ask ∷ more) t u (inl cut) = cut_due (no_memory e way at (f t) cut)
       printing_due (ask ∷ more) t u (inr (inl cut)) = cut_due (unwritten_call e way at (f t) cut)
-      printing_due (ask ∷ more) t u (inr (inr is)) = inl (told e way at ∙ ap refusal_at is)
+      printing_due (ask ∷ more) t u (inr (inr is)) = inl (reported e way at ∙ ap refusal_at is)
 
       full_log : EndedAt device (effects e) (record (history_extended dumps before None c) { log = Some 0 }) (Some (Limit Records (limit_of Records))) (record (history_extended dumps before None c) { log = Some 0 }).failed
           → WasOverLimit device e files clock words before
@@ -269,10 +269,11 @@ module _ {D : Type 0} (device : Device D) (e : Call D) (files : Files) (clock : 
             moment = now;
             known = came.given.moment;
             reached = c.reached;
-            holds = is_reached files clock words before Where ready.asks c came device e known disk (ap (λ (r : Report). r.after) did.report);
+            holds = is_reached files clock words before Where ready.asks c came device e known disk (ap (λ (r : Report). r.after) did.report)
+                (λ one. kept_stands files clock words before Where ready.asks c came device e known (did.disk.1 known));
             which = Records;
             limit = ap (λ (r : Report). r.refusal) did.report;
-            passed = inr (refl, near_passed files clock words before Where ready.asks c came device e known false 0 refl (omega (arith, fewer)) did.log);
+            passed = inr (refl, near_passed files clock words before Where ready.asks c came device e known 0 (omega (arith, fewer)) did.log);
           }
 
       filled_due : (full : Bool) → Requires (map_done f (after_filling (history_extended dumps before None c) (load_printing_plan dumps before ready.asks c) full)) way → Hindered
@@ -288,9 +289,9 @@ module _ {D : Type 0} (device : Device D) (e : Call D) (files : Files) (clock : 
 
       -- ---- something is
 
-      cut_told : (t : Told) (s : Progress) → way ≡ Stopped (f s) (Some t.refusal) → s.failed OfInputs ≡ list_any is_unread c.ends → e.report.refusal ≡ Some t.refusal
+      cut_reported : (t : ReportedRefusal) (s : Progress) → way ≡ Stopped (f s) (Some t.refusal) → s.failed OfInputs ≡ list_any is_unread c.ends → e.report.refusal ≡ Some t.refusal
           → IsCut files clock words before Where ready.asks c came device e t.refusal → WasInterrupted device e
-      cut_told t s is reads said cut = cut_off device e t.refusal said (go t.refusal cut)
+      cut_reported t s is reads said cut = cut_off device e t.refusal said (go t.refusal cut)
         where
           read : list_any is_unread c.ends ≡ true → IsInterruption device e ReadFault
           read any =
@@ -303,16 +304,16 @@ module _ {D : Type 0} (device : Device D) (e : Call D) (files : Files) (clock : 
           go DiskFault cut = cut
           go other cut = absurd cut
 
-      job_due : (t : Told) (s : Progress) → told_of words.link c.ends c.others ≡ Some t → way ≡ Stopped (f s) (Some t.refusal) → s.failed OfInputs ≡ list_any is_unread c.ends
-          → IsToldEnd files clock words before Where ready.asks c came device e t → IsSo c came
+      job_due : (t : ReportedRefusal) (s : Progress) → reported_of words.link c.ends c.others ≡ Some t → way ≡ Stopped (f s) (Some t.refusal) → s.failed OfInputs ≡ list_any is_unread c.ends
+          → IsReportedEnd files clock words before Where ready.asks c came device e t → IsSo c came
       job_due t s is stopped reads end = inr (
         t,
         end.refusal,
-        cause_of files clock words before Where ready.asks c came device e t end (first_told files clock words before Where ready.asks c came t is),
-        cut_told t s stopped reads end.refusal,
+        cause_of files clock words before Where ready.asks c came device e t end is (first_reported files clock words before Where ready.asks c came t is),
+        cut_reported t s stopped reads end.refusal,
       )
 
-      behind_due : (t : Told) → told_of words.link c.ends c.others ≡ Some t → c.failed ≡ None → (end : Option Refusal) → way ≡ Stopped (f (filled_to before c.reached (job_refused dumps before c t) end)) (Some t.refusal) → IsSo c came
+      behind_due : (t : ReportedRefusal) → reported_of words.link c.ends c.others ≡ Some t → c.failed ≡ None → (end : Option Refusal) → way ≡ Stopped (f (filled_to before c.reached (job_refused dumps before c t) end)) (Some t.refusal) → IsSo c came
       behind_due t is none end stopped =
           let s = filled_to before c.reached (job_refused dumps before c t) end in
           job_due t s is stopped (reads end) (filled_end files clock words before Where ready.asks c came device e known dumps t none end (did_at s (Some t.refusal) stopped)).1
@@ -322,7 +323,7 @@ module _ {D : Type 0} (device : Device D) (e : Call D) (files : Files) (clock : 
           reads (Some DiskFault) = refl
           reads (Some other) = refl
 
-      jobs_due : (said : Option Told) → told_of words.link c.ends c.others ≡ said → (failed : Option Addition) → c.failed ≡ failed → Requires (map_done f (after_jobs dumps before ready.asks c said failed)) way → IsSo c came
+      jobs_due : (said : Option ReportedRefusal) → reported_of words.link c.ends c.others ≡ said → (failed : Option Addition) → c.failed ≡ failed → Requires (map_done f (after_jobs dumps before ready.asks c said failed)) way → IsSo c came
       jobs_due None is failed has d = inl (is, unrefused_due failed d)
       jobs_due (Some t) is None has d = behind_due t is has d.0 d.2
       jobs_due (Some t) is (Some addition) has stopped =
@@ -350,4 +351,4 @@ module _ {D : Type 0} (device : Device D) (e : Call D) (files : Files) (clock : 
               given = d.1;
               outcome = d.2.1;
             } in
-            (c, (came, jobs_due known f keeps c came (told_of words.link c.ends c.others) refl c.failed refl d.2.2))
+            (c, (came, jobs_due known f keeps c came (reported_of words.link c.ends c.others) refl c.failed refl d.2.2))

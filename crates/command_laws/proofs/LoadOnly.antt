@@ -21,8 +21,8 @@ use Rattle.script_answers.specs.Scripts.{after_answer}
 use Rattle.script_answers.specs.Statements.{packet_names}
 use Rattle.ssql_types.specs.declared.place.ScriptPlace.TheVariants as ScriptPlace
 use Rattle.stream_graph.specs.declared.statement.RouteStatement.{RouteStatement}
-use Rattle.live_session.specs.declared.told.Told.{Told}
-use Rattle.live_session.specs.Outcome.{JobsOutcome, told_of}
+use Rattle.live_session.specs.declared.reported.ReportedRefusal.{ReportedRefusal}
+use Rattle.live_session.specs.Outcome.{JobsOutcome, reported_of}
 use Rattle.command_plans.specs.Plan.{CommandPlan, EachEnd, May, OfOutput, Stop, Way, and_then, is_interruption, map_done}
 use Rattle.command_plans.proofs.Plans.{each_end, end_of}
 use Rattle.command_words.specs.Job.{Load, LoadWords}
@@ -41,12 +41,12 @@ use Rattle.command_laws.specs.Load.{ArePassed, AreRecordsPassed, IsBroken, IsOve
 use Rattle.command_laws.specs.NamedFiles.{HasFile, IsFirstUnread, IsReadingRefusal, IsUnreadFor, named_file}
 use Rattle.command_laws.proofs.FileRefusals.{TellsOfOutside, no_asks, no_asks_sheet, no_interruption, no_script, reading_tells}
 use Rattle.command_laws.proofs.Files.{have_read}
-use Rattle.command_laws.proofs.FirstRefused.{first_told}
+use Rattle.command_laws.proofs.FirstRefused.{first_reported}
 use Rattle.command_laws.proofs.JobsEnds.{filled_end, written_end}
 use Rattle.command_laws.proofs.JobsLoaded.{AreNamesFrom, CameToJobs, all_names, comes_once, first_name, later_names}
 use Rattle.command_laws.proofs.Readings.{IsUnread, IsUnreadCause, each_behind, each_opened, each_read}
 use Rattle.command_laws.proofs.Runs.{by_job, none_or_some, same_refusal}
-use Rattle.command_laws.proofs.Told.{IsCut, IsToldEnd, cause_of}
+use Rattle.command_laws.proofs.Reported.{IsCut, IsReportedEnd, cause_of}
 
 -- ---- refusals of a load that tell nothing of the outside
 
@@ -83,28 +83,28 @@ no_rows row_limits.IntervalRows number tells = tells
 
 module _ {D : Type 0} (device : Device D) (e : Call D) (files : Files) (clock : Option ℤ) (words : LoadWords) where
   -- what it says of files, of a dump or of the disk is so
-  pub record IsOnlyTold : Type 0 where
+  pub record IsOnlyReported : Type 0 where
     pub unread : (refusal : Refusal) → e.report.refusal ≡ Some refusal → IsReadingRefusal refusal → IsLoadUnread files words refusal
     pub overlong : (number : ℕ) → e.report.refusal ≡ Some (Limit DumpOctets number) → HeldArchive device e (λ before. (link : ℕ) × IsOverlong device e files clock words before link)
     pub broken : (at : ℕ) (kind : BadKind) → e.report.refusal ≡ Some (BadPacket at kind) → HeldArchive device e (λ before. (link : ℕ) × IsBroken device e files clock words before link at kind)
-    pub pending : (faults : ℕ) → e.report.refusal ≡ Some (NeedsReopen faults) → IsCountedSince device e.disk e.disk' (Some faults)
+    pub pending : (faults : ℕ) → e.report.refusal ≡ Some (NeedsReopen faults) → (e.report.opened ≡ true) × IsCountedSince device e.disk e.disk' (Some faults)
 
   -- its refusal is another
-  told_other : (refusal : Refusal) → e.report.refusal ≡ Some refusal → (TellsOfOutside refusal → ⊥) → IsOnlyTold
-  told_other refusal is apart = record {
-    unread = λ told said reading. absurd (apart (reading_tells refusal (subst IsReadingRefusal (same_refusal e.report.refusal told refusal said is) reading)));
+  reported_other : (refusal : Refusal) → e.report.refusal ≡ Some refusal → (TellsOfOutside refusal → ⊥) → IsOnlyReported
+  reported_other refusal is apart = record {
+    unread = λ reported said reading. absurd (apart (reading_tells refusal (subst IsReadingRefusal (same_refusal e.report.refusal reported refusal said is) reading)));
     overlong = λ number said. absurd (apart (subst TellsOfOutside (same_refusal e.report.refusal (Limit DumpOctets number) refusal said is) tt));
     broken = λ at kind said. absurd (apart (subst TellsOfOutside (same_refusal e.report.refusal (BadPacket at kind) refusal said is) tt));
     pending = λ faults said. absurd (apart (subst TellsOfOutside (same_refusal e.report.refusal (NeedsReopen faults) refusal said is) tt));
   }
 
-  told_cut : (refusal : Refusal) → e.report.refusal ≡ Some refusal → is_interruption refusal ≡ true → IsOnlyTold
-  told_cut refusal is off = told_other refusal is (no_interruption refusal off)
+  reported_cut : (refusal : Refusal) → e.report.refusal ≡ Some refusal → is_interruption refusal ≡ true → IsOnlyReported
+  reported_cut refusal is off = reported_other refusal is (no_interruption refusal off)
 
   -- or there's none
-  told_none : e.report.refusal ≡ None → IsOnlyTold
-  told_none is = record {
-    unread = λ told said reading. none_or_some e.report.refusal told said is;
+  reported_none : e.report.refusal ≡ None → IsOnlyReported
+  reported_none is = record {
+    unread = λ reported said reading. none_or_some e.report.refusal reported said is;
     overlong = λ number said. none_or_some e.report.refusal (Limit DumpOctets number) said is;
     broken = λ at kind said. none_or_some e.report.refusal (BadPacket at kind) said is;
     pending = λ faults said. none_or_some e.report.refusal (NeedsReopen faults) said is;
@@ -117,9 +117,9 @@ module _ {D : Type 0} (device : Device D) (e : Call D) (files : Files) (clock : 
   IsNoDump (Limit ScriptOctets number) = Unit {0}
   IsNoDump other = ⊥
 
-  told_unread : (refusal : Refusal) → e.report.refusal ≡ Some refusal → IsNoDump refusal → IsLoadUnread files words refusal → IsOnlyTold
-  told_unread refusal is kind cause = record {
-    unread = λ told said reading. subst (IsLoadUnread files words) (same_refusal e.report.refusal refusal told is said) cause;
+  reported_unread : (refusal : Refusal) → e.report.refusal ≡ Some refusal → IsNoDump refusal → IsLoadUnread files words refusal → IsOnlyReported
+  reported_unread refusal is kind cause = record {
+    unread = λ reported said reading. subst (IsLoadUnread files words) (same_refusal e.report.refusal refusal reported is said) cause;
     overlong = λ number said. absurd (subst IsNoDump (same_refusal e.report.refusal refusal (Limit DumpOctets number) is said) kind);
     broken = λ at bad said. absurd (subst IsNoDump (same_refusal e.report.refusal refusal (BadPacket at bad) is said) kind);
     pending = λ faults said. absurd (subst IsNoDump (same_refusal e.report.refusal refusal (NeedsReopen faults) is said) kind);
@@ -132,16 +132,16 @@ module _ {D : Type 0} (device : Device D) (e : Call D) (files : Files) (clock : 
 
   -- the script or the sheet wasn't read
   unread_file : (which : Which) (name : List ℕ) → IsNoDump (Limit which (limit_of which)) → (refusal : Refusal) → IsUnread e refusal → (IsUnreadFor files which name refusal → IsFirstUnread files (load_files words) refusal)
-      → IsUnreadCause files which name refusal → IsOnlyTold
-  unread_file which name kind refusal is first (inl unread) = told_unread refusal (ap (λ (r : Report). r.refusal) is.report) (kind_of unread) (inl (first unread))
+      → IsUnreadCause files which name refusal → IsOnlyReported
+  unread_file which name kind refusal is first (inl unread) = reported_unread refusal (ap (λ (r : Report). r.refusal) is.report) (kind_of unread) (inl (first unread))
     where
       kind_of : IsUnreadFor files which name refusal → IsNoDump refusal
       kind_of (inl none) = subst IsNoDump (sym none.1) tt
       kind_of (inr long) = subst IsNoDump (sym long.1) kind
-  unread_file which name kind refusal is first (inr off) = told_cut refusal (ap (λ (r : Report). r.refusal) is.report) off
+  unread_file which name kind refusal is first (inr off) = reported_cut refusal (ap (λ (r : Report). r.refusal) is.report) off
 
   abbrev Leaves : Way Progress ⊥ → Type 0
-  Leaves way = HasEffects device (effects e) way → IsOnlyTold
+  Leaves way = HasEffects device (effects e) way → IsOnlyReported
 
   abbrev Where : Type 0 → Type 0
   Where = WhereSoundOn device e.disk
@@ -170,32 +170,32 @@ module _ {D : Type 0} (device : Device D) (e : Call D) (files : Files) (clock : 
 
       overlong_unread : (link : ℕ) → IsOverlong device e files clock words before link → IsLoadUnread files words (Limit DumpOctets (limit_of DumpOctets))
       overlong_unread link long =
-          let number = long.comes.number in inr (
+          let number = long.received.comes.number in inr (
             have_read files words came.text (Ok asks) came.named came.sheet,
             inr (
               came.there,
-              first_unread words.link words.dumps (all_names files clock words before Where asks c came) long.comes.place long.name long.comes.name_is
+              first_unread words.link words.dumps (all_names files clock words before Where asks c came) long.received.comes.place long.received.name long.received.comes.name_is
                   (λ other n comes low high.
-                  let whole = long.told.earlier other low (omega (arith, high, number)) in
-                  (whole.1.has.dump, subst (λ (m : List ℕ). HasFile files DumpOctets m whole.1.has.dump) (comes_once words other whole.1.name n whole.1.comes comes) whole.1.has.file))
+                  let whole = long.reported.earlier other low (omega (arith, high, number)) in
+                  (whole.1.1.dump, subst (λ (m : List ℕ). HasFile files DumpOctets m whole.1.1.dump) (comes_once words other whole.1.0.name n whole.1.0.comes comes) whole.1.1.file))
                   (Limit DumpOctets (limit_of DumpOctets)) (inr (long.long, refl)),
             ),
           )
 
-      told_overlong : StandsFilled (device.reads e.disk) before → (link : ℕ) → IsOverlong device e files clock words before link → IsOnlyTold
-      told_overlong stands link long =
+      reported_overlong : StandsFilled (device.reads e.disk) before → (link : ℕ) → IsOverlong device e files clock words before link → IsOnlyReported
+      reported_overlong stands link long =
           let is = long.refusal in
           let too_long = Limit DumpOctets (limit_of DumpOctets) in record {
-            unread = λ told said reading. subst (IsLoadUnread files words) (same_refusal e.report.refusal too_long told is said) (overlong_unread link long);
+            unread = λ reported said reading. subst (IsLoadUnread files words) (same_refusal e.report.refusal too_long reported is said) (overlong_unread link long);
             overlong = λ number said. (before, stands, (link, long));
             broken = λ at kind said. let never = same_refusal e.report.refusal too_long (BadPacket at kind) is said in absurd (cc (never));
             pending = λ faults said. let never = same_refusal e.report.refusal too_long (NeedsReopen faults) is said in absurd (cc (never));
           }
 
-      told_broken : StandsFilled (device.reads e.disk) before → (link place : ℕ) (kind : BadKind) → IsBroken device e files clock words before link place kind → IsOnlyTold
-      told_broken stands link place kind bad =
+      reported_broken : StandsFilled (device.reads e.disk) before → (link place : ℕ) (kind : BadKind) → IsBroken device e files clock words before link place kind → IsOnlyReported
+      reported_broken stands link place kind bad =
           let is = bad.refusal in record {
-            unread = λ told said reading. absurd (subst IsReadingRefusal (sym (same_refusal e.report.refusal (BadPacket place kind) told is said)) reading);
+            unread = λ reported said reading. absurd (subst IsReadingRefusal (sym (same_refusal e.report.refusal (BadPacket place kind) reported is said)) reading);
             overlong = λ number said. let never = same_refusal e.report.refusal (BadPacket place kind) (Limit DumpOctets number) is said in absurd (cc (never));
             broken = λ at other said.
                 let same = same_refusal e.report.refusal (BadPacket place kind) (BadPacket at other) is said in
@@ -205,18 +205,18 @@ module _ {D : Type 0} (device : Device D) (e : Call D) (files : Files) (clock : 
             pending = λ faults said. let never = same_refusal e.report.refusal (BadPacket place kind) (NeedsReopen faults) is said in absurd (cc (never));
           }
 
-      told_pending : WasPending device e → IsOnlyTold
-      told_pending (faults, is, counted) = record {
-        unread = λ told said reading. absurd (subst IsReadingRefusal (sym (same_refusal e.report.refusal (NeedsReopen faults) told is said)) reading);
+      reported_pending : WasPending device e → IsOnlyReported
+      reported_pending (faults, is, opened, counted) = record {
+        unread = λ reported said reading. absurd (subst IsReadingRefusal (sym (same_refusal e.report.refusal (NeedsReopen faults) reported is said)) reading);
         overlong = λ number said. let never = same_refusal e.report.refusal (NeedsReopen faults) (Limit DumpOctets number) is said in absurd (cc (never));
         broken = λ at kind said. let never = same_refusal e.report.refusal (NeedsReopen faults) (BadPacket at kind) is said in absurd (cc (never));
         pending = λ other said.
             let same = same_refusal e.report.refusal (NeedsReopen faults) (NeedsReopen other) is said in
-            let faults_are : faults ≡ other = cc (same) in subst (λ (n : ℕ). IsCountedSince device e.disk e.disk' (Some n)) faults_are counted;
+            let faults_are : faults ≡ other = cc (same) in (opened, subst (λ (n : ℕ). IsCountedSince device e.disk e.disk' (Some n)) faults_are counted);
       }
 
-      told_over : WasOverLimit device e files clock words before → IsOnlyTold
-      told_over over = told_other (Limit over.which (limit_of over.which)) over.limit (apart over.passed)
+      reported_over : WasOverLimit device e files clock words before → IsOnlyReported
+      reported_over over = reported_other (Limit over.which (limit_of over.which)) over.limit (apart over.passed)
         where
           apart : ArePassed files over.moment words before over.reached over.which ⊎ ((over.which ≡ Records) × AreRecordsPassed device e before over.reached) → TellsOfOutside (Limit over.which (limit_of over.which)) → ⊥
           apart (inl rows) tells = no_rows rows.limit (limit_of over.which) (subst (λ (w : Which). TellsOfOutside (Limit w (limit_of over.which))) rows.which_is tells)
@@ -228,46 +228,46 @@ module _ {D : Type 0} (device : Device D) (e : Call D) (files : Files) (clock : 
       cut_is DiskFault cut = refl
       cut_is other cut = absurd cut
 
-      -- what is told of a job is so
-      told_of_job : (t : Told) → told_of words.link c.ends c.others ≡ Some t → StandsFilled (device.reads e.disk) before → IsToldEnd files clock words before Where asks c came device e t → IsOnlyTold
-      told_of_job t is stands end = elim (cause_of files clock words before Where asks c came device e t end (first_told files clock words before Where asks c came t is)) [
-        | inl broken ↦ told_broken stands broken.0 broken.1 broken.2 broken.3
+      -- what is reported of a job is so
+      reported_of_job : (t : ReportedRefusal) → reported_of words.link c.ends c.others ≡ Some t → StandsFilled (device.reads e.disk) before → IsReportedEnd files clock words before Where asks c came device e t → IsOnlyReported
+      reported_of_job t is stands end = elim (cause_of files clock words before Where asks c came device e t end is (first_reported files clock words before Where asks c came t is)) [
+        | inl broken ↦ reported_broken stands broken.0 broken.1 broken.2 broken.3
         | inr others ↦ elim others [
-          | inl overlong ↦ told_overlong stands overlong.0 overlong.1
+          | inl overlong ↦ reported_overlong stands overlong.0 overlong.1
           | inr hindered ↦ elim hindered [
-            | inl cut ↦ told_cut t.refusal end.refusal (cut_is t.refusal cut)
+            | inl cut ↦ reported_cut t.refusal end.refusal (cut_is t.refusal cut)
             | inr why ↦ elim why.1 [
-              | inl pending ↦ told_pending pending
-              | inr over ↦ told_over over
+              | inl pending ↦ reported_pending pending
+              | inr over ↦ reported_over over
             ]
           ]
         ]
       ]
 
       printing_only : (a : List Ask) (t u : Progress) → EachEnd Leaves (answering_asks_plan a t (May OfOutput t (Stop u None)))
-      printing_only [] t u = (λ did. told_cut WriteFault (ap (λ (r : Report). r.refusal) did.report) refl, λ did. told_none (ap (λ (r : Report). r.refusal) did.report))
+      printing_only [] t u = (λ did. reported_cut WriteFault (ap (λ (r : Report). r.refusal) did.report) refl, λ did. reported_none (ap (λ (r : Report). r.refusal) did.report))
       printing_only (ask ∷ more) t u = (
-        λ did. told_cut OutOfMemory (ap (λ (r : Report). r.refusal) did.report) refl,
-        (λ did. told_cut WriteFault (ap (λ (r : Report). r.refusal) did.report) refl, λ did. told_none (ap (λ (r : Report). r.refusal) did.report)),
+        λ did. reported_cut OutOfMemory (ap (λ (r : Report). r.refusal) did.report) refl,
+        (λ did. reported_cut WriteFault (ap (λ (r : Report). r.refusal) did.report) refl, λ did. reported_none (ap (λ (r : Report). r.refusal) did.report)),
       )
 
       filled_only : (full : Bool) → EachEnd Leaves (after_filling (history_extended dumps before None c) (load_printing_plan dumps before asks c) full)
-      filled_only true = λ did. told_other (Limit Records (limit_of Records)) (ap (λ (r : Report). r.refusal) did.report) (λ tells. tells)
+      filled_only true = λ did. reported_other (Limit Records (limit_of Records)) (ap (λ (r : Report). r.refusal) did.report) (λ tells. tells)
       filled_only false = printing_only asks _ _
 
-      behind_only : (t : Told) → told_of words.link c.ends c.others ≡ Some t → c.failed ≡ None → (end : Option Refusal)
+      behind_only : (t : ReportedRefusal) → reported_of words.link c.ends c.others ≡ Some t → c.failed ≡ None → (end : Option Refusal)
           → EachEnd {X = ⊥} Leaves (Stop (filled_to before c.reached (job_refused dumps before c t) end) (Some t.refusal))
       behind_only t is none end = λ did.
-          let ended = filled_end files clock words before Where asks c came device e known dumps t none end did in told_of_job t is ended.0.stands ended.1
+          let ended = filled_end files clock words before Where asks c came device e known dumps t none end did in reported_of_job t is ended.0.stands ended.1
 
-      jobs_only : (said : Option Told) → told_of words.link c.ends c.others ≡ said → (failed : Option Addition) → c.failed ≡ failed → EachEnd Leaves (after_jobs dumps before asks c said failed)
+      jobs_only : (said : Option ReportedRefusal) → reported_of words.link c.ends c.others ≡ said → (failed : Option Addition) → c.failed ≡ failed → EachEnd Leaves (after_jobs dumps before asks c said failed)
       jobs_only None is failed has = (
-        λ did. told_cut OutOfMemory (ap (λ (r : Report). r.refusal) did.report) refl,
-        (λ did. told_cut DiskFault (ap (λ (r : Report). r.refusal) did.report) refl, λ full counted. filled_only full),
+        λ did. reported_cut OutOfMemory (ap (λ (r : Report). r.refusal) did.report) refl,
+        (λ did. reported_cut DiskFault (ap (λ (r : Report). r.refusal) did.report) refl, λ full counted. filled_only full),
       )
       jobs_only (Some t) is None has = λ end ends. behind_only t is has end
       jobs_only (Some t) is (Some addition) has = λ did.
-          let ended = written_end files clock words before Where asks c came device e known dumps t addition has did in told_of_job t is ended.0.stands ended.1
+          let ended = written_end files clock words before Where asks c came device e known dumps t addition has did in reported_of_job t is ended.0.stands ended.1
 
     -- ---- before them
 
@@ -276,53 +276,53 @@ module _ {D : Type 0} (device : Device D) (e : Call D) (files : Files) (clock : 
         run_only : (asks : List Ask) → HasAsks files words.asks (Ok asks) → EachEnd Leaves (jobs_plan Where (Some files) clock words filled route asks)
         run_only asks has = λ g given c outcome.
             jobs_only filled asks c (record { text = text; named = named; route = route; routed = routed; sheet = has; there = there; g = g; given = given; outcome = outcome })
-            (told_of words.link c.ends c.others) refl c.failed refl
+            (reported_of words.link c.ends c.others) refl c.failed refl
 
         check_only : (asks : List Ask) → HasAsks files words.asks (Ok asks) → (found : Option Refusal) → found ≡ archive_asks_refusal filled.plain asks
             → EachEnd Leaves (and_then (after_asks_check (archive_opened dumps filled) asks found) (jobs_plan Where (Some files) clock words filled route))
         check_only asks has None is = run_only asks has
-        check_only asks has (Some refusal) is = λ did. told_other refusal (ap (λ (r : Report). r.refusal) did.report) (no_asks filled.plain asks refusal (sym is))
+        check_only asks has (Some refusal) is = λ did. reported_other refusal (ap (λ (r : Report). r.refusal) did.report) (no_asks filled.plain asks refusal (sym is))
 
         sheet_only : (name : Option (List ℕ)) (refusal : Refusal) → HasAsks files name (Err refusal) → EachEnd {X = ⊥} Leaves (Stop (archive_opened dumps filled) (Some refusal))
         sheet_only None refusal has = absurd (cc (has))
-        sheet_only (Some name) refusal has = λ did. told_other refusal (ap (λ (r : Report). r.refusal) did.report) (no_asks_sheet has.octets refusal (sym has.sheet_is))
+        sheet_only (Some name) refusal has = λ did. reported_other refusal (ap (λ (r : Report). r.refusal) did.report) (no_asks_sheet has.octets refusal (sym has.sheet_is))
 
         asks_only : (sheet : Result (List Ask) Refusal) → HasAsks files words.asks sheet → EachEnd Leaves (after_route Where (Some files) clock words sheet filled route)
-        asks_only (Ok asks) has = (λ did. told_cut OutOfMemory (ap (λ (r : Report). r.refusal) did.report) refl, λ found is. check_only asks has found is)
+        asks_only (Ok asks) has = (λ did. reported_cut OutOfMemory (ap (λ (r : Report). r.refusal) did.report) refl, λ found is. check_only asks has found is)
         asks_only (Err refusal) has = sheet_only words.asks refusal has
 
       module _ (sheet : Result (List Ask) Refusal) (has : HasAsks files words.asks sheet) where
         route_only : (answer : Result (List RouteStatement) Refusal) → IsRouteAnswer filled.plain text answer
             → EachEnd Leaves (and_then (after_answer (archive_opened dumps filled) answer) (after_route Where (Some files) clock words sheet filled))
         route_only (Ok route) routed = asks_only route routed sheet has
-        route_only (Err refusal) answer = λ did. told_other refusal (ap (λ (r : Report). r.refusal) did.report) (no_route files words.route text filled refusal named answer)
+        route_only (Err refusal) answer = λ did. reported_other refusal (ap (λ (r : Report). r.refusal) did.report) (no_route files words.route text filled refusal named answer)
 
         links_only : (found : Option Refusal) → found ≡ links_refusal words → EachEnd Leaves (after_links Where (Some files) clock words text sheet filled found)
-        links_only None is = (λ did. told_cut OutOfMemory (ap (λ (r : Report). r.refusal) did.report) refl, λ answer routed. route_only answer routed)
-        links_only (Some refusal) is = λ did. told_other refusal (ap (λ (r : Report). r.refusal) did.report) (no_links words refusal (sym is))
+        links_only None is = (λ did. reported_cut OutOfMemory (ap (λ (r : Report). r.refusal) did.report) refl, λ answer routed. route_only answer routed)
+        links_only (Some refusal) is = λ did. reported_other refusal (ap (λ (r : Report). r.refusal) did.report) (no_links words refusal (sym is))
 
     opening_only : (held : OpeningResult) → EachEnd Leaves (after_opening dumps held)
-    opening_only NoneFound = λ did. told_other NoArchive (ap (λ (r : Report). r.refusal) did.report) (λ tells. tells)
-    opening_only (DamageFound file at) = λ did. told_other (Damaged file at) (ap (λ (r : Report). r.refusal) did.report) (λ tells. tells)
+    opening_only NoneFound = λ did. reported_other NoArchive (ap (λ (r : Report). r.refusal) did.report) (λ tells. tells)
+    opening_only (DamageFound file at) = λ did. reported_other (Damaged file at) (ap (λ (r : Report). r.refusal) did.report) (λ tells. tells)
     opening_only (ArchiveFound filled) = tt
 
     module _ (text : Option (List ℕ)) (named : HasRouteText files words.route text) (sheet : Result (List Ask) Refusal) (has : HasAsks files words.asks sheet) where
       opened_only : AreThere files words.dumps → EachEnd Leaves (opened_plan dumps device e.disk (λ records. loading_plan Where (Some files) clock words text sheet))
       opened_only there = (
-        λ did. told_cut OutOfMemory (ap (λ (r : Report). r.refusal) did.report) refl,
+        λ did. reported_cut OutOfMemory (ap (λ (r : Report). r.refusal) did.report) refl,
         each_end Leaves (opening_plan dumps device e.disk) (loading_plan Where (Some files) clock words text sheet) (
-          λ did. told_cut OutOfMemory (ap (λ (r : Report). r.refusal) did.report) refl,
-          (λ did. told_cut DiskFault (ap (λ (r : Report). r.refusal) did.report) refl, λ held h. opening_only held),
+          λ did. reported_cut OutOfMemory (ap (λ (r : Report). r.refusal) did.report) refl,
+          (λ did. reported_cut DiskFault (ap (λ (r : Report). r.refusal) did.report) refl, λ held h. opening_only held),
         ) (λ filled found is. links_only text named there filled sheet has found is),
       )
 
-      unopened_only : (refusal : Refusal) → IsUnread e refusal → IsFirstMissing files words.dumps refusal ⊎ (is_interruption refusal ≡ true) → IsOnlyTold
+      unopened_only : (refusal : Refusal) → IsUnread e refusal → IsFirstMissing files words.dumps refusal ⊎ (is_interruption refusal ≡ true) → IsOnlyReported
       unopened_only refusal is (inl missing) =
-          told_unread refusal (ap (λ (r : Report). r.refusal) is.report) (missing_kind words.dumps refusal missing) (inr (have_read files words text sheet named has, inl missing))
-      unopened_only refusal is (inr off) = told_cut refusal (ap (λ (r : Report). r.refusal) is.report) off
+          reported_unread refusal (ap (λ (r : Report). r.refusal) is.report) (missing_kind words.dumps refusal missing) (inr (have_read files words text sheet named has, inl missing))
+      unopened_only refusal is (inr off) = reported_cut refusal (ap (λ (r : Report). r.refusal) is.report) off
 
       archive_only : EachEnd Leaves (archive_load_plan device e.disk (Some files) clock words text sheet)
-      archive_only = each_opened device e IsOnlyTold files words.dumps 0 (λ done. opened_plan dumps device e.disk (λ records. loading_plan Where (Some files) clock words text sheet)) unopened_only opened_only
+      archive_only = each_opened device e IsOnlyReported files words.dumps 0 (λ done. opened_plan dumps device e.disk (λ records. loading_plan Where (Some files) clock words text sheet)) unopened_only opened_only
 
     -- the files that are read first
     abbrev AmongFirst : List (Which × List ℕ) → Type 0
@@ -332,17 +332,17 @@ module _ {D : Type 0} (device : Device D) (e : Call D) (files : Files) (clock : 
         → ((sheet : Result (List Ask) Refusal) → HasAsks files name sheet → EachEnd Leaves (next sheet)) → EachEnd Leaves (asked_plan (Some files) name next)
     asked_only None next among each = each (Ok []) refl
     asked_only (Some name) next among each =
-        each_read device e IsOnlyTold files SheetOctets (λ octets. asks_of octets) name 0 (λ (sheet : Result (List Ask) Refusal). map_done (with_sources 1) (next sheet))
+        each_read device e IsOnlyReported files SheetOctets (λ octets. asks_of octets) name 0 (λ (sheet : Result (List Ask) Refusal). map_done (with_sources 1) (next sheet))
         (λ refusal is cause. unread_file SheetOctets name tt refusal is (λ unread. among refusal (inl unread)) cause)
-        (λ octets file. each_behind device e IsOnlyTold files 1 (next (asks_of octets)) (each (asks_of octets) (record { octets = octets; file = file; sheet_is = refl })))
+        (λ octets file. each_behind device e IsOnlyReported files 1 (next (asks_of octets)) (each (asks_of octets) (record { octets = octets; file = file; sheet_is = refl })))
 
     routed_only : (name asks : Option (List ℕ)) (next : Option (List ℕ) → CommandPlan Progress ⊥) → AmongFirst (named_file ScriptOctets name ++ named_file SheetOctets asks)
         → ((text : Option (List ℕ)) → HasRouteText files name text → AmongFirst (named_file SheetOctets asks) → EachEnd Leaves (next text)) → EachEnd Leaves (routed_plan (Some files) name next)
     routed_only None asks next among each = each None refl among
     routed_only (Some name) asks next among each =
-        each_read device e IsOnlyTold files ScriptOctets (λ octets. octets) name 0 (λ (text : List ℕ). map_done (with_sources 1) (next (Some text)))
+        each_read device e IsOnlyReported files ScriptOctets (λ octets. octets) name 0 (λ (text : List ℕ). map_done (with_sources 1) (next (Some text)))
         (λ refusal is cause. unread_file ScriptOctets name tt refusal is (λ unread. among refusal (inl unread)) cause)
-        (λ octets file. each_behind device e IsOnlyTold files 1 (next (Some octets)) (each (Some octets) (octets, file, refl) (λ refusal first. among refusal (inr (octets, file, first)))))
+        (λ octets file. each_behind device e IsOnlyReported files 1 (next (Some octets)) (each (Some octets) (octets, file, refl) (λ refusal first. among refusal (inr (octets, file, first)))))
 
     read_only : EachEnd Leaves (read_load_plan device e.disk (Some files) clock words)
     read_only = routed_only words.route words.asks (routed_load_plan device e.disk (Some files) clock words) (λ refusal first. first)
@@ -350,7 +350,7 @@ module _ {D : Type 0} (device : Device D) (e : Call D) (files : Files) (clock : 
 
     limits_only : (found : Option Refusal) → found ≡ load_limit_refusal words → EachEnd Leaves (after_limits device e.disk (Some files) clock words found)
     limits_only None is = read_only
-    limits_only (Some refusal) is = λ did. told_other refusal (ap (λ (r : Report). r.refusal) did.report) (no_words words refusal (sym is))
+    limits_only (Some refusal) is = λ did. reported_other refusal (ap (λ (r : Report). r.refusal) did.report) (no_words words refusal (sym is))
 
     each_load : EachEnd Leaves (load_plan device e.disk (Some files) clock words)
     unfolding load_plan
@@ -358,7 +358,7 @@ module _ {D : Type 0} (device : Device D) (e : Call D) (files : Files) (clock : 
 
 -- ---- so it is of each call
 
-pub only_told : {D : Type 0} (device : Device D) (e : Call D) (files : Files) (clock : Option ℤ) (words : LoadWords) (run : IsRun device e files clock (Load words)) → IsOnlyTold device e files clock words
-only_told device e files clock words run = by_job device e files clock (Load words) run (IsOnlyTold device e files clock words)
-    (λ did. told_cut device e files clock words OutOfMemory (ap (λ (r : Report). r.refusal) did.report) refl)
+pub only_reported : {D : Type 0} (device : Device D) (e : Call D) (files : Files) (clock : Option ℤ) (words : LoadWords) (run : IsRun device e files clock (Load words)) → IsOnlyReported device e files clock words
+only_reported device e files clock words run = by_job device e files clock (Load words) run (IsOnlyReported device e files clock words)
+    (λ did. reported_cut device e files clock words OutOfMemory (ap (λ (r : Report). r.refusal) did.report) refl)
     (λ way allows end. end_of (Leaves device e files clock words) (load_plan device e.disk (Some files) clock words) way (each_load device e files clock words run.transparent) allows end.did)

@@ -22,13 +22,13 @@ use Rattle.archive_store.specs.Stands.{IsSoundImage}
 use Rattle.live_asks.specs.declared.answered.AskAnswer.{AskAnswer}
 use Rattle.live_asks.specs.declared.answered.AskAnswer.TheVariants as kept
 use Rattle.live_asks.specs.LiveAsks.{AnswersOver, HasCellsOf, IsAnsweredInTurn}
-use Rattle.live_session.specs.Outcome.{JobsOutcome, counts_of, told_of}
+use Rattle.live_session.specs.Outcome.{JobsOutcome, counts_of, reported_of}
 use Rattle.retrieval.specs.AnswerText.{answer_lines}
 use Rattle.retrieval.specs.declared.found_asks.FoundAsk.{FoundAsk}
 use Rattle.retrieval.specs.declared.found_asks.FoundAsk.TheVariants as looked_up
 use Rattle.retrieval.specs.FoundAsks.{ask_found, asks_found}
-use Rattle.ask_answers.specs.Kept.{EachAnswered, kept_answer_text, kept_answers_text}
-use Rattle.ask_answers.proofs.KeptTexts.{each_answered, kept_replay}
+use Rattle.ask_answers.specs.Collected.{AreAnsweredInTurns, collected_answer_text, collected_answers_text}
+use Rattle.ask_answers.proofs.CollectedTexts.{collected_replay, each_answered}
 use Rattle.command_words.specs.Job.{LoadWords}
 use Rattle.load_command.specs.Load.{WhereSoundOn}
 use Rattle.load_command.specs.LoadLine.{line_of_load, load_line, load_text}
@@ -79,7 +79,7 @@ module _ {D : Type 0} (device : Device D) (e : Call D) (known : IsTrue device.is
 
   -- cells, by the database that was in force at the opening and is so still
   cells_over : (over : List Item) (k : ℕ) (request : Request) (answer : Answer) → database_in head.mdb over ≡ database_in head.mdb low → HasCellsOf Where head over request answer
-      → IsAnswerOver Sound head over k (asked.Values request) (kept_answer_text before.plain k (asked.Values request) (kept.Values answer))
+      → IsAnswerOver Sound head over k (asked.Values request) (collected_answer_text before.plain k (asked.Values request) (kept.Values answer))
   cells_over over k request answer same is =
       let db = database_in head.mdb over in
       let number = unwrap_or (parameter_number db request.parameter) 0 in (
@@ -93,7 +93,7 @@ module _ {D : Type 0} (device : Device D) (e : Call D) (known : IsTrue device.is
       given of_number =
           of_number.2 ∙ ap (λ (o : Option ℕ). answer_of (database_in head.mdb over) (unwrap_or o 0) request (rows_in over)) (sym of_number.1)
 
-  over_text : (k : ℕ) (ask : FoundAsk) (answer : AskAnswer) (turn : IsAnsweredInTurn Where head low reached ask answer) → IsAnswerOver Sound head turn.over k (ask_found ask) (kept_answer_text before.plain k (ask_found ask) answer)
+  over_text : (k : ℕ) (ask : FoundAsk) (answer : AskAnswer) (turn : IsAnsweredInTurn Where head low reached ask answer) → IsAnswerOver Sound head turn.over k (ask_found ask) (collected_answer_text before.plain k (ask_found ask) answer)
   over_text k ask answer turn = go ask answer turn.answers
     where
       own : (own : List Row) × (turn.over ≡ low ++ items_of own)
@@ -106,21 +106,21 @@ module _ {D : Type 0} (device : Device D) (e : Call D) (known : IsTrue device.is
       names = ap (names_in head.mdb) own.1 ∙ rows_keep_names head.mdb low own.0
 
       go : (ask' : FoundAsk) (answer' : AskAnswer) → AnswersOver Where head turn.over ask' answer'
-          → IsAnswerOver Sound head turn.over k (ask_found ask') (kept_answer_text before.plain k (ask_found ask') answer')
+          → IsAnswerOver Sound head turn.over k (ask_found ask') (collected_answer_text before.plain k (ask_found ask') answer')
       go (looked_up.Values found) (kept.Values cells) is = cells_over turn.over k found.request cells database is
-      go (looked_up.Replay found) (kept.Replay replayed) is = kept_replay before.plain turn.over k found.request replayed names is
+      go (looked_up.Replay found) (kept.Replay replayed) is = collected_replay before.plain turn.over k found.request replayed names is
       go (looked_up.Values found) (kept.Replay replayed) is = absurd is
       go (looked_up.Replay found) (kept.Values cells) is = absurd is
 
-  pub answers_between : (k : ℕ) (asks : List FoundAsk) (answers : List AskAnswer) → EachAnswered Where head low reached asks answers
-      → AreAnswersBetween Sound head low reached k (asks_found asks) (kept_answers_text before.plain k (asks_found asks) answers)
+  pub answers_between : (k : ℕ) (asks : List FoundAsk) (answers : List AskAnswer) → AreAnsweredInTurns Where head low reached asks answers
+      → AreAnswersBetween Sound head low reached k (asks_found asks) (collected_answers_text before.plain k (asks_found asks) answers)
   answers_between k [] [] each = refl
   answers_between k [] (answer ∷ answers) each = absurd each
   answers_between k (ask ∷ asks) [] each = absurd each
   answers_between k (ask ∷ asks) (answer ∷ answers) each =
       let turn = each.0 in (
-        kept_answer_text before.plain k (ask_found ask) answer,
-        kept_answers_text before.plain (suc k) (asks_found asks) answers,
+        collected_answer_text before.plain k (ask_found ask) answer,
+        collected_answers_text before.plain (suc k) (asks_found asks) answers,
         refl,
         record { history = turn.over; later = turn.later; begins = turn.begins; text_is = over_text k ask answer turn },
         answers_between (suc k) asks answers each.1,
@@ -129,10 +129,10 @@ module _ {D : Type 0} (device : Device D) (e : Call D) (known : IsTrue device.is
 -- ---- the whole text
 
 module _ (files : Files) (clock : Option ℤ) (words : LoadWords) (before : FilledArchive) {D : Type 0} (device : Device D) (e : Call D) (known : IsTrue device.is_transparent) (asks : List Ask) (c : JobsOutcome)
-    (came : CameToJobs files clock words before (WhereSoundOn device e.disk) asks c) (none : told_of words.link c.ends c.others ≡ None)
+    (came : CameToJobs files clock words before (WhereSoundOn device e.disk) asks c) (none : reported_of words.link c.ends c.others ≡ None)
     (whole : AreWholeFrom files clock words before (WhereSoundOn device e.disk) asks c came words.link c.ends) where
-  each : EachAnswered (WhereSoundOn device e.disk) before.plain.head before.plain.history c.reached came.g.asks c.answers
-  each = subst (λ (h : Head). EachAnswered (WhereSoundOn device e.disk) h before.plain.history c.reached came.g.asks c.answers) came.given.head
+  each : AreAnsweredInTurns (WhereSoundOn device e.disk) before.plain.head before.plain.history c.reached came.g.asks c.answers
+  each = subst (λ (h : Head). AreAnsweredInTurns (WhereSoundOn device e.disk) h before.plain.history c.reached came.g.asks c.answers) came.given.head
       (each_answered (WhereSoundOn device e.disk) came.g.head before.plain.history c.reached came.g.asks c.answers (came.outcome.answered none))
 
   line_is : line_of_load (length before.plain.history) c ≡ line_of_dumps before c.reached whole.dumps
@@ -148,8 +148,8 @@ module _ (files : Files) (clock : Option ℤ) (words : LoadWords) (before : Fill
   whole_text = record {
     asks = asks;
     sheet = came.sheet;
-    answers = kept_answers_text before.plain 1 asks c.answers;
-    answered = subst (λ (l : List Ask). AreAnswersBetween (IsSoundImage (device.reads e.disk)) before.plain.head before.plain.history c.reached 1 l (kept_answers_text before.plain 1 l c.answers)) came.given.asked
+    answers = collected_answers_text before.plain 1 asks c.answers;
+    answered = subst (λ (l : List Ask). AreAnswersBetween (IsSoundImage (device.reads e.disk)) before.plain.head before.plain.history c.reached 1 l (collected_answers_text before.plain 1 l c.answers)) came.given.asked
         (answers_between device e known before c.reached came.outcome.more came.outcome.grown 1 came.g.asks c.answers each);
-    text_is = ap (λ (l : List ℕ). kept_answers_text before.plain 1 asks c.answers ++ l) line_is;
+    text_is = ap (λ (l : List ℕ). collected_answers_text before.plain 1 asks c.answers ++ l) line_is;
   }

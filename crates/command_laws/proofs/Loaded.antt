@@ -18,8 +18,8 @@ use Rattle.archive_store.specs.Stands.{StandsFor}
 use Rattle.archive_store.proofs.Exact.{filled_once}
 use Rattle.archive_store.proofs.PendingFaults.{prefix_self}
 use Rattle.stream_graph.specs.declared.statement.RouteStatement.{RouteStatement}
-use Rattle.live_session.specs.declared.told.Told.{Told}
-use Rattle.live_session.specs.Outcome.{JobsOutcome, told_of}
+use Rattle.live_session.specs.declared.reported.ReportedRefusal.{ReportedRefusal}
+use Rattle.live_session.specs.Outcome.{JobsOutcome, reported_of}
 use Rattle.command_plans.specs.Plan.{CommandPlan, EachEnd, May, OfOutput, Stop, Way, and_then, map_done}
 use Rattle.command_plans.proofs.Plans.{each_end, end_of}
 use Rattle.command_words.specs.Job.{Load, LoadWords}
@@ -122,7 +122,7 @@ module _ {D : Type 0} (device : Device D) (e : Call D) (files : Files) (clock : 
       left_opened : e.report.opened ≡ true → e.report.before ≡ length before.plain.history → e.report.after ≡ length reached → (Succeeded e → IsWholeLoad device e files moment' words before reached)
           → IsSilent e ⊎ IsLoadPrinted device e files moment' words before reached → ((refusal : Refusal) → IsFirstUnread files (load_files words) refusal → Prints e [])
           → ((refusal : Refusal) → e.report.refusal ≡ Some refusal → IsRefusedLoad e before reached refusal) → Left
-      left_opened is_open first last whole printed quiet told_so =
+      left_opened is_open first last whole printed quiet reported_so =
           let since = since_opening device e OnTheWay OnTheWay disk.images (λ c way. way) in record {
             opened = λ is. record {
               before = before;
@@ -138,7 +138,7 @@ module _ {D : Type 0} (device : Device D) (e : Call D) (files : Files) (clock : 
               printed = printed;
               crashes = λ all. sound_moments device e known OnTheWay (inr since) (λ c now. ((all c now).0, at_first c (all c now).1));
               since = since;
-              refused = told_so;
+              refused = reported_so;
               in_order = disk.back;
             };
             unopened = λ no. opened_once e.report.opened is_open no;
@@ -154,8 +154,8 @@ module _ {D : Type 0} (device : Device D) (e : Call D) (files : Files) (clock : 
           let is : e.report.refusal ≡ Some refusal = ap (λ (t : Report). t.refusal) report in
           left_opened (ap (λ (t : Report). t.opened) report) (ap (λ (t : Report). t.before) report) (ap (λ (t : Report). t.after) report)
           (λ ok. none_or_some e.report.refusal refusal is ok) printed quiet
-          (λ told is_told.
-          let same = same_refusal e.report.refusal refusal told is is_told in record {
+          (λ reported is_reported.
+          let same = same_refusal e.report.refusal refusal reported is is_reported in record {
             link = link;
             report = subst (λ (r : Refusal). e.report ≡ loaded (Some r) link (length before.plain.history) (length reached) 0 0 0) same report;
             named = subst (λ (r : Refusal). IsSome link → TellsOfDump r) same named;
@@ -199,7 +199,7 @@ module _ {D : Type 0} (device : Device D) (e : Call D) (files : Files) (clock : 
 
       -- ---- what was printed
 
-      module _ (none : told_of words.link c.ends c.others ≡ None) where
+      module _ (none : reported_of words.link c.ends c.others ≡ None) where
         abbrev AllWhole : Type 0
         AllWhole = AreWholeFrom files clock words before Where asks c came words.link c.ends
 
@@ -252,6 +252,7 @@ module _ {D : Type 0} (device : Device D) (e : Call D) (files : Files) (clock : 
                 idle = ap (λ (t : Report). t.idle) report ∙ all_came.idle;
                 duplicates = ap (λ (t : Report). t.duplicates) report ∙ ap (λ (n : ℕ). n - (length c.reached - length before.plain.history)) all_came.arrived_are
                     ∙ ap (λ (n : ℕ). arrived_of all_came.dumps - n) (sym new);
+                no_link = ap (λ (t : Report). t.link) report;
               },
             )) (inr (printed_so (all_is_some e text all) (λ ok. all))) (λ refused first. absurd (all_named refused first))
             (λ refusal is. none_or_some e.report.refusal refusal is (ap (λ (t : Report). t.refusal) report))
@@ -287,15 +288,15 @@ module _ {D : Type 0} (device : Device D) (e : Call D) (files : Files) (clock : 
 
       -- ---- a job was refused
 
-      of_dump : (t : Told) → told_of words.link c.ends c.others ≡ Some t → IsSome t.link → TellsOfDump t.refusal
+      of_dump : (t : ReportedRefusal) → reported_of words.link c.ends c.others ≡ Some t → IsSome t.link → TellsOfDump t.refusal
       of_dump t is some = link_of_dump words.link c.ends c.others t is some
 
-      job_left : (t : Told) → told_of words.link c.ends c.others ≡ Some t → c.failed ≡ None → (end : Option Refusal) → EachEnd {X = ⊥} Leaves (Stop (filled_to before c.reached (job_refused dumps before c t) end) (Some t.refusal))
+      job_left : (t : ReportedRefusal) → reported_of words.link c.ends c.others ≡ Some t → c.failed ≡ None → (end : Option Refusal) → EachEnd {X = ⊥} Leaves (Stop (filled_to before c.reached (job_refused dumps before c t) end) (Some t.refusal))
       job_left t is none None = λ did. left_quiet t.link t.refusal (of_dump t is) did.report did.printed (filled_end files clock words before Where asks c came device e known dumps t none None did).0
       job_left t is none (Some DiskFault) = λ did. left_quiet t.link t.refusal (of_dump t is) did.report did.printed (filled_end files clock words before Where asks c came device e known dumps t none (Some DiskFault) did).0
       job_left t is none (Some other) = λ did. left_quiet t.link t.refusal (of_dump t is) did.report did.printed (filled_end files clock words before Where asks c came device e known dumps t none (Some other) did).0
 
-      jobs_left : (said : Option Told) → told_of words.link c.ends c.others ≡ said → (failed : Option Addition) → c.failed ≡ failed → EachEnd Leaves (after_jobs dumps before asks c said failed)
+      jobs_left : (said : Option ReportedRefusal) → reported_of words.link c.ends c.others ≡ said → (failed : Option Addition) → c.failed ≡ failed → EachEnd Leaves (after_jobs dumps before asks c said failed)
       jobs_left None is failed has = unrefused_left is failed
       jobs_left (Some t) is None has = λ end ends. job_left t is has end
       jobs_left (Some t) is (Some addition) has =
@@ -308,7 +309,7 @@ module _ {D : Type 0} (device : Device D) (e : Call D) (files : Files) (clock : 
         run_left : (asks : List Ask) → HasAsks files words.asks (Ok asks) → EachEnd Leaves (jobs_plan Where (Some files) clock words filled route asks)
         run_left asks has = λ g given c outcome.
             jobs_left filled asks c (record { text = text; named = named; route = route; routed = routed; sheet = has; there = there; g = g; given = given; outcome = outcome })
-            (told_of words.link c.ends c.others) refl c.failed refl
+            (reported_of words.link c.ends c.others) refl c.failed refl
 
         check_left : (asks : List Ask) → HasAsks files words.asks (Ok asks) → (found : Option Refusal)
             → EachEnd Leaves (and_then (after_asks_check (archive_opened dumps filled) asks found) (jobs_plan Where (Some files) clock words filled route))

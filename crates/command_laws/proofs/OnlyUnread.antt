@@ -47,18 +47,18 @@ of_one files which name refusal (inr others) = absurd others.2
 module _ {D : Type 0} (device : Device D) (e : Call D) (files : Files) (named : List (Which × List ℕ)) where
   -- its refusal is another,
   pub other : (refusal : Refusal) → e.report.refusal ≡ Some refusal → (TellsOfOutside refusal → ⊥) → IsOnlyUnread e files named
-  other refusal is apart = λ told said reading. absurd (apart (reading_tells refusal (subst IsReadingRefusal (same_refusal e.report.refusal told refusal said is) reading)))
+  other refusal is apart = λ reported said reading. absurd (apart (reading_tells refusal (subst IsReadingRefusal (same_refusal e.report.refusal reported refusal said is) reading)))
 
   pub cut : (refusal : Refusal) → e.report.refusal ≡ Some refusal → is_interruption refusal ≡ true → IsOnlyUnread e files named
   cut refusal is off = other refusal is (no_interruption refusal off)
 
   -- or there's none,
   pub none : e.report.refusal ≡ None → IsOnlyUnread e files named
-  none is = λ told said reading. none_or_some e.report.refusal told said is
+  none is = λ reported said reading. none_or_some e.report.refusal reported said is
 
   -- or one wasn't read
   pub unread : (refusal : Refusal) → e.report.refusal ≡ Some refusal → IsUnreadAmong files named refusal → IsOnlyUnread e files named
-  unread refusal is (inl first) = λ told said reading. subst (IsFirstUnread files named) (same_refusal e.report.refusal refusal told is said) first
+  unread refusal is (inl first) = λ reported said reading. subst (IsFirstUnread files named) (same_refusal e.report.refusal refusal reported is said) first
   unread refusal is (inr off) = cut refusal is off
 
 -- the text of a script is short

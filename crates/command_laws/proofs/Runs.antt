@@ -1,7 +1,7 @@
 -- From what `run` promises to what the plan of a job says.
-use Rattle.std.proofs.Common.{◌≡◌, ◌≤◌, ◌⊎◌, ◌∙◌, inl, inr, ℤ, List, ℕ, [], true, Option, Some, None, refl, sym, ap, subst, append-nil}
+use Rattle.std.proofs.Common.{◌≡◌, ◌⊎◌, ◌∙◌, inl, inr, ℤ, List, ℕ, [], true, Option, Some, None, refl, sym, ap, subst, append-nil}
 use Rattle.std.specs.Prelude.{IsSomeAnd, IsTrue}
-use Rattle.arch_disk.specs.Disk.{Device, raised}
+use Rattle.arch_disk.specs.Disk.{Device}
 use Rattle.refusals.specs.declared.refusal.Refusal.{Refusal}
 use Rattle.refusals.specs.declared.refusal.Refusal.TheVariants.{DiskFault, OutOfMemory, ReadFault, WriteFault, Damaged, NoArchive}
 use Rattle.outer_traits.specs.Outside.{Files}
@@ -9,15 +9,17 @@ use Rattle.line_buffer.proofs.LineBuffers.{buffered_front}
 use Rattle.command_plans.specs.Ledger.{Counted}
 use Rattle.command_plans.specs.Plan.{CommandPlan, OfMemory, OfInputs, OfOutput, OfDisk, Interrupted, IsDetermined, Returned, Stopped, Way, Allows, Requires, no_failed_calls, refusal_at, with_failed_call, May, and_then, map_done}
 use Rattle.command_plans.proofs.Plans.{required}
-use Rattle.command_words.specs.Job.{Job, Scan, Values, Create, Load, Query, Sql, Recover, Verify}
+use Rattle.command_words.specs.Job.{Job, Scan, Values, Create, Load, Query, Sql, Recover, Verify, Make}
 use Rattle.command_runs.specs.declared.report.Report.{Report}
-use Rattle.command_runs.specs.Command.{AllFilled, ArchiveSought, DiskOutcome, EndedAt, Extended, ExtensionFailed, FillingFailed, HasDiskOutcome, HasEffects, Made, MakingFailed, NotAsked, Opened, Progress, SeekingFailed, failed_at, nothing_done, ArchiveFound, DamageFound, NoneFound, archive_sought, opening_plan, seeking_failed}
+use Rattle.command_runs.proofs.Making.{counted_by}
+use Rattle.command_runs.specs.Command.{ArchiveFound, DamageFound, DiskOutcome, EndedAt, HasEffects, NoneFound, NotAsked, Progress, SeekingFailed, archive_sought, failed_at, nothing_done, opening_plan, seeking_failed}
 use Rattle.archive_commands.proofs.Comparing.{verify_determined}
 use Rattle.archive_commands.proofs.CreatePlan.{create_determined}
 use Rattle.archive_commands.proofs.Recovered.{recover_determined}
 use Rattle.dump_commands.proofs.ScanPlan.{scan_determined}
 use Rattle.dump_commands.proofs.ValuesPlan.{values_determined}
 use Rattle.load_command.proofs.LoadPlan.{load_determined}
+use Rattle.make_command.proofs.MakePlan.{make_determined}
 use Rattle.query_commands.proofs.QueryPlan.{query_determined}
 use Rattle.query_commands.proofs.SqlPlan.{sql_determined}
 use Rattle.archive_cli.specs.Run.{after_words, job_plan, run_plan}
@@ -57,23 +59,10 @@ pub record IsEndOf {D : Type 0} (device : Device D) (e : Call D) (way : Way Prog
   pub did : HasEffects device (effects e) way
   pub read : Counted (failed_at way OfInputs) e.read_faults e.read_faults'
 
--- the count of a disk that was asked rose where a call of it failed
-pub risen : {D : Type 0} (device : Device D) (old new : D) (outcome : DiskOutcome) → (outcome ≡ NotAsked → ⊥) → HasDiskOutcome device old new true outcome → raised (device.fault_count old) ≤ device.fault_count new
-risen device old new NotAsked asked h = absurd (asked refl)
-risen device old new ArchiveSought asked h = h.0.faults
-risen device old new SeekingFailed asked h = h.0.faults
-risen device old new (Opened filled) asked h = h.0.faults
-risen device old new (MakingFailed head) asked h = h.0.faults
-risen device old new (Made head) asked h = h.0.faults
-risen device old new (Extended before reached) asked h = h.0.faults
-risen device old new (ExtensionFailed before reached rows) asked h = h.0.faults
-risen device old new (AllFilled before reached) asked h = h.0.faults
-risen device old new (FillingFailed before reached) asked h = h.0.faults
-
 module _ {D : Type 0} {device : Device D} (e : Call D) (way : Way Progress ⊥) (end : IsEndOf device e way) where
   -- the refusal is that at its end
-  pub told : e.report.refusal ≡ refusal_at way
-  told = go way end.did
+  pub reported : e.report.refusal ≡ refusal_at way
+  reported = go way end.did
     where
       go : (w : Way Progress ⊥) → HasEffects device (effects e) w → e.report.refusal ≡ refusal_at w
       go (Returned x) did = absurd did
@@ -82,32 +71,32 @@ module _ {D : Type 0} {device : Device D} (e : Call D) (way : Way Progress ⊥) 
 
   -- it was refused, or it wasn't
   pub refused : (s : Progress) (refusal : Refusal) → way ≡ Stopped s (Some refusal) → IsRefusedBy device e refusal
-  refused s refusal is = inl (told ∙ ap refusal_at is)
+  refused s refusal is = inl (reported ∙ ap refusal_at is)
 
   pub succeeded : (s : Progress) → way ≡ Stopped s None → Succeeded e ⊎ WasInterrupted device e
-  succeeded s is = inl (told ∙ ap refusal_at is)
+  succeeded s is = inl (reported ∙ ap refusal_at is)
 
   -- it was cut off: memory was wanting,
   pub no_memory : (s : Progress) → way ≡ Interrupted s OfMemory → WasInterrupted device e
-  no_memory s is = cut_off device e OutOfMemory (told ∙ ap refusal_at is) tt
+  no_memory s is = cut_off device e OutOfMemory (reported ∙ ap refusal_at is) tt
 
   -- or a call failed, of the inputs,
   pub unread_call : (s : Progress) → way ≡ Interrupted s OfInputs → WasInterrupted device e
   unread_call s is =
       let rose = subst (λ (w : Way Progress ⊥). Counted (failed_at w OfInputs) e.read_faults e.read_faults') is end.read in
-      cut_off device e ReadFault (told ∙ ap refusal_at is) rose.1
+      cut_off device e ReadFault (reported ∙ ap refusal_at is) rose.1
 
   -- of the output,
   pub unwritten_call : (s : Progress) → way ≡ Interrupted s OfOutput → WasInterrupted device e
   unwritten_call s is =
       let did = subst (HasEffects device (effects e)) is end.did in
-      cut_off device e WriteFault (told ∙ ap refusal_at is) did.output.counted.1
+      cut_off device e WriteFault (reported ∙ ap refusal_at is) did.output.counted.1
 
   -- or of the disk
   pub disk_call : (s : Progress) → (s.disk ≡ NotAsked → ⊥) → way ≡ Interrupted s OfDisk → WasInterrupted device e
   disk_call s asked is =
       let did = subst (HasEffects device (effects e)) is end.did in
-      cut_off device e DiskFault (told ∙ ap refusal_at is) (risen device e.disk e.disk' s.disk asked did.disk)
+      cut_off device e DiskFault (reported ∙ ap refusal_at is) (counted_by device e.disk e.disk' true s.disk asked did.disk)
 
   module _ (Q : Type 0) (s : Progress) where
     pub or_no_memory : way ≡ Interrupted s OfMemory → Q ⊎ WasInterrupted device e
@@ -180,6 +169,7 @@ job_determined device disk files clock (Query name) known = query_determined dev
 job_determined device disk files clock (Sql name) known = sql_determined device disk (Some files) name known refl
 job_determined device disk files clock Recover known = recover_determined device disk known
 job_determined device disk files clock Verify known = verify_determined device disk known
+job_determined device disk files clock (Make seed) known = make_determined device disk clock seed known
 
 module _ {D : Type 0} (device : Device D) (e : Call D) (files : Files) (clock : Option ℤ) (job : Job) (run : IsRun device e files clock job) where
   abbrev plan : CommandPlan Progress ⊥

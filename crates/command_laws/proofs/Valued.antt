@@ -33,7 +33,7 @@ use Rattle.command_laws.proofs.Dumps.{bad_due, silent_dump, some_dump, some_mome
 use Rattle.command_laws.proofs.FileRefusals.{TellsOfOutside, no_ending, no_interruption, no_limit, reading_tells}
 use Rattle.command_laws.proofs.Files.{one_file, one_raw}
 use Rattle.command_laws.proofs.Readings.{IsUnread, IsUnreadAmong, IsUnreadCause, each_read, each_sheets, no_bad_among, read_due, read_or_not, sheet_files, sheets_due, sheets_unread, unread_due}
-use Rattle.command_laws.proofs.Runs.{IsEndOf, by_due, by_job, or_no_memory, refused, same_refusal, told}
+use Rattle.command_laws.proofs.Runs.{IsEndOf, by_due, by_job, or_no_memory, refused, reported, same_refusal}
 use Rattle.command_laws.proofs.Ways.{due_in_turn, each_in_turn}
 
 -- all but what is due
@@ -91,9 +91,9 @@ module _ {D : Type 0} (device : Device D) (e : Call D) (files : Files) (clock : 
         let cells = cells_of (sheets_database raw) q packets some.0 in
         (some.0, some.1, silent_dump e (cell_lines (sheets_database raw) q cells) (values_line (length cells)) refusal other (refusal_is (Some refusal) unread.report) unread.silent dump rest);
     quiet = λ refused first. unread.silent;
-    only_unread = λ told is reading. elim cause [
-      | inl first ↦ subst (IsFirstUnread files (values_files words)) (same_refusal e.report.refusal refusal told (refusal_is (Some refusal) unread.report) is) first
-      | inr cut ↦ absurd (no_cut refusal cut (subst IsReadingRefusal (same_refusal e.report.refusal told refusal is (refusal_is (Some refusal) unread.report)) reading))
+    only_unread = λ reported is reading. elim cause [
+      | inl first ↦ subst (IsFirstUnread files (values_files words)) (same_refusal e.report.refusal refusal reported (refusal_is (Some refusal) unread.report) is) first
+      | inr cut ↦ absurd (no_cut refusal cut (subst IsReadingRefusal (same_refusal e.report.refusal reported refusal is (refusal_is (Some refusal) unread.report)) reading))
     ];
     silent = λ raw refused dump has is. unread.silent;
   }
@@ -122,7 +122,7 @@ module _ {D : Type 0} (device : Device D) (e : Call D) (files : Files) (clock : 
       printed = λ other q others rest packets also named parts.
           absurd (none_refused (parameter_refusal raw words.name) refusal (ap (λ (r : RawMdb). parameter_refusal r words.name) (raw_is other others also) ∙ named.admitted) is);
       quiet = λ refused first. silent;
-      only_unread = λ told said reading. absurd (no_parameter raw words.name refusal is (subst IsReadingRefusal (same_refusal e.report.refusal told refusal said (refusal_is (Some refusal) report)) reading));
+      only_unread = λ reported said reading. absurd (no_parameter raw words.name refusal is (subst IsReadingRefusal (same_refusal e.report.refusal reported refusal said (refusal_is (Some refusal) report)) reading));
       silent = λ other refused others also named. silent;
     }
 
@@ -145,13 +145,13 @@ module _ {D : Type 0} (device : Device D) (e : Call D) (files : Files) (clock : 
           (subst (λ (ps : List (List ℕ)). AreCellsPrinted e (sheets_database raw) q dump ps left moment) one.0
           (subst (λ (r : List ℕ). AreCellsPrinted e (sheets_database raw) q dump packets r moment) one.1 mine))))
 
-      left_printed : e.disk' ≡ e.disk → (refusal : Option Refusal) → e.report ≡ unopened refusal → ((told : Refusal) → refusal ≡ Some told → IsReadingRefusal told → ⊥) → Mine → IsLeft e files clock words
+      left_printed : e.disk' ≡ e.disk → (refusal : Option Refusal) → e.report ≡ unopened refusal → ((reported : Refusal) → refusal ≡ Some reported → IsReadingRefusal reported → ⊥) → Mine → IsLeft e files clock words
       left_printed disk refusal report apart mine = record {
         disk = disk;
         report = report_is refusal report;
         printed = λ other p others left more also named' parts'. (moment, known, of_any mine other p others left more also named' parts');
         quiet = λ refused first. absurd (all_read refused first);
-        only_unread = λ told said reading. absurd (apart told (sym (refusal_is refusal report) ∙ said) reading);
+        only_unread = λ reported said reading. absurd (apart reported (sym (refusal_is refusal report) ∙ said) reading);
         silent = λ other refused others also is.
             absurd (none_refused (parameter_refusal raw words.name) refused admitted (ap (λ (r : RawMdb). parameter_refusal r words.name) (raw_is other others also) ∙ is));
       }
@@ -165,8 +165,8 @@ module _ {D : Type 0} (device : Device D) (e : Call D) (files : Files) (clock : 
       some_left : (refusal : Refusal) → is_interruption refusal ≡ true → e.report ≡ unopened (Some refusal) → PrintsSome e (values_text (sheets_database raw) q packets rest moment) → Mine
       some_left refusal cut report printed = some_dump e lines last refusal cut (refusal_is (Some refusal) report) dump rest (subst (PrintsSome e) (text_is (sheets_database raw) q packets rest moment) printed)
 
-      cut_apart : (refusal : Refusal) → is_interruption refusal ≡ true → (told : Refusal) → ◌≡◌ {A = Option Refusal} (Some refusal) (Some told) → IsReadingRefusal told → ⊥
-      cut_apart refusal cut told is reading = let same : refusal ≡ told = cc (is) in no_cut refusal cut (subst IsReadingRefusal (sym same) reading)
+      cut_apart : (refusal : Refusal) → is_interruption refusal ≡ true → (reported : Refusal) → ◌≡◌ {A = Option Refusal} (Some refusal) (Some reported) → IsReadingRefusal reported → ⊥
+      cut_apart refusal cut reported is reading = let same : refusal ≡ reported = cc (is) in no_cut refusal cut (subst IsReadingRefusal (sym same) reading)
 
       cells_left : EachEnd Leaves (cells_plan raw q dump moment (packets, rest))
       cells_left = (

@@ -23,7 +23,7 @@ use Rattle.archive_commands.specs.Verify.{IsCompared, after_comparing, compare_p
 use Rattle.command_laws.specs.Calls.{Call, HeldArchive, IsRefusedBy, IsRun, LeavesAll, Prints, PrintsSome, Succeeded, WasInterrupted, effects}
 use Rattle.command_laws.specs.Verify.{IsMismatch, IsUnsound, IsVerified}
 use Rattle.command_laws.proofs.Left.{all_opened, all_unopened, not_asked}
-use Rattle.command_laws.proofs.Runs.{IsEndOf, all_is_some, by_due, by_job, cut_off, disk_ended, memory_ended, no_archive_silent, none_is_some, none_or_some, opening_due, or_disk_failed, or_no_memory, or_unwritten, output_ended, same_refusal, succeeded, told}
+use Rattle.command_laws.proofs.Runs.{IsEndOf, all_is_some, by_due, by_job, cut_off, disk_ended, memory_ended, no_archive_silent, none_is_some, none_or_some, opening_due, or_disk_failed, or_no_memory, or_unwritten, output_ended, reported, same_refusal, succeeded}
 
 -- all but that a sound archive is found so
 record IsLeft {D : Type 0} (device : Device D) (e : Call D) : Type 0 where
@@ -78,6 +78,7 @@ module _ {D : Type 0} (device : Device D) (e : Call D) where
     comparing_left filled (Some (Mismatch i n k s r)) named = λ did.
         let only = did.disk.1 known in
         let unsound : IsUnsound device e (Mismatch i n k s r) = (
+          ap (λ (t : Report). t.opened) did.report,
           (filled, only.stands, named),
           λ sound. mismatch_unsound filled i _ named.first ((sound_images (device.reads e.disk) filled only.stands).1 sound),
         ) in
@@ -143,7 +144,7 @@ module _ {D : Type 0} (device : Device D) (e : Call D) (known : IsTrue device.is
     λ end. inr (output_ended e _ end),
     λ end. absurd (unsound ((sound_images (device.reads e.disk) other (end.did.disk.1 known).stands).0 held)),
   )
-  comparing_found other (Some (Mismatch i n k s r)) named = λ end. inl (subst (λ (t : Option Refusal). IsSomeAnd t IsMismatch) (sym (told e _ end)) tt)
+  comparing_found other (Some (Mismatch i n k s r)) named = λ end. inl (subst (λ (t : Option Refusal). IsSomeAnd t IsMismatch) (sym (reported e _ end)) tt)
   comparing_found other (Some another) none = absurd none
 
   pub each_found : EachEnd HasFound (verify_plan device e.disk)

@@ -5,6 +5,7 @@ pub mod Dumps
 pub mod HandedBack
 pub mod Links
 pub mod Load
+pub mod Make
 pub mod NamedFiles
 pub mod Query
 pub mod Recover
@@ -12,3 +13,4 @@ pub mod Scan
 pub mod Sql
 pub mod Values
 pub mod Verify
+pub mod Watched

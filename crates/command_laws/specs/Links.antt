@@ -2,7 +2,7 @@
 use Rattle.std.specs.Prelude.{◌≡◌, ◌⊎◌, ◌==◌, ◌<◌, ◌≤◌, ◌+◌, ◌-◌, ℕ, suc, ℤ, All, Any, IsNone, IsSome, IsSomeAnd, List, [], ◌∷◌, ◌++◌, length, map, filter, slice_get, sum_by, true, Option, Some, None, Result, Ok}
 use Rattle.std.specs.FinMap.{get}
 use Rattle.std.specs.List.{AllByRecursion}
-use mathlib.Core.List.{Sublist}
+use mathlib.Core.List.{IsPrefix, Sublist}
 use Rattle.arch_types.specs.declared.row.Row.{Row}
 use Rattle.arch_types.specs.Dump.{IsDump}
 use Rattle.arch_types.specs.History.{firsts, is_duplicate_of}
@@ -75,6 +75,13 @@ pub record HasDump (files : Files) (name : List ℕ) (packets : List (List ℕ))
   pub file : HasFile files DumpOctets name dump
   pub parts : IsDump dump packets rest
 
+-- the first octets of the dump of a name, no more than a dump may have, are these packets and this rest
+pub record HasRead (files : Files) (name : List ℕ) (packets : List (List ℕ)) (rest : List ℕ) : Type 0 where
+  pub read : List ℕ
+  pub front : IsSomeAnd (get files name) (IsPrefix read)
+  pub short : length read ≤ dump_limit
+  pub parts : IsDump read packets rest
+
 -- it is there, of packets alone
 abbrev pub IsWholeDump : Files → List ℕ → Type 0
 IsWholeDump files name = (packets : List (List ℕ)) × HasDump files name packets []
@@ -97,7 +104,8 @@ AreWholeBefore files words link =
 
 -- ---- what is received
 
--- what a link receives: the moment, the route and the archive by which it does, the packets of its dump, and the rest
+-- what a link receives: the moment, the route and the archive by which it does, the packets of what it read of its dump,
+-- and the rest of that
 pub record ReceivedDump : Type 0 where
   pub by : Receiving
   pub packets : List (List ℕ)
@@ -107,23 +115,29 @@ pub record ReceivedDump : Type 0 where
 abbrev pub arrivals_of : ReceivedDump → List Row
 arrivals_of d = rows_received d.by d.packets
 
--- The link of this number receives the packets of its dump at a moment, for an archive, by the route over its tables.
+-- The link of this number receives the packets of what it read of its dump at a moment, for an archive, by the route
+-- over its tables.
 pub record IsReceived (files : Files) (moment : ℤ) (words : LoadWords) (before : FilledArchive) (link : ℕ)
     (d : ReceivedDump) : Type 0 where
   pub name : List ℕ
   pub comes : ComesBy words link name
-  pub has : HasDump files name d.packets d.rest
+  pub has : HasRead files name d.packets d.rest
   pub text : Option (List ℕ)
   pub named : HasRouteText files words.route text
   pub route : List RouteStatement
   pub routed : IsRouteAnswer before.plain text (Ok route)
   pub received : d.by ≡ receiving before.plain.head before.plain.history route link moment
 
+-- it does of its dump, which it read to its end
+abbrev pub IsReceivedWhole : Files → ℤ → LoadWords → FilledArchive → ℕ → ReceivedDump → Type 0
+IsReceivedWhole files moment words before link d =
+    (received : IsReceived files moment words before link d) × HasDump files received.name d.packets d.rest
+
 -- so each link does from this one on, to the last
 abbrev pub AreReceived : Files → ℤ → LoadWords → FilledArchive → ℕ → List ReceivedDump → Type 0
 AreReceived files moment words before link [] = link ≡ words.link + length words.dumps
 AreReceived files moment words before link (d ∷ dumps) =
-    IsReceived files moment words before link d × AreReceived files moment words before (suc link) dumps
+    IsReceivedWhole files moment words before link d × AreReceived files moment words before (suc link) dumps
 
 -- ---- 1. what the history became
 
@@ -135,8 +149,8 @@ IsLinkOf words link = (words.link ≤ link) × (link < words.link + length words
 abbrev pub rows_of_link : ℕ → List Row → List Row
 rows_of_link link rows = filter (λ row. row.link == link) rows
 
--- These rows came by a link: they are a sublist of the first arrivals of each table and key among the packets of its
--- dump; there are none where no dump is received.
+-- These rows came by a link: they are a sublist of the first arrivals of each table and key among the packets of what
+-- was read of its dump; there are none where no dump is received.
 abbrev pub HaveCome : Files → ℤ → LoadWords → FilledArchive → ℕ → List Row → Type 0
 HaveCome files moment words before link rows =
     (rows ≡ []) ⊎ ((d : ReceivedDump) × IsReceived files moment words before link d
@@ -165,7 +179,7 @@ IsWholeIn reached d = (d.rest ≡ []) × All (HasKeyIn reached) (arrivals_of d)
 -- the dump of the link of this number is so
 abbrev pub CameWhole : Files → ℤ → LoadWords → FilledArchive → List Item → ℕ → Type 0
 CameWhole files moment words before reached link =
-    (d : ReceivedDump) × IsReceived files moment words before link d × IsWholeIn reached d
+    (d : ReceivedDump) × IsReceivedWhole files moment words before link d × IsWholeIn reached d
 
 -- Each dump is so. Where there is one, the history is the one handed in with its arrivals.
 pub record AreReceivedWhole (files : Files) (moment : ℤ) (words : LoadWords) (before : FilledArchive)
@@ -188,7 +202,7 @@ arrived_of dumps = sum_by (λ d. length (arrivals_of d)) dumps
 
 -- ---- 5. a batch
 
--- the new rows of one batch behind a history: at most 64 successive packets of the dump of one link
+-- the new rows of one batch behind a history: at most 64 successive packets of what was read of the dump of one link
 pub record AreNewOfBatch (files : Files) (moment : ℤ) (words : LoadWords) (before : FilledArchive)
     (history : List Item) (rows : List Row) : Type 0 where
   pub link : ℕ

@@ -2,16 +2,20 @@
 use Rattle.std.specs.Prelude.{◌≡◌, ◌⊎◌, ◌<◌, ◌≤◌, ◌+◌, ◌-◌, ℕ, ℤ, List, [], ◌++◌, length, All, IsSome, true, false, Option, Some, None, Result, Ok, Err}
 use mathlib.Core.List.{IsPrefix}
 use Rattle.arch_disk.specs.Image.{Image}
-use Rattle.arch_disk.specs.Disk.{Device, LeavesOnly, raised}
+use Rattle.arch_disk.specs.Disk.{Device, LeavesOnly}
 use Rattle.arch_types.specs.declared.row.Row.{Row}
 use Rattle.asks.specs.declared.ask.Ask.{Ask}
 use Rattle.refusals.specs.declared.refusal.Refusal.{Refusal}
 use Rattle.refusals.specs.declared.refusal.BadKind.{BadKind}
+use Rattle.refusals.specs.declared.refusal.BadKind.TheVariants.{Truncated, Version}
+use Rattle.std.specs.FinMap.{get}
 use Rattle.refusals.specs.declared.refusal.Refusal.TheVariants.{BadPacket, Limit, NeedsReopen, OutOfMemory, WriteFault}
 use Rattle.refusals.specs.declared.refusal.Which.{Which}
 use Rattle.refusals.specs.declared.refusal.Which.TheVariants.{DumpOctets, Records}
 use Rattle.refusals.specs.Limits.{limit_of}
 use Rattle.outer_traits.specs.Outside.{Files}
+use Rattle.space_packet.specs.declared.dump.Why.TheVariants as why
+use Rattle.space_packet.specs.Rest.{why_of}
 use Rattle.archive_history.specs.Limits.{PassesFirst}
 use Rattle.archive_history.specs.declared.row_limit.RowLimit.{RowLimit}
 use Rattle.history_items.specs.declared.items.Item.{Item}
@@ -68,13 +72,15 @@ pub record IsLoadPrinted {D : Type 0} (device : Device D) (e : Call D) (files : 
 
 -- ---- 4. what is reported at status 0
 
--- the rows that came, the packets, the idle ones, and the arrivals that were there, of all dumps together
+-- the rows that came, the packets, the idle ones, and the arrivals that were there, of all dumps together; no link
+-- is named
 pub record IsLoadCounted {D : Type 0} (e : Call D) (before : FilledArchive) (reached : List Item)
     (dumps : List ReceivedDump) : Type 0 where
   pub new : e.report.new ≡ length reached - length before.plain.history
   pub packets_are : e.report.packets ≡ packets_of dumps
   pub idle : e.report.idle ≡ idle_of dumps
   pub duplicates : e.report.duplicates ≡ arrived_of dumps - e.report.new
+  pub no_link : e.report.link ≡ None
 
 -- ---- 5. crashes
 
@@ -98,19 +104,21 @@ IsReachedIn files moment words before reached image =
 
 -- ---- a refusal of the session
 
--- What a refusal is told over: the history that was reached, of which the disk handed back tells by its first `after`
--- rows.
+-- What a refusal is reported over: the history that was reached, of which the disk handed back tells by its first
+-- `after` rows. Where there is one dump, the disk stands for just that history.
 pub record IsReached {D : Type 0} (device : Device D) (e : Call D) (files : Files) (moment : ℤ) (words : LoadWords)
     (before : FilledArchive) (reached : List Item) : Type 0 where
   pub held : IsReachedIn files moment words before reached (device.reads e.disk')
+  pub alone : length words.dumps ≡ 1 → StandsFor (device.reads e.disk') (with_history before.plain reached)
   pub after : e.report.after ≡ length reached
   pub grown : IsGrown files moment words before reached
 
--- The rows of a history on the way and the new ones of one batch pass a limit of a history; where there is one dump,
--- those of the whole history that was reached.
+-- The rows of a history on the way, which has no fewer than the one handed in, and the new ones of one batch pass a
+-- limit of a history; where there is one dump, those of the whole history that was reached.
 pub record ArePassed (files : Files) (moment : ℤ) (words : LoadWords) (before : FilledArchive) (reached : List Item)
     (which : Which) : Type 0 where
   pub history : List Item
+  pub no_fewer : IsPrefix before.plain.history history
   pub within : IsPrefix history reached
   pub alone : length words.dumps ≡ 1 → history ≡ reached
   pub rows : List Row
@@ -119,12 +127,13 @@ pub record ArePassed (files : Files) (moment : ℤ) (words : LoadWords) (before 
   pub which_is : which ≡ limit_of_history limit
   pub passes : PassesFirst before.plain.exponent limit (rows_in (history ++ items_of rows))
 
--- the log that is handed back, with a record for each row that came, reaches the limit; or a call of the disk failed
+-- where the disk failed at most once, the log that is handed back, with a record for each row that came, reaches the
+-- limit
 abbrev pub AreRecordsPassed : {D : Type 0} → Device D → Call D → FilledArchive → List Item → Type 0
 AreRecordsPassed device e before reached =
-    (raised (device.fault_count e.disk) ≤ device.fault_count e.disk')
-    ⊎ ((records : ℕ) × HasRecordCount (device.reads e.disk') records
-    × (limit_of Records + length before.plain.history ≤ records + length reached))
+    FailedAtMostOnce device e.disk e.disk' →
+    (records : ℕ) × HasRecordCount (device.reads e.disk') records
+    × (limit_of Records + length before.plain.history ≤ records + length reached)
 
 -- A limit was passed: by the rows of a history on the way and a batch, or by the records of the log.
 pub record WasOverLimit {D : Type 0} (device : Device D) (e : Call D) (files : Files) (clock : Option ℤ)
@@ -138,15 +147,16 @@ pub record WasOverLimit {D : Type 0} (device : Device D) (e : Call D) (files : F
   pub passed : ArePassed files moment words before reached which
       ⊎ ((which ≡ Records) × AreRecordsPassed device e before reached)
 
--- a write of the disk failed in the turn of another job: the refusal tells the count of faults that the disk came to
+-- a write of the disk failed in the turn of another job: the refusal names the count of faults that the disk
+-- came to
 abbrev pub WasPending : {D : Type 0} → Device D → Call D → Type 0
 WasPending device e =
-    (faults : ℕ) × (e.report.refusal ≡ Some (NeedsReopen faults)) × IsCountedSince device e.disk e.disk' (Some faults)
+    (faults : ℕ) × (e.report.refusal ≡ Some (NeedsReopen faults)) × (e.report.opened ≡ true)
+    × IsCountedSince device e.disk e.disk' (Some faults)
 
--- It is told of the dump of the link of this number, which is reported: the dumps of the links before it are whole, and
--- the table and key of each of their arrivals are in the history that was reached. Where there is one dump, the disk
--- that is handed back stands for just that history.
-pub record IsToldOf {D : Type 0} (device : Device D) (e : Call D) (files : Files) (clock : Option ℤ)
+-- It is reported of the dump of the link of this number, which is named: the dumps of the links before it are whole,
+-- and the table and key of each of their arrivals are in the history that was reached.
+pub record IsReportedOf {D : Type 0} (device : Device D) (e : Call D) (files : Files) (clock : Option ℤ)
     (words : LoadWords) (before : FilledArchive) (link : ℕ) : Type 0 where
   pub moment : ℤ
   pub known : IsMomentOf clock moment
@@ -154,26 +164,31 @@ pub record IsToldOf {D : Type 0} (device : Device D) (e : Call D) (files : Files
   pub holds : IsReached device e files moment words before reached
   pub earlier : (other : ℕ) → words.link ≤ other → other < link → CameWhole files moment words before reached other
   pub named : e.report.link ≡ Some link
-  pub alone : length words.dumps ≡ 1 → StandsFor (device.reads e.disk') (with_history before.plain reached)
 
 -- Its rest is no packet: all of its packets were ingested, and the table and key of each of its arrivals are in that
--- history. The refusal names the octet of the dump at which no packet begins.
+-- history. The refusal names the octet of the dump at which no packet begins. It was read to that octet, or to its end
+-- where its last packet is cut off.
 pub record IsBroken {D : Type 0} (device : Device D) (e : Call D) (files : Files) (clock : Option ℤ)
     (words : LoadWords) (before : FilledArchive) (link at : ℕ) (kind : BadKind) : Type 0 where
-  pub told : IsToldOf device e files clock words before link
+  pub reported : IsReportedOf device e files clock words before link
   pub d : ReceivedDump
-  pub received : IsReceived files told.moment words before link d
-  pub there : All (HasKeyIn told.reached) (arrivals_of d)
-  pub bad : IsBadRest received.has.dump d.rest at kind
+  pub received : IsReceived files reported.moment words before link d
+  pub there : All (HasKeyIn reported.reached) (arrivals_of d)
+  pub bad : IsBadRest received.has.read d.rest at kind
+  pub to_end : kind ≡ Truncated → get files received.name ≡ Some received.has.read
   pub refusal : e.report.refusal ≡ Some (BadPacket at kind)
 
--- It is longer than a dump may be.
+-- It is longer than a dump may be, and no octets of another version wait within the limit: all of its packets up to
+-- there were ingested, and the table and key of each of their arrivals are in that history.
 pub record IsOverlong {D : Type 0} (device : Device D) (e : Call D) (files : Files) (clock : Option ℤ)
     (words : LoadWords) (before : FilledArchive) (link : ℕ) : Type 0 where
-  pub told : IsToldOf device e files clock words before link
-  pub name : List ℕ
-  pub comes : ComesBy words link name
-  pub long : IsLongDump files name
+  pub reported : IsReportedOf device e files clock words before link
+  pub d : ReceivedDump
+  pub received : IsReceived files reported.moment words before link d
+  pub long : IsLongDump files received.name
+  pub to_limit : length received.has.read ≡ dump_limit
+  pub no_version : why_of d.rest ≡ why.Version → ⊥
+  pub there : All (HasKeyIn reported.reached) (arrivals_of d)
   pub refusal : e.report.refusal ≡ Some (Limit DumpOctets dump_limit)
 
 -- ---- the clauses
@@ -265,8 +280,8 @@ IsLoadRefusal archive words text sheet refusal =
 -- Where no archive was opened the disk is as it was, and nothing is printed. Too many dumps or fillers are told first.
 -- A file that isn't there is named, and one that is too long told by its limit, and no other is; a disk with no archive
 -- or a damaged one is told of, and then the links, the route or the asks that are refused. Where none of them is, dumps
--- of packets alone have status 0; else the first dump by its link that is too long or has a rest is told with that, and
--- no other; but for want of memory, calls that fail, and limits that the rows or the log pass.
+-- of packets alone have status 0; else the first dump by its link that is too long or has a rest is told with what its
+-- reading meets first, and no other; but for want of memory, calls that fail, and limits that the rows or the log pass.
 pub record IsLoadedOrNot {D : Type 0} (device : Device D) (e : Call D) (files : Files) (clock : Option ℤ)
     (words : LoadWords) : Type 0 where
   pub opened : e.report.opened ≡ true → IsLoaded device e files clock words
@@ -291,7 +306,8 @@ pub record IsLoadedOrNot {D : Type 0} (device : Device D) (e : Call D) (files : 
   pub overlong : (before : FilledArchive) (link : ℕ) (name : List ℕ) → IsAsked device e files words before
       → AreThere files words.dumps → AreWholeBefore files words link → ComesBy words link name
       → IsLongDump files name → IsOverlong device e files clock words before link
-      ⊎ (WasInterrupted device e ⊎ ((words.link < link) × WasHindered device e files clock words before))
+      ⊎ (((at : ℕ) × IsBroken device e files clock words before link at Version)
+      ⊎ WasHindered device e files clock words before)
   pub broken : (before : FilledArchive) (link : ℕ) (name : List ℕ) (packets : List (List ℕ)) (rest : List ℕ)
       → (at : ℕ) (kind : BadKind) → IsAsked device e files words before → AreThere files words.dumps
       → AreWholeBefore files words link → ComesBy words link name → (has : HasDump files name packets rest)
@@ -302,7 +318,7 @@ pub record IsLoadedOrNot {D : Type 0} (device : Device D) (e : Call D) (files : 
   pub only_broken : (at : ℕ) (kind : BadKind) → e.report.refusal ≡ Some (BadPacket at kind)
       → HeldArchive device e (λ before. (link : ℕ) × IsBroken device e files clock words before link at kind)
   pub only_pending : (faults : ℕ) → e.report.refusal ≡ Some (NeedsReopen faults)
-      → IsCountedSince device e.disk e.disk' (Some faults)
+      → (e.report.opened ≡ true) × IsCountedSince device e.disk e.disk' (Some faults)
 
 -- so it is of each call for this job
 abbrev pub LoadClause : {D : Type 0} → Device D → Type 0

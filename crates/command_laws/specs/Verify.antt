@@ -1,12 +1,12 @@
 -- The clause of `verify`.
-use Rattle.std.specs.Prelude.{◌≡◌, ◌⊎◌, ℤ, IsSomeAnd, Option, Some, []}
+use Rattle.std.specs.Prelude.{◌≡◌, ◌⊎◌, ℤ, IsSomeAnd, true, Option, Some, []}
 use Rattle.arch_disk.specs.Disk.{Device}
 use Rattle.refusals.specs.declared.refusal.Refusal.{Refusal}
 use Rattle.refusals.specs.declared.refusal.Refusal.TheVariants.{Mismatch}
 use Rattle.outer_traits.specs.Outside.{Files}
 use Rattle.archive_store.specs.Entries.{FilledArchive}
 use Rattle.archive_store.specs.Stands.{IsSoundImage, StandsFilled}
-use Rattle.archive_verify.specs.Verified.{TellsMismatch}
+use Rattle.archive_verify.specs.Verified.{ReportsMismatch}
 use Rattle.command_words.specs.Job.{Verify}
 use Rattle.archive_commands.specs.Verify.{verify_line}
 use Rattle.command_laws.specs.Calls.{Call, HeldArchive, IsNoArchive, IsRefusedBy, IsRun, LeavesAll, Prints, PrintsSome, Succeeded, WasInterrupted}
@@ -16,10 +16,12 @@ abbrev pub IsMismatch : Refusal → Type 0
 IsMismatch (Mismatch interval name key stored replayed) = Unit {0}
 IsMismatch other = ⊥
 
--- what a mismatch tells of the disk handed in: it is the first one of its archive, whose fills aren't sound
+-- what a mismatch tells of the disk handed in: an archive was opened, whose first mismatch it is, and its fills aren't
+-- sound
 abbrev pub IsUnsound : {D : Type 0} → Device D → Call D → Refusal → Type 0
 IsUnsound device e refusal =
-    HeldArchive device e (λ filled. TellsMismatch filled refusal) × (IsSoundImage (device.reads e.disk) → ⊥)
+    (e.report.opened ≡ true) × HeldArchive device e (λ filled. ReportsMismatch filled refusal)
+    × (IsSoundImage (device.reads e.disk) → ⊥)
 
 -- It leaves all. At status 0 the archive is sound, and its line is printed; at a mismatch it isn't, and the mismatch is
 -- its first. Where none is, or it is damaged, the refusal says so. A sound one is found so, and one that isn't has its

@@ -2,12 +2,14 @@
 
 ghost use Rattle.command_laws.specs.Create.{CreateClause};
 ghost use Rattle.command_laws.specs.Load.{LoadClause};
+ghost use Rattle.command_laws.specs.Make.{MakeClause};
 ghost use Rattle.command_laws.specs.Query.{QueryClause};
 ghost use Rattle.command_laws.specs.Recover.{RecoverClause};
 ghost use Rattle.command_laws.specs.Scan.{ScanClause};
 ghost use Rattle.command_laws.specs.Sql.{SqlClause};
 ghost use Rattle.command_laws.specs.Values.{ValuesClause};
 ghost use Rattle.command_laws.specs.Verify.{VerifyClause};
+ghost use Rattle.command_laws.specs.Watched.{WatchedJobsAgree};
 
 use arch_disk::Disk;
 
@@ -26,10 +28,16 @@ pub fn create_clause<D: Disk>()
     ensures { CreateClause D.device }
 {}
 
-/// `load` lets the history grow by first arrivals of its dumps, each by a link of its own, answers over histories on the
-/// way, and leaves no interval late; a crash at any moment leaves such a history too.
+/// `load` lets the history grow by first arrivals of its dumps, each by a link of its own, answers over histories on
+/// the way, and leaves no interval late; a crash at any moment leaves such a history too.
 pub fn load_clause<D: Disk>()
     ensures { LoadClause D.device }
+{}
+
+/// `make` makes an archive where there is none, as `create` does, and loads made packets into it, as `load` does files
+/// of them; at status 0 it prints their summary.
+pub fn make_clause<D: Disk>()
+    ensures { MakeClause D.device }
 {}
 
 /// `query --sql` answers each statement over the whole history, and changes neither that nor the disk.
@@ -51,4 +59,9 @@ pub fn recover_clause<D: Disk>()
 /// `verify` leaves all, finds exactly a sound archive sound, and tells the first mismatch of any other.
 pub fn verify_clause<D: Disk>()
     ensures { VerifyClause D.device }
+{}
+
+/// What a terminal is shown of `load` and `make` is counted as their links send it.
+pub fn watched_jobs_agree()
+    ensures { WatchedJobsAgree }
 {}
