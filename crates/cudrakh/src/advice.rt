@@ -24,6 +24,7 @@ const FORMS: &str = "\
     cudrakh query --ask FILE\n\
     cudrakh recover\n\
     cudrakh verify\n\
+    cudrakh make NUMBER\n\
     YARCH_HOME names the archive's folder; it and all words are UTF-8";
 
 /// What to do about a refusal.

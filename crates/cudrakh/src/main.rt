@@ -13,10 +13,11 @@ use crate::printed::PrintedFault;
 use arch_disk::Disk;
 use archive_cli::Ended;
 use archive_cli::run::run;
+use load_progress::{WatchedJobs, watched_jobs};
 use outer_real::{
-    ArchiveLock, RealClock, RealDisk, RealInputs, RealSink, StandardStreams, keep_freed_memory,
+    ArchiveLock, RealClock, RealDisk, RealInputs, RealSink, StandardStreams, Watch,
+    keep_freed_memory,
 };
-use outer_traits::gate::OpenGate;
 use refusals::Refusal;
 use std::env::{self, VarError};
 use std::io::{ErrorKind, IsTerminal};
@@ -46,6 +47,7 @@ fn run_command<R: Threads + Wait + Sync>(rt: &HostRuntime, threads: &R) -> ExitC
         Err(refusal) => return refused(rt, &refusal),
     };
     let lock = ArchiveLock::new();
+    let watch = Watch::new(rt, load_watched(rt, words.as_slice()));
     let Ended {
         status,
         disk,
@@ -56,9 +58,9 @@ fn run_command<R: Threads + Wait + Sync>(rt: &HostRuntime, threads: &R) -> ExitC
         words.as_slice(),
         RealDisk::new(rt.alloc(), rt, folder, Some(&lock)),
         &mut RealInputs::new(rt),
-        &mut RealSink::new(rt, &lock),
+        &mut RealSink::new(rt, &lock, &watch),
         &mut RealClock::new(rt),
-        &OpenGate,
+        &watch,
     );
     let disk_state = if disk.is_busy() {
         DiskState::Busy
@@ -69,17 +71,32 @@ fn run_command<R: Threads + Wait + Sync>(rt: &HostRuntime, threads: &R) -> ExitC
     };
     drop(disk);
     lock.give_back();
+    watch.end();
     if let Some(refusal) = &report.refusal {
-        say(rt, refusal, disk_state);
+        say(rt, refusal, report.link, disk_state);
     }
     ExitCode::from(status)
 }
 
-/// Says on standard error why a command was refused, and on a terminal behind that what to do.
-fn say(rt: &HostRuntime, refusal: &Refusal, disk: DiskState) {
+/// The jobs of a load that somebody watches, where standard error is a terminal.
+fn load_watched(rt: &HostRuntime, words: &[String]) -> Option<WatchedJobs> {
+    if !rt.stderr().is_terminal() {
+        return None;
+    }
+    let jobs = watched_jobs(rt.alloc(), words).ok()?;
+    (jobs.links > 0).then_some(jobs)
+}
+
+/// Says on standard error why a command was refused; on a terminal behind that of which dump, if of one, and what to do.
+fn say(rt: &HostRuntime, refusal: &Refusal, link: Option<u16>, disk: DiskState) {
     let _ = eprintln!(rt; "{}", PrintedFault(refusal));
     if !rt.stderr().is_terminal() {
         return;
+    }
+    if let Some(link) = link {
+        let _ = eprintln!(rt;
+            "it is the dump of link {link}; links are counted from --link on, or from 1"
+        );
     }
     let _ = eprintln!(rt; "{}", advice(refusal, disk));
     if disk == DiskState::Failed && !matches!(refusal, Refusal::DiskFault) {
@@ -89,7 +106,7 @@ fn say(rt: &HostRuntime, refusal: &Refusal, disk: DiskState) {
 
 /// Says on standard error why nothing was begun, and gives the status of that.
 fn refused(rt: &HostRuntime, refusal: &Refusal) -> ExitCode {
-    say(rt, refusal, DiskState::Worked);
+    say(rt, refusal, None, DiskState::Worked);
     ExitCode::from(refusal.status())
 }
 

@@ -9,7 +9,8 @@
 //
 // `inputs`, `sink` and `clock` are the objects of a command that reads and prints; `pipes` reads an input that has to be waited for. `disk`
 // counts the failed calls of the disk, `folder` makes them on files that it locks, and `handles` keeps a few of these files open; `lock` is
-// the one by which other programs are kept off, until the sink gives it back. `streams` keeps the standard streams from all of them. The
+// the one by which other programs are kept off, until the sink gives it back. `watch` counts what passes the gate of a
+// load, and shows it on a terminal until the sink ends it. `streams` keeps the standard streams from all of them. The
 // program's `main` makes one of each, `streams` first, and hands them to the top call; no other crate names these types. `memory` tells the
 // C library to keep memory that is given back.
 #![tactic(auto)]
@@ -24,6 +25,7 @@ mod memory;
 mod pipes;
 mod sink;
 mod streams;
+mod watch;
 
 pub use clock::RealClock;
 pub use disk::RealDisk;
@@ -32,3 +34,4 @@ pub use lock::ArchiveLock;
 pub use memory::keep_freed_memory;
 pub use sink::RealSink;
 pub use streams::StandardStreams;
+pub use watch::Watch;

@@ -7,9 +7,10 @@ use std::{fs, io};
 /// The last of the standard streams.
 const STANDARD_ERROR: RawFd = 2;
 
-/// Those of the descriptors 0 to 2 that were free, as long as it lives. The system gives a file that is opened the first descriptor that is
-/// free. So where a program starts with one of these closed, a file of the archive would take its place, and what is printed would be written
-/// into that file. Folders that are opened to be read take the place first: then a write to a closed stream fails, and touches no file (D-60).
+/// Those of the descriptors 0 to 2 that were free, as long as it lives. The system gives a file that is opened the
+/// first descriptor that is free. So where a program starts with one of these closed, a file of the archive would take
+/// its place, and what is printed would be written into that file. Folders that are opened to be read take the place
+/// first: then a write to a closed stream fails, and touches no file (D-60).
 #[derive(Drop)]
 pub struct StandardStreams<F> {
     _folders: [Option<F>; 3],
