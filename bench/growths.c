@@ -6,6 +6,7 @@
 #include <fcntl.h>
 #include <stdio.h>
 #include <stdlib.h>
+#include <sys/syscall.h>
 #include <unistd.h>
 
 static long made;
@@ -45,8 +46,15 @@ void *aligned_alloc(size_t align, size_t size) {
   return refused() ? NULL : own(align, size);
 }
 
-__attribute__((destructor)) static void tell(void) {
+static void tell(void) {
   const char *name = getenv("GROWTHS");
   int file = name ? open(name, O_WRONLY | O_CREAT | O_TRUNC, 0600) : -1;
   if (file >= 0) dprintf(file, "%ld\n", made);
+}
+
+/* The program ends by this call, which runs no destructor. */
+void _exit(int status) {
+  tell();
+  syscall(SYS_exit_group, status);
+  __builtin_unreachable();
 }

@@ -84,7 +84,7 @@ def main():
     random.seed(int(sys.argv[2]) if len(sys.argv) > 2 else 1)
     top = tempfile.mkdtemp(prefix="cudrakh-kills-", dir="/dev/shm" if os.path.isdir("/dev/shm") else None)
     try:
-        for name, each in (("create", create), ("load", load), ("load behind a load", load_more), ("load of two links", load_links), ("recover", recover), ("verify", verify), ("query", query)):
+        for name, each in (("create", create), ("load", load), ("load behind a load", load_more), ("load of two links", load_links), ("make", make), ("recover", recover), ("verify", verify), ("query", query)):
             killed = tried = 0
             for was_killed in each(top):
                 tried, killed = tried + 1, killed + was_killed
@@ -176,6 +176,21 @@ def load_links(top):
         status, said = archive.run(*words)
         assert (status, said) == (0, f"load packets 12800 new {12800 - rows} duplicates {rows} idle 0 rows 12800"), said
         assert archive.run("recover") == (0, "recovered rows 12800 filled 0")
+        yield killed
+
+
+def make(top):
+    """What was made of an archive is sound, and stands in the way of another."""
+    moments = Moments(timed(lambda: fresh(top).run("make", "7")))
+    while True:
+        archive = fresh(top)
+        killed = archive.killed(moments, "make", "7")
+        rows = archive.rows()
+        assert rows is None or rows <= 30_800, rows
+        if rows is not None:
+            assert archive.run("make", "7") == (1, "archive exists")
+            assert archive.run("recover")[0] == 0
+            assert archive.run("verify")[1].endswith(" late 0")
         yield killed
 
 

@@ -759,6 +759,8 @@ const UNREAD: &[Unread] = &[
         (2, "", "limit Links 255", Some((0, 0))),
     ),
     ("query --ask bad", 1, (3, "", "read fault", None)),
+    // The octets of the first read were taken.
+    ("load twice", 2, (3, "", "read fault", Some((0, 2)))),
 ];
 
 fn unread() -> &'static [Unread] {

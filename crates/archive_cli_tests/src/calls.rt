@@ -181,6 +181,38 @@ pub(crate) fn ends_so<D: Disk + Send + Drop, R: Threads + Wait + Sync>(
     is_so
 }
 
+/// What a call has to report of a load's dumps: the link of the one that is refused, all packets, new rows, duplicates,
+/// and idle packets.
+pub(crate) type Reported = (Option<u16>, u64, u64, u64, u64);
+
+fn is_reported(report: &Report, want: &Reported) -> bool {
+    let (link, packets, new, duplicates, idle) = *want;
+    report.link == link
+        && report.packets == packets
+        && report.new == new
+        && report.duplicates == duplicates
+        && report.idle == idle
+}
+
+/// Whether a call reports this, and its disk.
+pub(crate) fn reports<D: Disk + Send, R: Threads + Wait + Sync>(
+    rt: &R,
+    alloc: Global,
+    line: &str,
+    outside: &Outside<'_>,
+    disk: D,
+    want: &Reported,
+) -> (bool, D) {
+    match taken(alloc, line, outside) {
+        Ok(taken) => {
+            let (ended, _octets) = printed(rt, alloc, taken, disk);
+            let is_so = is_reported(&ended.report, want);
+            (is_so, ended.disk)
+        }
+        Err(_) => (false, disk),
+    }
+}
+
 /// What came of a call of which nothing is expected yet.
 #[derive(Clone, Copy)]
 pub(crate) struct Outcome {
@@ -198,14 +230,14 @@ const OUT_OF_MEMORY: Outcome = Outcome {
     printed: 0,
 };
 
-/// What came of a call, and its disk.
-pub(crate) fn call<D: Disk + Send, R: Threads + Wait + Sync>(
+/// What came of a call, what it printed, and its disk.
+pub(crate) fn text_of<D: Disk + Send, R: Threads + Wait + Sync>(
     rt: &R,
     alloc: Global,
     line: &str,
     outside: &Outside<'_>,
     disk: D,
-) -> (Outcome, D) {
+) -> (Outcome, Vec<u8>, D) {
     match taken(alloc, line, outside) {
         Ok(taken) => {
             let (ended, octets) = printed(rt, alloc, taken, disk);
@@ -214,10 +246,22 @@ pub(crate) fn call<D: Disk + Send, R: Threads + Wait + Sync>(
                 after: ended.report.after,
                 printed: octets.len(),
             };
-            (outcome, ended.disk)
+            (outcome, octets, ended.disk)
         }
-        Err(_) => (OUT_OF_MEMORY, disk),
+        Err(_) => (OUT_OF_MEMORY, Vec::new(alloc), disk),
     }
+}
+
+/// What came of a call, and its disk.
+pub(crate) fn call<D: Disk + Send, R: Threads + Wait + Sync>(
+    rt: &R,
+    alloc: Global,
+    line: &str,
+    outside: &Outside<'_>,
+    disk: D,
+) -> (Outcome, D) {
+    let (outcome, _text, disk) = text_of(rt, alloc, line, outside, disk);
+    (outcome, disk)
 }
 
 /// Ends a test: with a failure where a row of its table goes otherwise, or a call by its number. In place of an assertion, which costs seconds more to prove.

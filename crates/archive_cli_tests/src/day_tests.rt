@@ -15,7 +15,7 @@ use std::thread::Threads;
 
 const DAY: &[&str] = &[
     CREATE,
-    "load twice",
+    "load --fillers 2 twice third",
     "load --ask asks later",
     "recover",
     "verify",
@@ -34,14 +34,14 @@ const EVENING: &[Call] = &[
         "query --ask asks",
         (
             0,
-            "ask 1 front 3\ncell 1500 140886016 7 7\nend 1\n",
+            "ask 1 front 4\ncell 1500 140951552 8 8\nend 1\n",
             "",
-            Some((3, 3)),
+            Some((4, 4)),
         ),
     ),
     (
         "verify",
-        (0, "sound rows 3 intervals 2 late 0\n", "", Some((3, 3))),
+        (0, "sound rows 4 intervals 2 late 0\n", "", Some((4, 4))),
     ),
 ];
 
@@ -122,7 +122,8 @@ fn came_of<D: Disk + Send + Drop, R: Threads + Wait + Sync>(
     }
 }
 
-/// The first call of the disk of whose fault something else comes. A day makes some sixty: if these are few, it is call 0.
+/// The first call of the disk of whose fault something else comes. A day makes some seventy, and how many goes by
+/// which job of a load comes first: if these are few, it is call 0.
 fn wrong_day<R: Threads + Wait + Sync>(rt: &R, alloc: Global) -> Option<u64> {
     for fails in 1..200u64 {
         match came_of(rt, alloc, failing(alloc, &[fails])) {
@@ -139,20 +140,33 @@ fn each_call_of_the_disk_fails_in_turn(rt: HostRuntime) -> Result<(), Fail> {
     none_other(wrong_day(&rt, rt.alloc()))
 }
 
-/// Whether what a crash left opens and is sound, with as many rows as before a command or behind it; before a `create` there may be none.
+/// A command, and how many rows the archive has before it, where there is one, and behind it.
+#[derive(Clone, Copy)]
+struct Step {
+    line: &'static str,
+    before: Option<u64>,
+    /// How many a crash within it may leave, too: either of two links may be the first.
+    between: &'static [u64],
+    behind: u64,
+}
+
+/// Whether what a crash left opens and is sound, with rows as a step may leave them; before a `create` there may be no archive. The step's command makes
+/// it whole then.
 fn opens<D: Disk + Send + Drop, R: Threads + Wait + Sync>(
     rt: &R,
     alloc: Global,
     image: D,
-    before: Option<u64>,
-    behind: u64,
+    step: &Step,
 ) -> bool {
     let (found, _, image) = command(rt, alloc, "verify", image);
-    let (status, rows, _image) = command(rt, alloc, "recover", image);
+    let (status, rows, image) = command(rt, alloc, "recover", image);
+    let (again, whole, _image) = command(rt, alloc, step.line, image);
     if status == 1 {
-        return before.is_none();
+        return step.before.is_none() && again == 0;
     }
-    found == 0 && status == 0 && (before == Some(rows) || rows == behind)
+    let are_kept = step.before == Some(rows) || step.between.contains(&rows) || rows == step.behind;
+    let is_whole = (again == 0 && whole == step.behind) || (again == 1 && step.line == CREATE);
+    found == 0 && status == 0 && are_kept && is_whole
 }
 
 /// The same of each kind of crash at a moment.
@@ -161,12 +175,11 @@ fn all_open<D: Crashing, R: Threads + Wait + Sync>(
     alloc: Global,
     disk: &D,
     moment: usize,
-    before: Option<u64>,
-    behind: u64,
+    step: &Step,
 ) -> bool {
     for crash in Crash::ALL {
         let is_so = match disk.image_at(moment, crash) {
-            Some(image) => opens(rt, alloc, image, before, behind),
+            Some(image) => opens(rt, alloc, image, step),
             None => false,
         };
         if !is_so {
@@ -182,25 +195,41 @@ fn all_open_since<D: Crashing, R: Threads + Wait + Sync>(
     alloc: Global,
     disk: &D,
     from: usize,
-    before: Option<u64>,
-    behind: u64,
+    step: &Step,
 ) -> bool {
     for moment in from..disk.kept() {
-        if !all_open(rt, alloc, disk, moment.saturating_add(1), before, behind) {
+        if !all_open(rt, alloc, disk, moment.saturating_add(1), step) {
             return false;
         }
     }
     true
 }
 
-/// A command, and how many rows the archive has before it, where there is one, and behind it.
-type Step = (&'static str, Option<u64>, u64);
-
 const STEPS: &[Step] = &[
-    (CREATE, None, 0),
-    ("load twice", Some(0), 2),
-    ("load later", Some(2), 3),
-    ("recover", Some(3), 3),
+    Step {
+        line: CREATE,
+        before: None,
+        between: &[],
+        behind: 0,
+    },
+    Step {
+        line: "load twice",
+        before: Some(0),
+        between: &[],
+        behind: 2,
+    },
+    Step {
+        line: "load --fillers 2 third later",
+        before: Some(2),
+        between: &[3],
+        behind: 4,
+    },
+    Step {
+        line: "recover",
+        before: Some(4),
+        between: &[],
+        behind: 4,
+    },
 ];
 
 fn steps() -> &'static [Step] {
@@ -208,7 +237,12 @@ fn steps() -> &'static [Step] {
 }
 
 /// The fills of two intervals are wanting.
-const FILLS: &[Step] = &[("recover", Some(3), 3)];
+const FILLS: &[Step] = &[Step {
+    line: "recover",
+    before: Some(3),
+    between: &[],
+    behind: 3,
+}];
 
 fn fills() -> &'static [Step] {
     FILLS
@@ -221,11 +255,10 @@ fn is_right_across<D: Crashing, R: Threads + Wait + Sync>(
     step: &Step,
     disk: D,
 ) -> (bool, D) {
-    let (line, before, behind) = *step;
     let from = disk.kept();
-    let (status, rows, disk) = command(rt, alloc, line, disk);
-    let are_open = all_open_since(rt, alloc, &disk, from, before, behind);
-    (status == 0 && rows == behind && are_open, disk)
+    let (status, rows, disk) = command(rt, alloc, step.line, disk);
+    let are_open = all_open_since(rt, alloc, &disk, from, step);
+    (status == 0 && rows == step.behind && are_open, disk)
 }
 
 /// The place of the first of these commands of which it isn't so.
@@ -277,7 +310,7 @@ const READERS: &[Reader] = &[
     ),
     ("create parameters calibrations containers copy", false, 4),
     ("load twice", true, 1),
-    ("load --route all --ask asks twice", true, 3),
+    ("load --route all --ask asks twice third", true, 4),
     ("query --ask asks", true, 1),
     ("query --sql script", true, 1),
 ];

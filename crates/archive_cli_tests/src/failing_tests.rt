@@ -212,6 +212,37 @@ fn a_load_on_a_failing_disk(rt: HostRuntime) -> Result<(), Fail> {
     none_other(wrong_load(&rt, rt.alloc()))
 }
 
+/// Whether a `make` on a disk of which one call fails says so, and leaves what it reports, whatever a crash leaves: an archive of so many rows, or none.
+fn fails_to_make<D: Crashing, R: Threads + Wait + Sync>(rt: &R, alloc: Global, disk: D) -> bool {
+    let (status, rows, disk) = call(rt, alloc, "make 7", disk);
+    let holds_none = rows == 0 && images_hold_none(rt, alloc, &disk);
+    let are_kept = holds_none || images_hold(rt, alloc, &disk, rows);
+    let want = if holds_none { (1, 0) } else { (0, rows) };
+    status == 5 && are_kept && recovered(rt, alloc, disk) == want
+}
+
+/// Calls of a `make`: all of the making of the archive, and some of the batches and fills behind it. It ends soon behind the one that fails.
+const CALLS_OF_MAKE: &[u64] = &[1, 2, 3, 4, 5, 6, 7, 8, 9, 10, 11, 12, 14, 17, 40];
+
+fn calls_of_make() -> &'static [u64] {
+    CALLS_OF_MAKE
+}
+
+/// The first of these that leaves something else where it fails.
+fn wrong_make<R: Threads + Wait + Sync>(rt: &R, alloc: Global, calls: &[u64]) -> Option<u64> {
+    for fails in calls {
+        if !fails_to_make(rt, alloc, failing(alloc, &[*fails])) {
+            return Some(*fails);
+        }
+    }
+    None
+}
+
+#[test]
+fn a_make_on_a_failing_disk(rt: HostRuntime) -> Result<(), Fail> {
+    none_other(wrong_make(&rt, rt.alloc(), calls_of_make()))
+}
+
 /// How many calls a command makes on a disk that holds no archive.
 fn calls_of<D: Crashing, R: Threads + Wait + Sync>(
     rt: &R,

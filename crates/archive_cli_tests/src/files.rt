@@ -24,6 +24,9 @@ const LATE_BROKEN: &[u8] =
 const BROKEN: &[u8] =
     b"\x08\x64\xC0\x00\x00\x06\x00\x00\x00\x01\x80\x00\x2A\x07\xFF\xC0\x00\x00\x00\x00\x28";
 
+/// An idle packet.
+const IDLE: &[u8] = b"\x07\xFF\xC0\x00\x00\x00\x00";
+
 const PARAMETERS: NamedFile<'static> = (
     "parameters",
     b"name,coding,bits,calibration\napid,uint,11,\nv,uint,8,\n",
@@ -109,6 +112,7 @@ const FILES: &[NamedFile<'static>] = &[
     ("later", LATER),
     ("late_broken", LATE_BROKEN),
     ("broken", BROKEN),
+    ("idle", IDLE),
 ];
 
 /// All of them. A function, as each table of these tests is, so that they stand in no goal of its callers.

@@ -18,8 +18,14 @@ mod in_a_row;
 #[cfg(test)]
 mod late_tests;
 #[cfg(test)]
+mod make_tests;
+#[cfg(test)]
+mod report_tests;
+#[cfg(test)]
 mod scan_tests;
 #[cfg(test)]
 mod sql_tests;
 #[cfg(test)]
 mod values_tests;
+#[cfg(test)]
+mod write_tests;

@@ -67,6 +67,19 @@ const SCANS: &[Scan] = &[
             None,
         ),
     ),
+    // The packet version number stands in the first of four pieces, and the rest of them is passed over.
+    (
+        VERSION,
+        200_000,
+        (
+            2,
+            "row 1500 140820480 13\n",
+            "bad packet at 13: version",
+            None,
+        ),
+    ),
+    // The packet goes on in a second piece, and is an octet too short there.
+    (LONGEST, 65_541, (2, "", "bad packet at 0: truncated", None)),
     (
         LONGEST,
         65_542,

@@ -1,5 +1,5 @@
-//! The words of a load and the limits that they may pass, one of two options, and a word that may come; which words the other commands take is tried by
-//! `run`.
+//! The words of a load and the limits that they may pass, one of two options, a word that may come, and a seed; which
+//! words the other commands take is tried by `run`.
 
 use crate::ends::none_other;
 use clap::ArgMatches;
@@ -39,6 +39,8 @@ enum Read {
     /// The script, where there is one.
     Script(Option<&'static str>),
     NoScript,
+    Seed(u32),
+    NoSeed,
 }
 
 fn is_load(alloc: Global, words: &[String], want: &Read) -> bool {
@@ -63,6 +65,14 @@ fn is_query(alloc: Global, words: &[String], want: &Read) -> bool {
     }
 }
 
+fn is_seed(alloc: Global, words: &[String], want: &Read) -> bool {
+    match job_of(alloc, words) {
+        Ok(Job::Make { seed }) => matches!(want, Read::Seed(number) if seed == *number),
+        Err(Refusal::Usage) => matches!(want, Read::NoSeed),
+        _ => false,
+    }
+}
+
 fn is_script(alloc: Global, words: &[String], want: &Read) -> bool {
     match script_of(alloc, words) {
         Ok(found) => {
@@ -79,6 +89,7 @@ fn are_read(alloc: Global, words: &[String], want: &Read) -> bool {
         Read::Load(..) | Read::NoLoad => is_load(alloc, words, want),
         Read::Sql(_) | Read::Ask(_) | Read::NoQuery => is_query(alloc, words, want),
         Read::Script(_) | Read::NoScript => is_script(alloc, words, want),
+        Read::Seed(_) | Read::NoSeed => is_seed(alloc, words, want),
     }
 }
 
@@ -146,7 +157,8 @@ fn reads_the_words_of_a_load(rt: HostRuntime) -> Result<(), Fail> {
     none_other(other_line(rt.alloc(), loads()))
 }
 
-/// The words of a load, the limit that they pass before anything is opened, and the one that the numbers of its links do.
+/// The words of a load, the limit that they pass before anything is opened, and the one that the numbers of its links
+/// do.
 type Limits = (&'static str, Option<Which>, Option<Which>);
 
 fn which_of(refusal: Option<Refusal>) -> Option<Which> {
@@ -249,4 +261,28 @@ fn scripts() -> &'static [Line] {
 #[test]
 fn reads_an_optional_word(rt: HostRuntime) -> Result<(), Fail> {
     none_other(other_line(rt.alloc(), scripts()))
+}
+
+const SEEDS: &[Line] = &[
+    ("make 7", Read::Seed(7)),
+    ("make 0", Read::Seed(0)),
+    ("make 0000000000000000007", Read::Seed(7)),
+    ("make 4294967295", Read::Seed(4_294_967_295)),
+    ("make -- 7", Read::Seed(7)),
+    ("make 4294967296", Read::NoSeed),
+    ("make 00000000000000000007", Read::NoSeed),
+    ("make", Read::NoSeed),
+    ("make seven", Read::NoSeed),
+    ("make 7 8", Read::NoSeed),
+    ("make -7", Read::NoSeed),
+    ("make --number 7", Read::NoSeed),
+];
+
+fn seeds() -> &'static [Line] {
+    SEEDS
+}
+
+#[test]
+fn reads_a_seed(rt: HostRuntime) -> Result<(), Fail> {
+    none_other(other_line(rt.alloc(), seeds()))
 }

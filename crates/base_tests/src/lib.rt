@@ -1,4 +1,4 @@
-// Tests of arch_types, block_map, command_words, octet_fields, refusals and time_text: worked rows, vectors, each call once with ample memory, what no clause says.
+// Tests of arch_types, block_map, command_words, load_progress, octet_fields, refusals and time_text: worked rows, vectors, each call once with ample memory, what no clause says.
 #![tactic(auto)]
 
 #[cfg(test)]
@@ -9,6 +9,8 @@ mod block_map_tests;
 mod command_words_tests;
 #[cfg(test)]
 mod ends;
+#[cfg(test)]
+mod load_progress_tests;
 #[cfg(test)]
 mod octet_fields_tests;
 #[cfg(test)]

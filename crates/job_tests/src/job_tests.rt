@@ -48,9 +48,12 @@ impl<'a> Job for Meeting<'a> {
     }
 }
 
+/// How often a job lets the other run. It is so often that a machine that is busy with other work doesn't end the wait.
+const YIELDS: u32 = 100_000_000;
+
 /// Waits for a flag, for some time.
 fn is_raised(flag: &AtomicU64) -> bool {
-    for _ in 0..10_000 {
+    for _ in 0..YIELDS {
         if flag.load(Ordering::SeqCst) == 1 {
             return true;
         }

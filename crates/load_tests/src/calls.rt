@@ -172,6 +172,27 @@ pub(crate) fn call<D: Disk + Send, G: Gate + Sync, R: Threads + Wait + Sync>(
     }
 }
 
+/// What comes of a call over inputs of a test's own, and its disk.
+pub(crate) fn call_over<D: Disk + Send, I: Inputs, G: Gate + Sync, R: Threads + Wait + Sync>(
+    rt: &R,
+    alloc: Global,
+    line: &str,
+    inputs: &mut I,
+    disk: D,
+    gate: &G,
+) -> (Outcome, D)
+where
+    I::Source: Send,
+{
+    let Ok(words) = words_of(alloc, line) else {
+        return (no_memory(alloc), disk);
+    };
+    let mut sink = MemSink::failing(alloc, Vec::new(alloc));
+    let ended = ended(rt, alloc, words.as_slice(), disk, inputs, &mut sink, gate);
+    let outcome = outcome_of(alloc, &ended, sink.octets);
+    (outcome, ended.disk)
+}
+
 /// Ends a test: with a failure where a row of its table goes otherwise. In place of an assertion, which costs seconds more to prove.
 pub(crate) fn none_other<T: Display + Drop>(other: Option<T>) -> Result<(), Fail> {
     match other {

@@ -2,7 +2,7 @@
 
 use crate::calls::{NamedFile, Outside, call, none_other};
 use crate::dumps::{CREATE, dump, sheets};
-use crate::gates::{Held, HoldingGate};
+use crate::gates::{FillersGate, Held, HoldingGate};
 use crate::texts::fronts_of;
 use arch_disk::{Disk, MemDisk};
 use outer_traits::gate::OpenGate;
@@ -98,4 +98,56 @@ fn other_of_files<R: Threads + Wait + Sync>(
 #[test]
 fn jobs_run_beside_each_other(rt: HostRuntime) -> Result<(), Fail> {
     none_other(other_of_files(&rt, rt.alloc())?)
+}
+
+/// Whether a command ends with so many rows, and its fillers are those of the gate.
+fn has_fillers<D: Disk + Send + Drop, R: Threads + Wait + Sync>(
+    rt: &R,
+    alloc: Global,
+    outside: &Outside<'_>,
+    disk: D,
+    line: &str,
+    gate: &FillersGate,
+    rows: u64,
+) -> bool {
+    let (outcome, _disk) = call(rt, alloc, line, outside, disk, gate);
+    outcome.status == 0 && outcome.after == rows && gate.have_come()
+}
+
+/// The command that has other fillers: a load has as many as its words say, and `make` has two.
+fn other_fillers<R: Threads + Wait + Sync>(
+    rt: &R,
+    alloc: Global,
+) -> Result<Option<&'static str>, AllocError> {
+    let first = dump(alloc, 0, 320)?;
+    let files = files_of(alloc, first.as_slice(), &[])?;
+    let outside = Outside {
+        files: files.as_slice(),
+        reads: &[],
+    };
+    let load = "load --fillers 3 a";
+    let gate = FillersGate::new(1, 3);
+    let (_, disk) = call(rt, alloc, CREATE, &outside, MemDisk::new(alloc), &OpenGate);
+    if !has_fillers(rt, alloc, &outside, disk, load, &gate, 320) {
+        return Ok(Some(load));
+    }
+    let make = "make 7";
+    let gate = FillersGate::new(2, 2);
+    if !has_fillers(
+        rt,
+        alloc,
+        &outside,
+        MemDisk::new(alloc),
+        make,
+        &gate,
+        30_800,
+    ) {
+        return Ok(Some(make));
+    }
+    Ok(None)
+}
+
+#[test]
+fn fillers_are_as_many_as_words_say(rt: HostRuntime) -> Result<(), Fail> {
+    none_other(other_fillers(&rt, rt.alloc())?)
 }

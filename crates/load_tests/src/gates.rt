@@ -1,8 +1,12 @@
-//! A gate that holds a job until another has come so far.
+//! Gates that hold a job until others have come so far.
 
 use outer_traits::gate::Gate;
 use std::sync::atomic::{AtomicU64, Ordering};
 use std::thread;
+
+/// How often a job that is held lets others run before it goes on to no avail. It is so often that a machine that is busy
+/// with other work doesn't end the wait: only a load whose jobs don't run beside each other waits to its end.
+const YIELDS: u32 = 100_000_000;
 
 /// Which call of which job is held, and until which call of which other.
 #[derive(Clone, Copy)]
@@ -38,7 +42,7 @@ impl HoldingGate {
     }
 
     fn hold(&self) {
-        for _ in 0..10_000 {
+        for _ in 0..YIELDS {
             if self.reached.load(Ordering::SeqCst) == 1 {
                 return;
             }
@@ -55,6 +59,61 @@ impl Gate for HoldingGate {
         }
         if job == self.held.job && turn == self.held.turn {
             self.hold();
+        }
+    }
+}
+
+/// A gate that shows how many fillers a load has. Each is held at its first call until all have come, and the first link
+/// at each call until as many have as it has sent batches, so that each batch wakes another one.
+#[derive(Drop)]
+pub(crate) struct FillersGate {
+    links: u32,
+    fillers: u32,
+    /// How many have come.
+    come: AtomicU64,
+    /// 1 once a job was held to no avail, or one came that is none of these.
+    is_other: AtomicU64,
+}
+
+impl FillersGate {
+    pub(crate) fn new(links: u32, fillers: u32) -> FillersGate {
+        FillersGate {
+            links,
+            fillers,
+            come: AtomicU64::new(0),
+            is_other: AtomicU64::new(0),
+        }
+    }
+
+    /// Whether just these have come.
+    pub(crate) fn have_come(&self) -> bool {
+        self.come.load(Ordering::SeqCst) == u64::from(self.fillers)
+            && self.is_other.load(Ordering::SeqCst) == 0
+    }
+
+    fn hold(&self, count: u64) {
+        for _ in 0..YIELDS {
+            if self.come.load(Ordering::SeqCst) >= count {
+                return;
+            }
+            thread::yield_now();
+        }
+        self.is_other.store(1, Ordering::SeqCst);
+    }
+}
+
+impl Gate for FillersGate {
+    fn pass(&self, job: u32, turn: u64) {
+        let all = u64::from(self.fillers);
+        if job > self.links.saturating_add(self.fillers) {
+            self.is_other.store(1, Ordering::SeqCst);
+        } else if job > self.links {
+            if self.come.load(Ordering::SeqCst) < all {
+                self.come.fetch_add(1, Ordering::SeqCst);
+                self.hold(all);
+            }
+        } else if job == 1 {
+            self.hold(turn.saturating_sub(1).min(all));
         }
     }
 }

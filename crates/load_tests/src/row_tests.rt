@@ -12,10 +12,10 @@ use std::thread::Threads;
 
 /// A line of words, and how its call has to end: its status, what it printed, its fault, the lengths of the history before and behind it, and the
 /// link that is named, or 0.
-type Row = (&'static str, u8, &'static str, &'static str, u64, u64, u16);
+pub(crate) type Row = (&'static str, u8, &'static str, &'static str, u64, u64, u16);
 
 /// Whether a call ends so, and its disk.
-fn ends_so<D: Disk + Send, R: Threads + Wait + Sync>(
+pub(crate) fn ends_so<D: Disk + Send, R: Threads + Wait + Sync>(
     rt: &R,
     alloc: Global,
     outside: &Outside<'_>,
@@ -33,7 +33,7 @@ fn ends_so<D: Disk + Send, R: Threads + Wait + Sync>(
 }
 
 /// The number of the first of these calls on a disk that ends otherwise.
-fn other_row<D: Disk + Send + Drop, R: Threads + Wait + Sync>(
+pub(crate) fn other_row<D: Disk + Send + Drop, R: Threads + Wait + Sync>(
     rt: &R,
     alloc: Global,
     outside: &Outside<'_>,
@@ -53,7 +53,7 @@ fn other_row<D: Disk + Send + Drop, R: Threads + Wait + Sync>(
     None
 }
 
-const CREATED: Row = (
+pub(crate) const CREATED: Row = (
     CREATE,
     0,
     "created tables 1 parameters 3 containers 3\n",
