@@ -11,7 +11,7 @@ _cudrakh() {
   local current=${COMP_WORDS[COMP_CWORD]} command=${COMP_WORDS[1]} options='' files=0
   COMPREPLY=()
   if [ "$COMP_CWORD" -eq 1 ]; then
-    mapfile -t COMPREPLY < <(compgen -W 'scan values create load query recover verify' -- "$current")
+    mapfile -t COMPREPLY < <(compgen -W 'scan values create load query recover verify make' -- "$current")
     return
   fi
   case $command in
