@@ -6,7 +6,7 @@ ghost use Rattle.std.specs.BTreeMap.{insert_entry};
 ghost use Rattle.block_map.specs.Rising.{IsRising, IsPlaceIn};
 ghost use Rattle.block_map.specs.Blocks.{entries_of, excess_of, AreFilled, AreRisingBlocks, HasSpares, IsBlockFor, IsOpenFor, AreReady};
 
-use crate::search::{block_for, is_above};
+use crate::search::{block_for, place_in};
 
 /// The entries of a full block.
 pub const CAPACITY: usize = 1024;
@@ -69,17 +69,17 @@ fn split<K: Ord + Copy, V: Copy>(
     }
 }
 
-/// Where a full block is split for a key: behind `keep` entries where the key is above all of them, else in two halves.
-fn split_place<K: Ord + Copy, V>(block: &[(K, V)], key: K, keep: usize) -> usize
+/// Where a full block is split for a key: where the key belongs in it, so that keys that come in order beside others go
+/// to the end of a block, but no part gets more than `keep` entries, nor the lower one less than half of them.
+fn split_place<K: Ord + Copy, V: Copy>(block: &[(K, V)], key: K, keep: usize) -> usize
     requires rising { IsRising K.cmp block.now }
     requires keep { HALF ≤ keep }
     ensures least { HALF ≤ result }
     ensures most { result ≤ keep }
 {
-    if is_above(block, key) {
-        return keep;
+    match place_in(block, key) {
+        Ok(at) | Err(at) => at.max(HALF).min(keep),
     }
-    HALF
 }
 
 /// The block that a key belongs in, with a place left in it. Full ones are split on the way, and searched again:
