@@ -22,7 +22,7 @@ use Rattle.field_codec.specs.Reading.{IsHead, fill_at, head_of, opening_at}
 use Rattle.field_codec.specs.Spelling.{body_octets, entry_octets, head_octets, fill_fields_octets, kind_of, opening_octets, rows_octets}
 use Rattle.field_codec.proofs.FillSpelling.{fill_exact}
 use Rattle.field_codec.proofs.Openings.{opening_exact}
-use Rattle.field_codec.proofs.RowFields.{rows_exact}
+use Rattle.field_codec.proofs.RowLists.{rows_exact}
 
 kind_small : (a : Entry) → kind_of a < 2 ^ 8
 kind_small (Head tables mdb) = omega arith

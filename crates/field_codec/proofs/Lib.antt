@@ -1,6 +1,5 @@
-pub mod Ends
 pub mod FillSpelling
-pub mod RowFields
+pub mod RowLists
 pub mod Openings
 pub mod EntryKinds
 pub mod Lengths

@@ -7,28 +7,23 @@ use Rattle.std.specs.List.{AllByRecursion, flat_map}
 use Rattle.intervals.specs.declared.interval.Interval.{Interval}
 use Rattle.arch_types.specs.declared.row.Row.{Row}
 use Rattle.text_forms.specs.Names.{is_name}
-use Rattle.arch_types.specs.Packet.{IsPacket}
 use Rattle.mdb_items.specs.Database.{Database, IsDatabase}
 use Rattle.mdb_octets.specs.Spelling.{database_octets}
 use Rattle.octet_fields.specs.Exact.{IsOctets}
 use Rattle.octet_fields.specs.Spelling.{counted, name, number, signed}
+use Rattle.row_codec.specs.Rows.{IsStored}
+use Rattle.row_codec.specs.Spelling.{row_octets}
+use Rattle.row_codec.proofs.Sizes.{packet_short, row_size}
 use Rattle.field_codec.specs.declared.entry.Entry.{Entry}
 use Rattle.field_codec.specs.declared.entry.Entry.TheVariants.{Head, Rows, Fill}
-use Rattle.field_codec.specs.Entries.{AreTables, IsArchiveEntry, IsStored}
+use Rattle.field_codec.specs.Entries.{AreTables, IsArchiveEntry}
 use Rattle.field_codec.specs.Laws.{HasOctets, HasShortSet}
-use Rattle.field_codec.specs.Spelling.{entry_octets, fill_octets, head_octets, opening_octets, row_octets, rows_octets}
+use Rattle.field_codec.specs.Spelling.{entry_octets, fill_octets, head_octets, opening_octets, rows_octets}
 use Rattle.field_codec.proofs.DatabaseSizes.{database_short}
 use Rattle.field_codec.proofs.FillSpelling.{fill_size}
 use Rattle.field_codec.proofs.Lengths.{counted_8, counted_16, each_most}
 
 -- ---- rows
-
-pub row_size : (row : Row) → length (row_octets row) ≡ 12 + length row.packet
-unfolding row_octets number signed
-row_size row = omega arith
-
-pub packet_short : (p : List ℕ) → IsPacket p → IsOctets p → length p ≤ 65542
-packet_short p is are = let whole = is.whole in omega (arith, whole, are 4, are 5)
 
 rows_short : (rows : List Row) → AllByRecursion IsStored rows → AllByRecursion (λ row. IsOctets row.packet) rows → length (flat_map row_octets rows) ≤ 65554 * length rows
 rows_short [] stored octets = omega arith

@@ -4,11 +4,9 @@ use Rattle.std.specs.Int.{w64}
 use Rattle.std.specs.Int.RustNames.{FitsSigned}
 use Rattle.std.specs.List.{AllByRecursion}
 use Rattle.arch_types.specs.declared.row.Row.{Row}
-use Rattle.arch_types.specs.GenerationTime.{key_of}
 use Rattle.text_forms.specs.Names.{is_name}
-use Rattle.text_forms.specs.ClockTime.{IsClockTime}
-use Rattle.arch_types.specs.Packet.{IsPacket, is_idle}
 use Rattle.mdb_items.specs.Database.{IsDatabase}
+use Rattle.row_codec.specs.Rows.{IsStored}
 use Rattle.field_codec.specs.declared.entry.Entry.{Entry}
 use Rattle.octet_fields.specs.Exact.{IsOctets}
 use Rattle.field_codec.specs.declared.entry.Entry.TheVariants.{Head, Rows, Fill}
@@ -33,17 +31,7 @@ pub record AreTables (tables : List (List ℕ)) : Type 0 where
 
 -- ---- rows
 
--- a whole packet that isn't idle, received within the clock's range by a link from 1 to 255, with the key that it gives then
-pub record IsStored (row : Row) : Type 0 where
-  pub table : row.table < 2 ^ 8
-  pub rectime : IsClockTime row.rectime
-  pub link : (1 ≤ row.link) × (row.link < 2 ^ 8)
-  pub pname : row.pname < 2 ^ 16
-  pub packet : IsPacket row.packet
-  pub kept : is_idle row.packet ≡ false
-  pub key : row.key ≡ key_of row.packet row.rectime
-
--- 1 to 1,024 such rows
+-- 1 to 1,024 rows that may be stored
 pub record AreStored (rows : List Row) : Type 0 where
   pub some : 1 ≤ length rows
   pub few : length rows ≤ 1024

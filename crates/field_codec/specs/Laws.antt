@@ -1,21 +1,15 @@
 -- What holds of the spellings of entries.
-use Rattle.std.specs.Prelude.{◌≡◌, ℕ, ◌+◌, ◌<◌, ◌^◌, List, ◌++◌, length}
+use Rattle.std.specs.Prelude.{◌≡◌, ℕ, ◌+◌, ◌<◌, ◌^◌, List, length}
 use Rattle.std.specs.List.{AllByRecursion}
-use Rattle.arch_types.specs.declared.row.Row.{Row}
 use Rattle.octet_fields.specs.Exact.{IsOctets}
 use Rattle.field_codec.specs.declared.entry.Entry.{Entry}
 use Rattle.field_codec.specs.declared.entry.Entry.TheVariants.{Head, Rows, Fill}
-use Rattle.field_codec.specs.Entries.{IsArchiveEntry, IsStored}
-use Rattle.field_codec.specs.Spelling.{entry_octets, row_octets}
+use Rattle.field_codec.specs.Entries.{IsArchiveEntry}
+use Rattle.field_codec.specs.Spelling.{entry_octets}
 
 -- no two entries have one spelling
 abbrev pub SpellingsAreOne : Type 0
 SpellingsAreOne = (a b : Entry) → IsArchiveEntry a → IsArchiveEntry b → entry_octets a ≡ entry_octets b → a ≡ b
-
--- no row's spelling begins another's: octets that begin with two are of one row, and what follows it is one
-abbrev pub RowSpellingsAreOne : Type 0
-RowSpellingsAreOne = (a b : Row) (behind_a behind_b : List ℕ) → IsStored a → IsStored b →
-    row_octets a ++ behind_a ≡ row_octets b ++ behind_b → (a ≡ b) × (behind_a ≡ behind_b)
 
 -- its packets are octets, as those of each value of the type are
 abbrev pub HasOctets : Entry → Type 0

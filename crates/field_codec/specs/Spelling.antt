@@ -7,6 +7,7 @@ use Rattle.arch_types.specs.declared.row.Row.{Row}
 use Rattle.mdb_items.specs.Database.{Database}
 use Rattle.mdb_octets.specs.Spelling.{database_octets}
 use Rattle.octet_fields.specs.Spelling.{counted, name, number, signed}
+use Rattle.row_codec.specs.Spelling.{row_octets}
 use Rattle.field_codec.specs.declared.entry.Entry.{Entry}
 use Rattle.field_codec.specs.Entries.{FillFields}
 use Rattle.field_codec.specs.declared.entry.Entry.TheVariants.{Head, Rows, Fill}
@@ -18,10 +19,6 @@ opening_octets tables = number w8 1 ++ (number w8 format_1_exponent ++ counted w
 -- the opening, and the octets of the database
 abbrev pub head_octets : List (List ℕ) → Database → List ℕ
 head_octets tables mdb = opening_octets tables ++ database_octets mdb
-
--- u8 table, i64 reception time, u8 link, u16 packet name, and the packet, whose own length field ends it
-unfoldable pub row_octets : Row → List ℕ
-row_octets row = number w8 row.table ++ (signed w64 row.rectime ++ (number w8 row.link ++ (number w16 row.pname ++ row.packet)))
 
 -- u16 count, and the rows
 abbrev pub rows_octets : List Row → List ℕ

@@ -6,14 +6,15 @@ ghost use Rattle.octet_fields.specs.declared.fault.DecodeError.TheVariants.{OutO
 ghost use Rattle.octet_fields.specs.Answers.{Gives, ReadsEach, ReadsOnly};
 ghost use Rattle.octet_fields.specs.Reading.{whole};
 ghost use Rattle.octet_fields.specs.Spelling.{number};
+ghost use Rattle.row_codec.specs.Block.{IsEndOf};
 ghost use Rattle.field_codec.specs.Entries.{IsFill};
 ghost use Rattle.field_codec.specs.Spelling.{fill_fields, fill_octets, fill_fields_octets};
-ghost use Rattle.field_codec.specs.Reading.{IsEndOf, fill_at};
+ghost use Rattle.field_codec.specs.Reading.{fill_at};
 
-use crate::rows::part_before;
 use arch_types::octets::Octets;
 use intervals::Interval;
 use octet_fields::{DecodeError, i64_at, put_i64, put_u8, put_u64, u64_at};
+use row_codec::part_before;
 use std::alloc::{AllocError, Global};
 
 /// The octets of a fill before its set, its kind with them.

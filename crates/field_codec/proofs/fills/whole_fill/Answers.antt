@@ -2,7 +2,7 @@ use Rattle.std.proofs.Common.{List, ◌++◌, ◌∙◌, sym, ap, append-nil, ar
 use Rattle.std.specs.Int.{w64}
 use Rattle.octet_fields.specs.Spelling.{signed}
 use Rattle.octet_fields.proofs.Numbers.{exact_i64}
-use Rattle.field_codec.proofs.Ends.{behind_number, end_of_end}
+use Rattle.row_codec.proofs.Ends.{behind_number, end_of_end}
 use Rattle.field_codec.proofs.fills.whole_fill.Goals as goal
 
 pub part_before-requires : goal.part_before-requires

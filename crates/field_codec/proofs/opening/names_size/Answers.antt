@@ -1,6 +1,6 @@
 use Rattle.std.proofs.Common.{ap, length, arith}
 use Rattle.octet_fields.specs.Spelling.{name}
-use Rattle.field_codec.proofs.Ends.{size_more}
+use Rattle.row_codec.proofs.Ends.{size_more}
 use Rattle.field_codec.proofs.Sizes.{name_size, name_most}
 use Rattle.field_codec.proofs.opening.names_size.Goals as goal
 

@@ -1,7 +1,7 @@
 use Rattle.std.proofs.Common.{[], ◌∙◌, sym, arith, rules}
 use Rattle.std.specs.Int.{w8}
 use Rattle.std.proofs.lemmas.Result.{err_from_is_err_and}
-use Rattle.field_codec.proofs.Ends.{behind_number}
+use Rattle.row_codec.proofs.Ends.{behind_number}
 use Rattle.field_codec.proofs.EntryKinds.{fill_entry, fill_memory, fill_read, head_entry, head_memory, head_read, kind_read, no_kind, no_other, rows_entry, rows_memory, rows_read}
 use Rattle.field_codec.proofs.reading.entry_of.Goals as goal
 

@@ -1,6 +1,6 @@
 use Rattle.std.proofs.Common.{arith}
 use Rattle.octet_fields.proofs.Answers.{reads_each, reads_only}
-use Rattle.field_codec.proofs.RowFields.{rows_exact}
+use Rattle.field_codec.proofs.RowLists.{rows_exact}
 use Rattle.field_codec.proofs.rows.read_rows.Goals as goal
 
 pub returns-clause-spelled : goal.returns-clause-spelled

@@ -1,6 +1,6 @@
 use Rattle.std.proofs.Common.{◌≡◌, ◌≤◌, ◌*◌, length, take}
 use Rattle.std.specs.List.{flat_map}
-use Rattle.field_codec.specs.Spelling.{row_octets}
+use Rattle.row_codec.specs.Spelling.{row_octets}
 use Rattle.field_codec.proofs.rows.rows_size.Given as goal
 
 abbrev pub invariant-loop-row : goal.invariant-loop-row

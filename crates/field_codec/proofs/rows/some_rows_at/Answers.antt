@@ -1,4 +1,4 @@
-use Rattle.field_codec.specs.Reading.{row_at}
+use Rattle.row_codec.specs.Reading.{row_at}
 use Rattle.octet_fields.proofs.Times.{ends, goes_on, is_done}
 use Rattle.field_codec.proofs.rows.some_rows_at.Goals as goal
 

@@ -1,7 +1,8 @@
 use Rattle.std.proofs.Common.{◌-◌}
 use Rattle.octet_fields.specs.Reading.{times_at}
 use Rattle.octet_fields.proofs.Times.{Remaining}
-use Rattle.field_codec.specs.Reading.{IsEndOf, row_at}
+use Rattle.row_codec.specs.Block.{IsEndOf}
+use Rattle.row_codec.specs.Reading.{row_at}
 use Rattle.field_codec.proofs.rows.some_rows_at.Given as goal
 
 abbrev pub invariant-loop : goal.invariant-loop

@@ -1,5 +1,5 @@
 use Rattle.std.specs.Int.{w16}
-use Rattle.field_codec.proofs.Ends.{behind_number}
+use Rattle.row_codec.proofs.Ends.{behind_number}
 use Rattle.field_codec.proofs.rows.whole_rows.Goals as goal
 
 pub some_rows_at-requires : goal.some_rows_at-requires

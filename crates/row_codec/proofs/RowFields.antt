@@ -1,8 +1,7 @@
--- Packets, rows and counted rows are read exactly.
+-- Packets and rows are read exactly.
 use Rattle.std.proofs.Common.{◌≡◌, ℕ, ℤ, pos, negsuc, ◌+◌, ◌^◌, ◌<◌, ◌≤◌, Bool, true, false, cond, ltb, leb, not, ◌&&◌, List, [], ◌∷◌, ◌++◌, length, length-append, get_or, take, drop, Option, Some, None, refl, sym, ap, subst, ◌∙◌, append_assoc, arith}
 use Rattle.std.specs.Int.{w8, w16, w64}
 use Rattle.std.specs.Int.RustNames.{FitsSigned}
-use Rattle.std.specs.List.{AllByRecursion}
 use Rattle.std.proofs.lemmas.Bool.{ltb-false, le-ltb, leb-true, le-leb}
 use Rattle.std.proofs.lemmas.Int.{ints}
 use Rattle.std.proofs.lemmas.List.{take-append-drop, length-take, get_or-take, take_at, drop_at}
@@ -13,15 +12,16 @@ use Rattle.arch_types.specs.GenerationTime.{key_of}
 use Rattle.arch_types.specs.Packet.{IsPacket, packet_length, is_idle}
 use Rattle.arch_types.specs.Dump.{BeginsWithNoPacket}
 use Rattle.octet_fields.specs.Exact.{IsOctets, IsExact}
-use Rattle.octet_fields.specs.Reading.{both_at, mapped_at, number_at, signed_at, tested_at, times_at}
-use Rattle.octet_fields.specs.Spelling.{counted, number, signed}
-use Rattle.octet_fields.proofs.Exact.{one_form, some_is, guard_some, IsExact-both, IsExact-tested, IsExact-mapped, IsExact-times}
+use Rattle.octet_fields.specs.Reading.{both_at, mapped_at, number_at, signed_at, tested_at}
+use Rattle.octet_fields.specs.Spelling.{number, signed}
+use Rattle.octet_fields.proofs.Exact.{one_form, some_is, guard_some, IsExact-both, IsExact-tested, IsExact-mapped}
 use Rattle.octet_fields.proofs.Numbers.{exact8, exact16, exact_i64}
-use Rattle.field_codec.specs.Entries.{IsStored, AreStored}
+use Rattle.row_codec.specs.Block.{IsEndOf}
+use Rattle.row_codec.specs.Rows.{IsStored}
 use Rattle.text_forms.specs.ClockTime.{IsClockTime, is_clock_time}
-use Rattle.field_codec.specs.Spelling.{row_octets, rows_octets}
-use Rattle.field_codec.specs.Reading.{RowFields, IsEndOf, fields_at, is_count, is_stored, packet_at, row_at, row_of_fields, rows_at}
-use Rattle.field_codec.proofs.Ends.{end_behind}
+use Rattle.row_codec.specs.Spelling.{row_octets}
+use Rattle.row_codec.specs.Reading.{RowFields, fields_at, is_stored, packet_at, row_at, row_of_fields}
+use Rattle.row_codec.proofs.Ends.{end_behind}
 
 -- ---- packets
 
@@ -133,21 +133,3 @@ row_exact = IsExact-mapped (IsExact-tested fields_exact is_stored) IsStored row_
 -- no row's spelling begins another's
 pub one_row : (a b : Row) (behind_a behind_b : List ℕ) → IsStored a → IsStored b → row_octets a ++ behind_a ≡ row_octets b ++ behind_b → (a ≡ b) × (behind_a ≡ behind_b)
 one_row a b behind_a behind_b stored_a stored_b e = one_form row_exact a b behind_a behind_b stored_a stored_b e
-
-count_true : (n : ℕ) → is_count n ≡ true → (1 ≤ n) × (n ≤ 1024)
-count_true n h = grind arith
-
-true_count : (n : ℕ) → 1 ≤ n → n ≤ 1024 → is_count n ≡ true
-true_count n h k = grind arith
-
-counted_there : (p : ℕ × List Row) → ((p.0 < 2 ^ 16) × (is_count p.0 ≡ true)) × ((length p.1 ≡ p.0) × AllByRecursion IsStored p.1) → AreStored p.1 × (◌≡◌ {A = ℕ × List Row} (length p.1, p.1) p)
-counted_there p h =
-    let le : (1 ≤ p.0) × (p.0 ≤ 1024) = count_true p.0 h.0.1 in
-    (record { some = omega (arith, le.0, h.1.0); few = omega (arith, le.1, h.1.0); each = h.1.1 }, ap (λ (n : ℕ). (n, p.1)) h.1.0)
-
-counted_here : (rows : List Row) → AreStored rows → (((length rows < 2 ^ 16) × (is_count (length rows) ≡ true)) × ((length rows ≡ length rows) × AllByRecursion IsStored rows)) × (rows ≡ rows)
-counted_here rows h = (((omega (arith, h.few), true_count (length rows) h.some h.few), (refl, h.each)), refl)
-
-pub rows_exact : IsExact AreStored rows_octets rows_at
-unfolding counted rows_at
-rows_exact = IsExact-mapped (IsExact-both (IsExact-tested exact16 is_count) (λ n _. IsExact-times row_exact n)) AreStored (λ (p : ℕ × List Row). p.1) (λ rows. (length rows, rows)) counted_there counted_here

@@ -7,7 +7,7 @@ use Rattle.std.proofs.lemmas.Grind.{flat_map-append}
 use Rattle.std.proofs.lemmas.List.{take-append-drop}
 use Rattle.octet_fields.specs.Reading.{number_at}
 use Rattle.octet_fields.proofs.Exact.{guard_some, some_is}
-use Rattle.field_codec.specs.Reading.{IsEndOf}
+use Rattle.row_codec.specs.Block.{IsEndOf}
 
 -- an end of an end
 pub end_behind : (block front rest : List ℕ) → IsEndOf (front ++ rest) block → IsEndOf rest block

@@ -1,5 +1,0 @@
-use Rattle.field_codec.proofs.RowFields.{one_row}
-use Rattle.field_codec.proofs.laws.row_spellings_are_one.Goals as goal
-
-pub returns : goal.returns
-returns c = one_row

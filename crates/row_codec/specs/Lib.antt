@@ -1,0 +1,5 @@
+pub mod Block
+pub mod Rows
+pub mod Spelling
+pub mod Reading
+pub mod Laws
