@@ -5,6 +5,7 @@ pub mod Sorting
 pub mod Rereading
 pub mod KeyOrder
 pub mod Stored
+pub mod ColumnRanges
 pub mod Columns
 pub mod Parameters
 pub mod Steps

@@ -7,6 +7,7 @@ use Rattle.container_extract.specs.Values.{IsRawValue}
 use Rattle.mdb_items.specs.Database.{Database}
 use Rattle.segment_codec.specs.KeyColumn.{IsKey}
 use Rattle.segment_codec.specs.Segment.{IsSegment}
+use Rattle.segment_codec.specs.declared.column_range.ColumnRange.{ColumnRange}
 use Rattle.segment_codec.specs.declared.segment.Segment.{Segment}
 use Rattle.param_segments.specs.declared.row_place.RowPlace.{RowPlace}
 use Rattle.param_segments.specs.Groups.{segment_of}
@@ -38,6 +39,18 @@ abbrev pub AreColumnsOf : Database → List ℕ → List (List ℤ) → Type 0
 AreColumnsOf db [] columns = ⊤
 AreColumnsOf db (p ∷ ps) [] = ⊤
 AreColumnsOf db (p ∷ ps) (c ∷ cs) = IsColumnOf db p c × AreColumnsOf db ps cs
+
+-- the ends of a column's range are raw numbers of a parameter of the database, of the parameter's width
+abbrev pub IsRangeOf : Database → ℕ → ColumnRange → Type 0
+IsRangeOf db parameter range =
+    IsRawValue db (record { parameter = parameter; raw = range.least })
+    × IsRawValue db (record { parameter = parameter; raw = range.greatest })
+
+-- each range is one of its parameter
+abbrev pub AreRangesOf : Database → List ℕ → List ColumnRange → Type 0
+AreRangesOf db [] ranges = ⊤
+AreRangesOf db (p ∷ ps) [] = ⊤
+AreRangesOf db (p ∷ ps) (r ∷ rs) = IsRangeOf db p r × AreRangesOf db ps rs
 
 -- a segment of values of the database
 abbrev pub IsSegmentOf : Database → Segment → Type 0

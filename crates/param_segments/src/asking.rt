@@ -6,7 +6,7 @@ ghost use Rattle.std.specs.List.Sorted.{IsStrictlySortedBy};
 ghost use Rattle.intervals.specs.Interval.{interval_of};
 ghost use Rattle.arch_types.specs.Order.{key_cmp};
 ghost use Rattle.container_extract.specs.Values.{IsRawValue};
-ghost use Rattle.param_segments.specs.RowPlaces.{AreColumnsOf, IsColumnOf, IsSegmentOf, are_known_parameters, is_known_parameter};
+ghost use Rattle.param_segments.specs.RowPlaces.{AreRangesOf, IsRangeOf, IsSegmentOf, are_known_parameters, is_known_parameter};
 ghost use Rattle.segment_codec.specs.Segment.{IsSegment};
 
 use crate::row_place::RowPlace;
@@ -14,7 +14,7 @@ use calibration::is_in_width;
 use container_extract::values::RawValue;
 use intervals::{Exponent, Interval};
 use mdb_model::Mdb;
-use segment_codec::{RawColumn, Segment};
+use segment_codec::{ColumnRange, SegmentOutline};
 
 /// The parameter is one of the database.
 fn is_known_parameter(mdb: &Mdb, parameter: u16) -> bool
@@ -45,48 +45,54 @@ fn is_raw_value(mdb: &Mdb, value: RawValue) -> bool
     is_in_width(mdb.parameter(parameter), value.raw)
 }
 
-/// Each raw number of a column is one of its parameter (D-272).
-fn is_column_of(mdb: &Mdb, parameter: u16, column: &[i128]) -> bool
-    ensures { IsTrue result ↔ IsColumnOf mdb.now parameter column.now }
+/// The least and the greatest raw number of a column are its parameter's.
+fn is_range_of(mdb: &Mdb, parameter: u16, range: ColumnRange) -> bool
+    ensures { IsTrue result ↔ IsRangeOf mdb.now parameter range }
 {
-    for raw in column {
-        if !is_raw_value(
-            mdb,
-            RawValue {
-                parameter,
-                raw: *raw,
-            },
-        ) {
+    let ColumnRange { least, greatest } = range;
+    is_raw_value(
+        mdb,
+        RawValue {
+            parameter,
+            raw: least,
+        },
+    ) && is_raw_value(
+        mdb,
+        RawValue {
+            parameter,
+            raw: greatest,
+        },
+    )
+}
+
+/// The ranges of columns are those of their parameters.
+fn are_ranges_of(mdb: &Mdb, parameters: &[u16], ranges: &[ColumnRange]) -> bool
+    requires { length ranges.now ≡ length parameters.now }
+    ensures { IsTrue result ↔ AreRangesOf mdb.now parameters.now ranges.now }
+{
+    for i in 0..parameters.len() {
+        if !is_range_of(mdb, parameters[i], ranges[i]) {
             return false;
         }
     }
     true
 }
 
-/// Each column is one of its parameter.
-fn are_columns_of(mdb: &Mdb, parameters: &[u16], columns: &[RawColumn]) -> bool
-    requires { length columns.now ≡ length parameters.now }
-    ensures { IsTrue result ↔ AreColumnsOf mdb.now parameters.now columns.now }
+/// The segment has values of the database: whatever lies between two raw numbers of a parameter is one (D-272).
+fn is_segment_of(mdb: &Mdb, segment: &SegmentOutline<'_>) -> bool
+    requires { IsSegment segment.now }
+    ensures { IsTrue result ↔ IsSegmentOf mdb.now segment.now }
 {
-    for i in 0..parameters.len() {
-        if !is_column_of(mdb, parameters[i], columns[i].as_slice()) {
-            return false;
-        }
-    }
-    true
+    are_ranges_of(mdb, segment.parameters(), segment.ranges())
 }
 
 /// The segments have values of the database.
-pub(crate) fn are_segments_of(mdb: &Mdb, segments: &[Segment]) -> bool
+pub(crate) fn are_segments_of(mdb: &Mdb, segments: &[SegmentOutline<'_>]) -> bool
     requires { AllByRecursion IsSegment segments.now }
     ensures { IsTrue result ↔ AllByRecursion (IsSegmentOf mdb.now) segments.now }
 {
     for segment in segments {
-        if !are_columns_of(
-            mdb,
-            segment.parameters.as_slice(),
-            segment.columns.as_slice(),
-        ) {
+        if !is_segment_of(mdb, segment) {
             return false;
         }
     }

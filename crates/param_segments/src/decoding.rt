@@ -15,7 +15,7 @@ use crate::row_place::RowPlace;
 use arch_types::key::Key;
 use mdb_model::Mdb;
 use octet_fields::{room_for, u32_at};
-use segment_codec::{NotASegment, Segment, read_parameters, read_segment};
+use segment_codec::{NotASegment, SegmentOutline, read_outline, read_parameters};
 use std::alloc::{AllocError, Global};
 
 /// The octets of the count of the segments, which stands before them.
@@ -24,14 +24,14 @@ const COUNT_OCTETS: usize = 4;
 /// The fewest octets of a segment: two counts, a parameter, a key and a column.
 const LEAST_SEGMENT: usize = 35;
 
-/// The segment that stands in octets from a place on, and the place where it ends. Its parameters are asked before room
-/// is made for its columns: a few octets spell a column of thousands of values, and a database has few parameters (D-166).
-fn known_segment_at(
+/// The segment that stands in octets from a place on, and the place where it ends. Its parameters are asked before it
+/// is read: a few octets spell thousands of values, and a database has few parameters (D-166).
+fn known_segment_at<'a>(
     alloc: Global,
-    octets: &[u8],
+    octets: &'a [u8],
     at: usize,
     mdb: &Mdb,
-) -> Result<(Segment, usize), NotASegment>
+) -> Result<(SegmentOutline<'a>, usize), NotASegment>
     ensures found { IfOk result (λ x. HasSegmentAt octets.now at x.0) }
     ensures end { IfOk result (λ x. x.1 ≡ at + length (segment_octets x.0)) }
     ensures each { (s : ASegment) → HasSegmentAt octets.now at s →
@@ -41,14 +41,14 @@ fn known_segment_at(
     if !are_known_parameters(mdb, parameters.as_slice()) {
         return Err(NotASegment::Malformed);
     }
-    let (segment, end) = read_segment(alloc, octets, at)?;
+    let (segment, end) = read_outline(alloc, octets, at)?;
     Ok((segment, end))
 }
 
-/// Segments that were read.
+/// Segments that were read, whose values stay where they are spelled.
 #[derive(Drop)]
-pub(crate) struct ReadSegments {
-    pub(crate) segments: Vec<Segment>,
+pub(crate) struct ReadSegments<'a> {
+    pub(crate) segments: Vec<SegmentOutline<'a>>,
     /// The place where each begins.
     pub(crate) starts: Vec<u32>,
     /// The place behind the last.
@@ -56,12 +56,12 @@ pub(crate) struct ReadSegments {
 }
 
 /// So many segments, one after the other behind their count. What stands after them isn't asked.
-fn segments_at(
+fn segments_at<'a>(
     alloc: Global,
     count: u32,
-    octets: &[u8],
+    octets: &'a [u8],
     mdb: &Mdb,
-) -> Result<ReadSegments, NotASegment>
+) -> Result<ReadSegments<'a>, NotASegment>
     ensures sound { IfOk result (λ read. AllByRecursion IsSegment read.segments.items) }
     ensures count { IfOk result (λ read. length read.segments.items ≡ count) }
     ensures spelled { IfOk result (λ read.
@@ -94,11 +94,11 @@ fn segments_at(
 }
 
 /// The segments that octets count and spell. What stands after them isn't asked.
-pub(crate) fn counted_segments(
+pub(crate) fn counted_segments<'a>(
     alloc: Global,
-    octets: &[u8],
+    octets: &'a [u8],
     mdb: &Mdb,
-) -> Result<ReadSegments, NotASegment>
+) -> Result<ReadSegments<'a>, NotASegment>
     ensures sound { IfOk result (λ read. AllByRecursion IsSegment read.segments.items) }
     ensures few { IfOk result (λ read. length read.segments.items < 2 ^ 32) }
     ensures whole { IfOk result (λ read. read.end ≡ length octets.now →
@@ -132,14 +132,17 @@ fn put_places(places: &mut Vec<RowPlace>, segment: u32, keys: &[Key]) -> Result<
 }
 
 /// The place of each row of segments.
-pub(crate) fn places_of(alloc: Global, segments: &[Segment]) -> Result<Vec<RowPlace>, AllocError>
+pub(crate) fn places_of(
+    alloc: Global,
+    segments: &[SegmentOutline<'_>],
+) -> Result<Vec<RowPlace>, AllocError>
     requires sound { AllByRecursion IsSegment segments.now }
     requires few { length segments.now < 2 ^ 32 }
     ensures { IfOk result (λ places. places.items ≡ places_from 0 segments.now) }
 {
     let mut places = Vec::new(alloc);
     for i in 0..segments.len() {
-        put_places(&mut places, i as u32, segments[i].keys.as_slice())?;
+        put_places(&mut places, i as u32, segments[i].keys())?;
     }
     Ok(places)
 }

@@ -26,7 +26,7 @@ use crate::set::SegSet;
 use arch_types::octets::Octets;
 use intervals::{Exponent, Interval};
 use mdb_model::Mdb;
-use segment_codec::{NotASegment, Segment};
+use segment_codec::{NotASegment, SegmentOutline};
 use std::alloc::{AllocError, Global};
 
 /// The places of the rows of segments in the order of their keys, where they're rows of a set of the interval and the
@@ -35,7 +35,7 @@ fn sorted_places(
     alloc: Global,
     interval: Interval,
     exponent: Exponent,
-    segments: &[Segment],
+    segments: &[SegmentOutline<'_>],
     mdb: &Mdb,
 ) -> Result<Vec<RowPlace>, NotASegment>
     requires sound { AllByRecursion IsSegment segments.now }
@@ -69,7 +69,7 @@ fn sorted_places(
 fn set_over(
     alloc: Global,
     octets: &Octets,
-    read: ReadSegments,
+    read: ReadSegments<'_>,
     places: &[RowPlace],
 ) -> Result<SegSet, NotASegment>
     requires sound { AllByRecursion IsSegment read.segments.items }
@@ -79,9 +79,9 @@ fn set_over(
     requires placed { AllByRecursion (IsRowPlace read.segments.items) places.now }
     requires whole { IsPermutation (places_from 0 read.segments.items) places.now }
     requires rising { IsStrictlySortedBy key_cmp (map (λ p. p.key) places.now) }
-    ensures set { IfOk result (λ set. set ≡ map (placed_row read.segments.items) places.now) }
+    ensures set { IfOk result (λ set. set ≡ map (placed_row read.entry.segments.items) places.now) }
     ensures spelled { IfOk result (λ set. octets.now ≡ set_octets set) }
-    ensures each { read.end ≡ length octets.now → AreSetSegments read.segments.items →
+    ensures each { read.entry.end ≡ length octets.now → AreSetSegments read.entry.segments.items →
         IfErr result (λ e. e ≡ OutOfMemory) }
 {
     let ReadSegments {
@@ -105,7 +105,7 @@ fn set_of_read(
     interval: Interval,
     exponent: Exponent,
     octets: &Octets,
-    read: ReadSegments,
+    read: ReadSegments<'_>,
     mdb: &Mdb,
 ) -> Result<SegSet, NotASegment>
     requires sound { AllByRecursion IsSegment read.segments.items }
@@ -115,7 +115,7 @@ fn set_of_read(
     ensures sound { IfOk result (IsSetOf mdb.now exponent interval.0) }
     ensures spelled { IfOk result (λ set. octets.now ≡ set_octets set) }
     ensures each { (rows : List SetRow) → IsSetOf mdb.now exponent interval.0 rows →
-        read.segments.items ≡ set_of rows → read.end ≡ length octets.now →
+        read.entry.segments.items ≡ set_of rows → read.entry.end ≡ length octets.now →
         MatchResult result (λ set. set ≡ rows) (λ e. e ≡ OutOfMemory) }
 {
     let places = sorted_places(alloc, interval, exponent, &read.segments, mdb)?;
@@ -154,8 +154,8 @@ impl SegSet {
     /// The set of an interval and a database that all of the octets spell.
     ///
     /// Any octets may be given: those of rows in the interval whose values are the database's are accepted, and no
-    /// others. No more room is made than for what they spell, and for no column of a parameter that the database
-    /// hasn't. A set of 2^32 octets or more is OutOfMemory.
+    /// others. Room is made for the keys of rows and their places, and for two values a column; no value is kept. A set
+    /// of 2^32 octets or more is OutOfMemory.
     pub fn from_bytes(
         alloc: Global,
         interval: Interval,

@@ -17,7 +17,7 @@ ghost use Rattle.param_segments.specs.SetSegments.{AreSetSegments};
 use crate::group_numbers::GroupNumbers;
 use crate::row_place::RowPlace;
 use arch_types::key::Key;
-use segment_codec::{MOST_ROWS, Segment};
+use segment_codec::{MOST_ROWS, SegmentOutline};
 use std::alloc::{AllocError, Global};
 
 /// The groups of segments, and where the last of these ends.
@@ -99,7 +99,7 @@ impl Runs {
     }
 
     /// Takes the first segment of a group.
-    fn take_first(&mut self, alloc: Global, segment: &Segment) -> Result<(), AllocError>
+    fn take_first(&mut self, alloc: Global, segment: &SegmentOutline<'_>) -> Result<(), AllocError>
         requires segment { IsSegment segment.now }
         requires new { position (pointwise nat_eq segment.now.parameters) self.old.groups ≡ None }
         ensures { OnOk result ((before : List ASegment) → AreRunsSoFar before self.old →
@@ -109,27 +109,27 @@ impl Runs {
         let Some(count) = number.checked_add(1) else {
             return Err(AllocError);
         };
-        let parameters = Vec::from_slice(alloc, segment.parameters.as_slice())?;
+        let parameters = Vec::from_slice(alloc, segment.parameters())?;
         self.groups.add(parameters)?;
         self.count = count;
-        self.take(number, segment.keys.as_slice())
+        self.take(number, segment.keys())
     }
 
     /// Takes a segment behind the others, where it may stand there, and tells whether it may.
-    fn take_next(&mut self, alloc: Global, segment: &Segment) -> Result<bool, AllocError>
+    fn take_next(&mut self, alloc: Global, segment: &SegmentOutline<'_>) -> Result<bool, AllocError>
         requires { IsSegment segment.now }
         ensures taken { IfOk result (λ taken. taken ≡ true → (before : List ASegment) → AreRunsSoFar before self.old →
             AreRunsSoFar (before ++ segment.now ∷ []) self.new) }
         ensures refused { IfOk result (λ taken. taken ≡ false → (before after : List ASegment) →
             AreRunsSoFar before self.old → AreSetSegments (before ++ segment.now ∷ after) → ⊥) }
     {
-        match self.groups.number(segment.parameters.as_slice()) {
+        match self.groups.number(segment.parameters()) {
             None => {
                 self.take_first(alloc, segment)?;
                 Ok(true)
             }
             Some(number) => {
-                let keys = segment.keys.as_slice();
+                let keys = segment.keys();
                 if !goes_on(self, number, first_key(keys)) {
                     return Ok(false);
                 }
@@ -141,7 +141,7 @@ impl Runs {
 }
 
 /// The groups of segments, where these stand group by group.
-fn runs_of(alloc: Global, segments: &[Segment]) -> Result<Option<Runs>, AllocError>
+fn runs_of(alloc: Global, segments: &[SegmentOutline<'_>]) -> Result<Option<Runs>, AllocError>
     requires { AllByRecursion IsSegment segments.now }
     ensures found { IfOk result (λ found. IfSome found (λ runs. AreRunsSoFar segments.now runs)) }
     ensures none { IfOk result (λ found. found ≡ None → AreSetSegments segments.now → ⊥) }
@@ -183,7 +183,7 @@ fn come_in_order(numbers: &[usize], count: usize, places: &[RowPlace]) -> bool
 /// Whether segments are those of the set of their rows, which stand at places in the order of their keys.
 pub(crate) fn are_set_segments(
     alloc: Global,
-    segments: &[Segment],
+    segments: &[SegmentOutline<'_>],
     places: &[RowPlace],
 ) -> Result<bool, AllocError>
     requires sound { AllByRecursion IsSegment segments.now }

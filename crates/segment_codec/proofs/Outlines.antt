@@ -15,12 +15,12 @@ use Rattle.octet_fields.proofs.Exact.{bind_some, some_is}
 use Rattle.arch_types.specs.declared.key.Key.{Key}
 use Rattle.segment_codec.specs.Bits.{packed_at}
 use Rattle.segment_codec.specs.KeyColumn.{keys_at}
-use Rattle.segment_codec.specs.Outline.{outline, outline_at, outline_of, range_at, range_of, scanned, value_range, varied_range_at}
+use Rattle.segment_codec.specs.Outline.{front_segment, outline, outline_at, outline_of, range_at, range_of, scanned, segment_read, value_range, varied_range_at}
 use Rattle.segment_codec.specs.RawColumn.{ColumnParts, bit_len, column_parts_at, greatest, is_tight, is_width, raw_column_at, same_at, unpacked, value_above, values_of_parts}
 use Rattle.segment_codec.specs.Segment.{HasSegmentAt, SegmentParts, parameters_at, row_count_at, segment_at, segment_octets, segment_of_parts}
 use Rattle.segment_codec.specs.declared.column_range.ColumnRange.{ColumnRange}
 use Rattle.segment_codec.specs.declared.column_range.Scanned.{Scanned}
-use Rattle.segment_codec.specs.declared.outline.SegmentOutline.{SegmentOutline}
+use Rattle.segment_codec.specs.declared.outline.OutlineParts.{OutlineParts}
 use Rattle.segment_codec.specs.declared.segment.Segment.{Segment}
 use Rattle.segment_codec.specs.declared.unpack.Unpacked.{Unpacked}
 use Rattle.segment_codec.proofs.Columns.{all_same, and_true, any_among, fits_between, high_of, least_is, raised_above, refl_le, tight_as, value_fits}
@@ -178,10 +178,10 @@ ranges_mapped rows n octets = times_mapped range_of (raw_column_at rows) n octet
 abbrev segment_with : List ℕ → List Key → List (List ℤ) → Segment
 segment_with parameters keys columns = record { parameters = parameters; keys = keys; columns = columns }
 
-segment_read : (octets r1 r2 r3 r4 : List ℕ) (parameters : List ℕ) (rows : ℕ) (keys : List Key) (columns : List (List ℤ)) → parameters_at octets ≡ Some (parameters, r1) → row_count_at r1 ≡ Some (rows, r2) → keys_at rows r2 ≡ Some (keys, r3) →
+segment_by : (octets r1 r2 r3 r4 : List ℕ) (parameters : List ℕ) (rows : ℕ) (keys : List Key) (columns : List (List ℤ)) → parameters_at octets ≡ Some (parameters, r1) → row_count_at r1 ≡ Some (rows, r2) → keys_at rows r2 ≡ Some (keys, r3) →
     times_at (raw_column_at rows) (length parameters) r3 ≡ Some (columns, r4) → segment_at octets ≡ Some (segment_with parameters keys columns, r4)
 unfolding segment_at
-segment_read octets r1 r2 r3 r4 parameters rows keys columns a b c d = rw (a, b, c, d) refl
+segment_by octets r1 r2 r3 r4 parameters rows keys columns a b c d = rw (a, b, c, d) refl
 
 ranges_read : (rows n : ℕ) (octets rest : List ℕ) (columns : List (List ℤ)) → times_at (raw_column_at rows) n octets ≡ Some (columns, rest) → times_at (range_at rows) n octets ≡ Some (map range_of columns, rest)
 ranges_read rows n octets rest columns e = ranges_mapped rows n octets ∙ rw e refl
@@ -192,22 +192,22 @@ unfolding outline_at
 outline_by octets r1 r2 r3 r4 parameters rows keys ranges a b c d = rw (a, b, c, d) refl
 
 -- where an outline was read a segment is, and it is the segment's
-pub outlined : (octets rest : List ℕ) (x : SegmentOutline) → outline_at octets ≡ Some (x, rest) → (s : Segment) × (segment_at octets ≡ Some (s, rest)) × (x ≡ outline_of s)
+pub outlined : (octets rest : List ℕ) (x : OutlineParts) → outline_at octets ≡ Some (x, rest) → (s : Segment) × (segment_at octets ≡ Some (s, rest)) × (x ≡ outline_of s)
 unfolding outline_at
 outlined octets rest x e =
     let p = bind_some (parameters_at octets) _ (x, rest) e in
     let q = bind_some (row_count_at p.0.1) _ (x, rest) p.2 in
     let r = bind_some (keys_at q.0.0 q.0.1) _ (x, rest) q.2 in
     let t = bind_some (times_at (range_at q.0.0) (length p.0.0) r.0.1) _ (x, rest) r.2 in
-    let made : SegmentOutline × List ℕ = (outline p.0.0 r.0.0 t.0.0, t.0.1) in
+    let made : OutlineParts × List ℕ = (outline p.0.0 r.0.0 t.0.0, t.0.1) in
     let same = some_is made (x, rest) t.2 in
     let c = bind_some (times_at (raw_column_at q.0.0) (length p.0.0) r.0.1) (λ y. Some (map range_of y.0, y.1)) t.0 (sym (ranges_mapped q.0.0 (length p.0.0) r.0.1) ∙ t.1) in
     let columns : List ColumnRange × List ℕ = (map range_of c.0.0, c.0.1) in
     let seen = some_is columns t.0 c.2 in
     let s = segment_with p.0.0 r.0.0 c.0.0 in
-    let read : segment_at octets ≡ Some (s, c.0.1) = segment_read octets p.0.1 q.0.1 r.0.1 c.0.1 p.0.0 q.0.0 r.0.0 c.0.0 p.1 q.1 r.1 c.1 in
-    let end : c.0.1 ≡ rest = ap (λ (y : List ColumnRange × List ℕ). y.1) seen ∙ ap (λ (y : SegmentOutline × List ℕ). y.1) same in
-    (s, read ∙ ap (λ (o : List ℕ). Some (s, o)) end, sym (ap (λ (rs : List ColumnRange). outline p.0.0 r.0.0 rs) (ap (λ (y : List ColumnRange × List ℕ). y.0) seen) ∙ ap (λ (y : SegmentOutline × List ℕ). y.0) same))
+    let read : segment_at octets ≡ Some (s, c.0.1) = segment_by octets p.0.1 q.0.1 r.0.1 c.0.1 p.0.0 q.0.0 r.0.0 c.0.0 p.1 q.1 r.1 c.1 in
+    let end : c.0.1 ≡ rest = ap (λ (y : List ColumnRange × List ℕ). y.1) seen ∙ ap (λ (y : OutlineParts × List ℕ). y.1) same in
+    (s, read ∙ ap (λ (o : List ℕ). Some (s, o)) end, sym (ap (λ (rs : List ColumnRange). outline p.0.0 r.0.0 rs) (ap (λ (y : List ColumnRange × List ℕ). y.0) seen) ∙ ap (λ (y : OutlineParts × List ℕ). y.0) same))
 
 -- the outline of a segment is read where the segment is
 pub outline_read : (octets rest : List ℕ) (s : Segment) → segment_at octets ≡ Some (s, rest) → outline_at octets ≡ Some (outline_of s, rest)
@@ -238,21 +238,23 @@ outline_read octets rest s e =
 
 -- ---- at a place
 
--- the outline that was read is that of the segment that stands there, and ends where the rest begins
-pub outline_stands : (octets front : List ℕ) (at : ℕ) (x : SegmentOutline) (rest : List ℕ) → at ≤ length octets → IsOctets octets → front ≡ drop at octets → outline_at front ≡ Some (x, rest) →
-    (s : Segment) × HasSegmentAt octets at s × (x ≡ outline_of s) × (length octets - length rest ≡ at + length (segment_octets s)) × (length rest ≤ length octets)
+-- the outline that was read is that of the segment at the front, which stands there, and ends where the rest begins
+pub outline_stands : (octets front : List ℕ) (at : ℕ) (x : OutlineParts) (rest : List ℕ) → at ≤ length octets → IsOctets octets → front ≡ drop at octets → outline_at front ≡ Some (x, rest) →
+    (x ≡ outline_of (front_segment front)) × HasSegmentAt octets at (front_segment front) × (length octets - length rest ≡ at + length (segment_octets (front_segment front))) × (length rest ≤ length octets)
 outline_stands octets front at x rest le are is read =
     let o = outlined front rest x read in
     let t = stands_at octets front at o.0 rest le are is o.1 in
-    (o.0, t.0, o.2, t.1, t.2)
+    subst (λ (s : Segment). (x ≡ outline_of s) × HasSegmentAt octets at s × (length octets - length rest ≡ at + length (segment_octets s)) × (length rest ≤ length octets))
+    (sym (ap segment_read o.1)) (o.2, t.0, t.1, t.2)
+
+-- and is the one that stands there
+pub front_is : (octets front : List ℕ) (at : ℕ) (s : Segment) → HasSegmentAt octets at s → front ≡ drop at octets → front_segment front ≡ s
+front_is octets front at s has is = ap segment_read (read_at octets front at s has is)
 
 outline_there : (octets front : List ℕ) (at : ℕ) (s : Segment) (has : HasSegmentAt octets at s) → front ≡ drop at octets → outline_at front ≡ Some (outline_of s, has.1)
 outline_there octets front at s has is = outline_read front has.1 s (read_at octets front at s has is)
 
-pub outline_is : (octets front : List ℕ) (at : ℕ) (s : Segment) (x : SegmentOutline) (rest : List ℕ) → HasSegmentAt octets at s → front ≡ drop at octets → outline_at front ≡ Some (x, rest) → x ≡ outline_of s
-outline_is octets front at s x rest has is read = ap (λ (y : SegmentOutline × List ℕ). y.0) (some_is (x, rest) (outline_of s, has.1) (sym read ∙ outline_there octets front at s has is))
-
 pub outline_memory : (octets front : List ℕ) (at : ℕ) (s : Segment) (fault : DecodeError) → HasSegmentAt octets at s → front ≡ drop at octets → Fails fault (outline_at front) → fault ≡ errors.OutOfMemory
 outline_memory octets front at s errors.OutOfMemory has is fails = refl
 outline_memory octets front at s errors.Malformed has is fails =
-    absurd (let bad : ◌≡◌ {A = Option (SegmentOutline × List ℕ)} None (Some (outline_of s, has.1)) = sym fails ∙ outline_there octets front at s has is in cc)
+    absurd (let bad : ◌≡◌ {A = Option (OutlineParts × List ℕ)} None (Some (outline_of s, has.1)) = sym fails ∙ outline_there octets front at s has is in cc)

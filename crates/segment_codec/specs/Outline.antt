@@ -1,5 +1,5 @@
 -- What of a segment tells whether it may stand in a set.
-use Rattle.std.specs.Prelude.{◌==◌, ◌+ℤ◌, ℕ, ℤ, pos, List, [], ◌∷◌, length, fold, map, Some}
+use Rattle.std.specs.Prelude.{◌==◌, ◌+ℤ◌, ℕ, ℤ, pos, List, [], ◌∷◌, length, fold, map, Option, Some, None}
 use Rattle.std.specs.Int.{w8, int_max, int_min}
 use Rattle.std.specs.List.{list_any}
 use Rattle.octet_fields.specs.Reading.{Reader, ◌>>=◌, both_at, mapped_at, number_at, tested_at, times_at}
@@ -7,10 +7,10 @@ use Rattle.arch_types.specs.declared.key.Key.{Key}
 use Rattle.segment_codec.specs.Bits.{packed_at}
 use Rattle.segment_codec.specs.KeyColumn.{keys_at}
 use Rattle.segment_codec.specs.RawColumn.{greatest, is_tight, is_width, raw_column_at}
-use Rattle.segment_codec.specs.Segment.{parameters_at, row_count_at}
+use Rattle.segment_codec.specs.Segment.{parameters_at, row_count_at, segment_at}
 use Rattle.segment_codec.specs.declared.column_range.ColumnRange.{ColumnRange}
 use Rattle.segment_codec.specs.declared.column_range.Scanned.{Scanned}
-use Rattle.segment_codec.specs.declared.outline.SegmentOutline.{SegmentOutline}
+use Rattle.segment_codec.specs.declared.outline.OutlineParts.{OutlineParts}
 use Rattle.segment_codec.specs.declared.segment.Segment.{Segment}
 
 -- the values from one to another
@@ -23,8 +23,17 @@ range_of [] = value_range (pos 0) (pos 0)
 range_of (value ∷ values) = value_range (fold int_min value values) (fold int_max value values)
 
 -- the parameters and keys of a segment, and the range of each column
-abbrev pub outline_of : Segment → SegmentOutline
+abbrev pub outline_of : Segment → OutlineParts
 outline_of s = record { parameters = s.parameters; keys = s.keys; ranges = map range_of s.columns }
+
+-- the segment that was read, or one without rows
+abbrev pub segment_read : Option (Segment × List ℕ) → Segment
+segment_read None = record { parameters = []; keys = []; columns = [] }
+segment_read (Some read) = read.0
+
+-- the segment that stands at the front of octets
+abbrev pub front_segment : List ℕ → Segment
+front_segment octets = segment_read (segment_at octets)
 
 -- ---- reading
 
@@ -43,11 +52,11 @@ varied_range_at rows low =
     (tested_at (λ p. is_tight (low, p)) (both_at (tested_at is_width (number_at w8)) (λ width. packed_at width rows)))
 
 -- parameters, keys and ranges
-abbrev pub outline : List ℕ → List Key → List ColumnRange → SegmentOutline
+abbrev pub outline : List ℕ → List Key → List ColumnRange → OutlineParts
 outline parameters keys ranges = record { parameters = parameters; keys = keys; ranges = ranges }
 
 -- reads the outline of a segment
-unfoldable pub outline_at : Reader SegmentOutline
+unfoldable pub outline_at : Reader OutlineParts
 outline_at octets =
     parameters_at octets >>= λ parameters. row_count_at parameters.1 >>= λ rows. keys_at rows.0 rows.1 >>= λ keys.
     times_at (range_at rows.0) (length parameters.0) keys.1 >>= λ ranges.

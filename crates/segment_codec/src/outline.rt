@@ -1,12 +1,12 @@
 //! Reads the outline of a segment: what tells whether it may stand in a set, in little more room than its octets take.
 
-ghost use Rattle.std.specs.Prelude.{◌≡◌, ◌+◌, ◌≤◌, length, IfOk, MatchResult};
+ghost use Rattle.std.specs.Prelude.{◌≡◌, ◌+◌, ◌≤◌, length, map, IfErr, IfOk};
 ghost use Rattle.octet_fields.specs.Answers.{Gives};
 ghost use Rattle.octet_fields.specs.Reading.{times_at};
 ghost use Rattle.octet_fields.specs.declared.fault.DecodeError.TheVariants.{OutOfMemory};
-ghost use Rattle.segment_codec.specs.Outline.{outline_at, outline_of, range_at};
+ghost use Rattle.segment_codec.specs.Outline.{outline_at, range_at, range_of};
 ghost use Rattle.segment_codec.specs.Segment.{HasSegmentAt, most_rows, segment_octets};
-ghost use Rattle.segment_codec.specs.declared.segment.Segment.{Segment};
+ghost use Rattle.segment_codec.specs.declared.segment.Segment.{Segment as ASegment};
 
 use crate::column_range::{ColumnRange, range_at};
 use crate::fault::NotASegment;
@@ -14,9 +14,11 @@ use crate::key_column::keys_at;
 use crate::parameters::parameters_at;
 use crate::reading::row_count_at;
 use crate::segment::{KeyList, ParameterList};
+use arch_types::key::Key;
 use item_list::Items;
 use octet_fields::{DecodeError, room_for};
 use std::alloc::Global;
+use std::marker::Model;
 
 /// The fewest octets of a raw column: its form, and a value.
 const LEAST_COLUMN: usize = 17;
@@ -24,14 +26,56 @@ const LEAST_COLUMN: usize = 17;
 /// How far each column's values reach.
 pub type RangeList = Items<ColumnRange>;
 
-/// A segment without its values.
+/// What is kept of a segment but for its values.
 #[derive(Debug, Drop)]
-pub struct SegmentOutline {
-    pub parameters: ParameterList,
+struct OutlineParts {
+    parameters: ParameterList,
     /// The key of each row.
-    pub keys: KeyList,
+    keys: KeyList,
     /// How far the values of each parameter reach.
-    pub ranges: RangeList,
+    ranges: RangeList,
+}
+
+/// A segment whose values stay where they are spelled. Contracts see the segment.
+#[derive(Debug, Drop)]
+pub struct SegmentOutline<'a> {
+    parts: OutlineParts,
+    /// Its spelling, and what stands behind it.
+    octets: &'a [u8],
+}
+
+impl<'a> Model for SegmentOutline<'a> {
+    ghost use Rattle.std.specs.Prelude.{◌≡◌};
+    ghost use Rattle.segment_codec.specs.Outline.{front_segment, outline_of};
+    ghost use Rattle.segment_codec.specs.declared.segment.Segment.{Segment};
+
+    ghost Value = { Segment };
+
+    ghost view = { λ o. front_segment o.octets.now };
+
+    ghost invariant = { λ o. o.parts ≡ outline_of (front_segment o.octets.now) };
+}
+
+impl<'a> SegmentOutline<'a> {
+    pub fn parameters(&self) -> &[u16]
+        ensures { result.now ≡ self.now.parameters }
+    {
+        self.parts.parameters.as_slice()
+    }
+
+    /// The key of each row.
+    pub fn keys(&self) -> &[Key]
+        ensures { result.now ≡ self.now.keys }
+    {
+        self.parts.keys.as_slice()
+    }
+
+    /// How far the values of each parameter reach.
+    pub fn ranges(&self) -> &[ColumnRange]
+        ensures { result.now ≡ map range_of self.now.columns }
+    {
+        self.parts.ranges.as_slice()
+    }
 }
 
 /// The ranges of so many raw columns, and the octets after them.
@@ -58,19 +102,19 @@ fn ranges_at(
 
 /// The outline of the segment at the front, and the octets after it.
 #[tactic(auto, unfolding(crate::specs::Outline::outline_at))]
-fn outline_at(alloc: Global, octets: &[u8]) -> Result<(SegmentOutline, &[u8]), DecodeError>
+fn outline_at(alloc: Global, octets: &[u8]) -> Result<(OutlineParts, &[u8]), DecodeError>
     ensures { Gives (λ x. (x.0, x.1.now)) result (outline_at octets.now) }
 {
     let (parameters, rest) = parameters_at(alloc, octets)?;
     let (rows, rest) = row_count_at(rest)?;
     let (keys, rest) = keys_at(alloc, rows, rest)?;
     let (ranges, rest) = ranges_at(alloc, parameters.len(), rows, rest)?;
-    let outline = SegmentOutline {
+    let parts = OutlineParts {
         parameters,
         keys,
         ranges,
     };
-    Ok((outline, rest))
+    Ok((parts, rest))
 }
 
 /// The outline of the segment whose spelling stands in octets from a place on, and the place where it ends.
@@ -81,16 +125,22 @@ pub fn read_outline(
     alloc: Global,
     octets: &[u8],
     at: usize,
-) -> Result<(SegmentOutline, usize), NotASegment>
-    ensures found { IfOk result (λ x. (s : Segment) × HasSegmentAt octets.now at s × (x.0 ≡ outline_of s) ×
-        (x.1 ≡ at + length (segment_octets s))) }
-    ensures each { (s : Segment) → HasSegmentAt octets.now at s →
-        MatchResult result (λ x. x.0 ≡ outline_of s) (λ e. e ≡ OutOfMemory) }
+) -> Result<(SegmentOutline<'_>, usize), NotASegment>
+    ensures found { IfOk result (λ x. HasSegmentAt octets.now at x.0) }
+    ensures end { IfOk result (λ x. x.1 ≡ at + length (segment_octets x.0)) }
+    ensures within { IfOk result (λ x. x.1 ≤ length octets.now) }
+    ensures same { (s : ASegment) → HasSegmentAt octets.now at s → IfOk result (λ x. x.0 ≡ s) }
+    ensures memory { (s : ASegment) → HasSegmentAt octets.now at s → IfErr result (λ e. e ≡ OutOfMemory) }
 {
     if octets.len() < at {
         return Err(NotASegment::Malformed);
     }
     let (_, front) = octets.split_at(at);
-    let (outline, rest) = outline_at(alloc, front)?;
-    Ok((outline, octets.len() - rest.len()))
+    let (parts, rest) = outline_at(alloc, front)?;
+    let end = octets.len() - rest.len();
+    let outline = SegmentOutline {
+        parts,
+        octets: front,
+    };
+    Ok((outline, end))
 }
