@@ -12,10 +12,37 @@ use atomic_table::{Seat, Shared};
 use crossbeam_utils::Backoff;
 use std::snapshot::Snapshot;
 use std::sync::Wait;
+use std::time::Duration;
 
 /// How often a caller looks whether the turn is free before it draws a ticket all the same. Callers that draw at once
 /// would hand the value, and with it each octet that a turn touches, from processor to processor at every turn.
-const LOOKS: u32 = 256;
+const LOOKS: u32 = 2048;
+
+/// How many looks are close together, by backing off and then yielding the processor. Behind them a caller sleeps: a
+/// short turn, as that of a batch, is over by then.
+const CLOSE_LOOKS: u32 = 96;
+
+/// The least time of a sleep, in microseconds.
+const SLEEP: u64 = 50;
+
+/// Passes the time to the next look, asleep behind close ones. Nobody is woken, so a turn makes no call of the system.
+fn pass_time<T: Growing, R: Wait>(
+    rt: &R,
+    shared: &Shared<Option<T>, View<T::Item, T::Fill, T>, Snapshot<T>, Turns>,
+    backoff: &Backoff,
+    looks: u32,
+    serving: u64,
+)
+    requires sized { IsCell shared.now.table_id }
+{
+    if looks % CLOSE_LOOKS != CLOSE_LOOKS - 1 {
+        backoff.snooze();
+        return;
+    }
+    let served = (serving & 0xffff_ffff) as u32;
+    shared.park_timeout(rt, 1, served, Duration::from_micros(SLEEP));
+    backoff.reset();
+}
 
 /// Draws a ticket, once the turn is free or was looked for often enough. After the last ticket it goes on for ever.
 /// It isn't inlined, nor is `wait`: beside their atomic steps the compiler would keep the zeros that it writes to a
@@ -37,17 +64,17 @@ pub(crate) fn draw<T: Growing, R: Wait>(
     let mut looks = 0;
     for _ in rt.forever() {
         let ticket = shared.peek(0);
-        let is_free = shared.peek(1) == ticket;
-        if ticket < u64::MAX && (is_free || looks == LOOKS) {
+        let serving = shared.peek(1);
+        if ticket < u64::MAX && (serving == ticket || looks == LOOKS) {
             let found = shared.compare_exchange::<Draw>(seat, 0, ticket, ticket + 1);
             if found == ticket {
                 return ticket;
             }
         }
+        pass_time(rt, shared, &backoff, looks, serving);
         if looks < LOOKS {
             looks += 1;
         }
-        backoff.snooze();
     }
     unreachable!()
 }
