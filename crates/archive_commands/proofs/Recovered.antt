@@ -81,7 +81,7 @@ module _ {D : Type 0} (device : Device D) (e : Effects D) (Recorded : ℕ → Ty
   module _ (silent : e.output' ≡ e.output) (healed : pending_fault_of old.fills ≡ None) (none_failed : length (late_in_archive (filled_of old)) ≡ 0 → IsFillFailed device old mid → ⊥)
       (unfailed : IsUnfailed device old mid → HasDiskOutcome device e.disk e.disk' false (Extended (filled_of old) old.history))
       (failed : IsFillFailed device old mid → HasDiskOutcome device e.disk e.disk' true (FillingFailed (filled_of old) old.history))
-      (near : IsUnfailed device old mid → limit_of Records ≤ mid.records → IsLogNear device e.disk e.disk' (Some 0)) where
+      (near : limit_of Records ≤ mid.records → IsLogNear device e.disk' (Some 0)) where
     -- where none is late memory was wanting
     none_to_fill : (refusal : Refusal) → length (late_in_archive (filled_of old)) ≡ 0 → IsFillingRefusal device old mid refusal
         → e.report ≡ read_only (Some refusal) (length old.history) → Ran device (late_plan Recorded (filled_of old) 0) e

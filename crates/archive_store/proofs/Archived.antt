@@ -10,7 +10,7 @@ use Rattle.octet_fields.specs.Exact.{IsOctets}
 use Rattle.history_items.specs.declared.items.Item.{Item}
 use Rattle.history_items.specs.Items.{items_of, rows_in}
 use Rattle.history_items.proofs.ItemLists.{rows_behind}
-use Rattle.field_codec.specs.Entries.{IsStored}
+use Rattle.row_codec.specs.Rows.{IsStored}
 use Rattle.field_codec.specs.declared.entry.Entry.{Entry}
 use Rattle.field_codec.specs.declared.entry.Entry.TheVariants as entries
 use Rattle.archive_store.specs.declared.head.Head.{Head}

@@ -13,7 +13,8 @@ use Rattle.history_items.specs.Databases.{names_in}
 use Rattle.history_items.specs.Outcomes.{answered_new, outcomes_of, fresh_of}
 use Rattle.history_items.proofs.Outcomes.{fresh_new, length-fresh}
 use Rattle.field_codec.specs.declared.entry.Entry.TheVariants as entries
-use Rattle.field_codec.specs.Entries.{IsStored, IsArchiveEntry}
+use Rattle.row_codec.specs.Rows.{IsStored}
+use Rattle.field_codec.specs.Entries.{IsArchiveEntry}
 use Rattle.text_forms.specs.ClockTime.{IsClockTime}
 use Rattle.archive_store.specs.declared.batch.Arrival.{Arrival}
 use Rattle.archive_store.specs.declared.batch.Batch.{Batch}

@@ -1,6 +1,6 @@
 -- What a store keeps over an install.
-use Rattle.std.proofs.Common.{◌≡◌, ◌⊎◌, inl, ℕ, ◌≤◌, ◌^◌, true, List, [], ◌∷◌, ◌++◌, length, map, Option, Some, None, refl, sym, ◌∙◌, ap, subst, arith, append-nil}
-use Rattle.std.specs.Prelude.{IsTrue, min, ◌-◌}
+use Rattle.std.proofs.Common.{◌≡◌, ◌⊎◌, inl, inr, ℕ, ◌+◌, ◌≤◌, ◌^◌, true, List, [], ◌∷◌, ◌++◌, length, map, Option, Some, None, refl, sym, ◌∙◌, ap, subst, arith, append-nil, length-append}
+use Rattle.std.specs.Prelude.{IsTrue, min, ◌-◌, ◌≢◌}
 use Rattle.arch_disk.specs.Image.{Image}
 use Rattle.arch_disk.specs.Disk.{Device, LeavesOnly, raised}
 use Rattle.arch_disk.proofs.Moments.{started}
@@ -41,7 +41,7 @@ use Rattle.archive_store.specs.Stands.{HasRecordCount, StandsFilled}
 use Rattle.archive_store.specs.StoreView.{StoreView, filled_of}
 use Rattle.archive_store.proofs.Kept.{hand-append, healthy}
 use Rattle.archive_store.proofs.OneJournal as one
-use Rattle.archive_store.proofs.PendingFaults.{keeps_without_fault}
+use Rattle.archive_store.proofs.PendingFaults.{keeps_either, keeps_without_fault}
 use Rattle.archive_store.proofs.PlainLog.{StandsPlain, plain_lower, fill_sound, found_whole, stands_filled}
 
 -- the fault of a fill that wasn't written
@@ -205,18 +205,36 @@ module _ {D : Type 0} (device : Device D) (disk opened : D) (journal : Journal) 
         replays = e.replays;
       })
 
-  -- and the journal's file has as many records as are counted
-  pub records_now : HasRecordCount (device.reads disk) (count_of journal)
-  records_now =
-      let e = k.archives.log transparent in
-      let bodies : List (List ℕ) = e.beginning ++ map entry_octets e.entries in
-      let none : unhealed_fault journal ≡ None = healthy (unhealed_fault journal) (pending_fault_of fills) k.journal_fault healed in
-      let image = device.reads_as_image disk transparent in
-      let has : HasRecords (device.reads disk (file_of journal)) bodies = keeps_without_fault device journal bodies e.pending disk none e.keeps (device.reads disk) image in (
-        bodies,
-        subst (λ (file : ℕ). HasRecords (device.reads disk file) bodies) (e.has_base (device.reads disk) image).0 has,
-        ap length e.keeps.extents ∙ length-extents 0 bodies,
-      )
+-- the records of the journal's file are counted, but for that of a failed write that is pending
+module _ {D : Type 0} (device : Device D) (disk opened : D) (journal : Journal) (head : Head) (exponent : ℕ) (history : List Item) (fills : List Fill) (filled : PlacedFills) (pending_fault : Option ℕ)
+    (k : StoreInvariant device disk opened journal head exponent history fills filled pending_fault) (transparent : IsTrue device.is_transparent) where
+  has_count : (bodies : List (List ℕ)) (count : ℕ) → HasRecords (device.reads disk (file_of journal)) bodies → count ≡ length bodies → HasRecordCount (device.reads disk) count
+  has_count bodies count has is = (
+    bodies,
+    subst (λ (file : ℕ). HasRecords (device.reads disk file) bodies) ((k.archives.log transparent).has_base (device.reads disk) (device.reads_as_image disk transparent)).0 has,
+    is,
+  )
+
+  pub records_now : HasRecordCount (device.reads disk) (count_of journal) ⊎ ((pending_fault_of fills ≢ None) × HasRecordCount (device.reads disk) (count_of journal + 1))
+  records_now = go (pending_fault_of fills) refl
+    where
+      go : (o : Option ℕ) → pending_fault_of fills ≡ o
+          → HasRecordCount (device.reads disk) (count_of journal) ⊎ ((pending_fault_of fills ≢ None) × HasRecordCount (device.reads disk) (count_of journal + 1))
+      go None healed =
+          let e = k.archives.log transparent in
+          let bodies : List (List ℕ) = e.beginning ++ map entry_octets e.entries in
+          let none : unhealed_fault journal ≡ None = healthy (unhealed_fault journal) (pending_fault_of fills) k.journal_fault healed in
+          inl (has_count bodies (count_of journal) (keeps_without_fault device journal bodies e.pending disk none e.keeps (device.reads disk) (device.reads_as_image disk transparent))
+          (ap length e.keeps.extents ∙ length-extents 0 bodies))
+      go (Some faults) pending =
+          let e = k.archives.log transparent in
+          let bodies : List (List ℕ) = e.beginning ++ map entry_octets e.entries in
+          let counted : count_of journal ≡ length bodies = ap length e.keeps.extents ∙ length-extents 0 bodies in
+          let longer = length-append bodies (e.pending ∷ []) in
+          elim (keeps_either device journal bodies e.pending disk e.keeps (device.reads disk) (device.reads_as_image disk transparent)) [
+            | inl has ↦ inl (has_count bodies (count_of journal) has counted)
+            | inr has ↦ inr (λ none. cc (pending, none), has_count (bodies ++ e.pending ∷ []) (count_of journal + 1) has (omega (arith, counted, longer)))
+          ]
 
 -- a call that doesn't ask the disk leaves the archive as it was
 module _ {D : Type 0} (device : Device D) (disk opened : D) (journal : Journal) (head : Head) (exponent : ℕ) (history : List Item) (fills : List Fill) (filled : PlacedFills) (pending_fault : Option ℕ)

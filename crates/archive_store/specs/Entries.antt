@@ -19,7 +19,8 @@ use Rattle.store_fills.specs.LastFills.{fill_over}
 use Rattle.store_fills.specs.Sound.{AreSound, Fillings, no_fillings, with_filling}
 use Rattle.field_codec.specs.declared.entry.Entry.{Entry}
 use Rattle.field_codec.specs.declared.entry.Entry.TheVariants as entries
-use Rattle.field_codec.specs.Entries.{IsArchiveEntry, IsStored}
+use Rattle.row_codec.specs.Rows.{IsStored}
+use Rattle.field_codec.specs.Entries.{IsArchiveEntry}
 use Rattle.archive_store.specs.declared.head.Head.{Head}
 use Rattle.archive_store.specs.Images.{ReplaysBy}
 use Rattle.archive_history.specs.Limits.{IsWithin}

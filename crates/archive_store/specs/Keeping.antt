@@ -1,5 +1,5 @@
 -- What the type of a store keeps.
-use Rattle.std.specs.Prelude.{◌≡◌, ◌<◌, ◌^◌, length, IsTrue, None}
+use Rattle.std.specs.Prelude.{◌≡◌, ◌≢◌, ◌⊎◌, ◌+◌, ◌<◌, ◌^◌, length, IsTrue, None}
 use Rattle.std.specs.List.{AllByRecursion}
 use Rattle.arch_disk.specs.Disk.{Device}
 use Rattle.arch_types.specs.History.{IsHistory}
@@ -15,6 +15,12 @@ use Rattle.store_fills.specs.Sound.{base_of_filling}
 use Rattle.archive_store.specs.Entries.{IsArchivedRow, IsSoundArchive}
 use Rattle.archive_store.specs.Stands.{HasRecordCount, IsSoundImage}
 use Rattle.archive_store.specs.StoreView.{CrashInvariant, FaultInvariant, IsKeptWithFills, StoreView, filled_of}
+
+-- the journal's file has as many records as are counted, or, while a failed write is pending, one more
+abbrev pub HasCountedRecords : {D : Type 0} → Device D → StoreView D → Type 0
+HasCountedRecords device store =
+    HasRecordCount (device.reads store.disk) store.records
+    ⊎ ((pending_fault_of store.fills ≢ None) × HasRecordCount (device.reads store.disk) (store.records + 1))
 
 -- what a store keeps of its head, its history, its fills and its disk, whatever was done with it
 pub record IsKept {D : Type 0} (device : Device D) (store : StoreView D) : Type 0 where
@@ -33,6 +39,5 @@ pub record IsKept {D : Type 0} (device : Device D) (store : StoreView D) : Type 
   pub images : IsTrue device.is_transparent → CrashInvariant device store
   -- while no failed write is pending, each image of now stands for the history with its fills, and nothing more
   pub kept : IsTrue device.is_transparent → pending_fault_of store.fills ≡ None → IsKeptWithFills device store
-  -- and the journal's file has as many records as are counted
-  pub records : IsTrue device.is_transparent → pending_fault_of store.fills ≡ None →
-      HasRecordCount (device.reads store.disk) store.records
+  -- and the records of the journal's file are counted
+  pub records : IsTrue device.is_transparent → HasCountedRecords device store

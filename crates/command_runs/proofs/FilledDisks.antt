@@ -23,6 +23,7 @@ use Rattle.store_fills.specs.LastFills.{PlacedFills, fillings_in}
 use Rattle.store_fills.specs.Sound.{Filling, Fillings, base_of_filling}
 use Rattle.archive_store.specs.declared.head.Head.{Head}
 use Rattle.archive_store.specs.Entries.{FilledArchive, archive, filled_archive}
+use Rattle.archive_store.specs.Keeping.{HasCountedRecords}
 use Rattle.archive_store.specs.Stands.{HasRecordCount, StandsFilled, StandsFor}
 use Rattle.archive_store.specs.StoreView.{CrashInvariant, FaultInvariant, IsKeptWithFills, StoreView, archive_of, filled_of}
 use Rattle.archive_store.proofs.PlainLog.{HoldsNoRows, kept_rows}
@@ -236,6 +237,18 @@ module _ {D : Type 0} (device : Device D) (disk : D) (old new : StoreView D) (he
 
 -- ---- a store behind fills, and a failed write that was taken back
 
+-- the log is as near its limit as the store told before
+pub log_near : {D : Type 0} (device : Device D) (mid new : StoreView D) → TriesToHeal device mid new → (IsTrue device.is_transparent → HasCountedRecords device new) → (more : ℕ)
+    → limit_of Records ≤ mid.records + more → IsLogNear device new.disk (Some more)
+log_near {D = D} device mid new healed counted more reaches known = go (counted known)
+  where
+    same : new.records ≡ mid.records
+    same = ap (λ (s : StoreView D). s.records) healed.left
+
+    go : HasCountedRecords device new → (records : ℕ) × HasRecordCount (device.reads new.disk) records × (limit_of Records ≤ records + more)
+    go (inl has) = (new.records, has, omega (arith, same, reaches))
+    go (inr has) = (new.records + 1, has.1, omega (arith, same, reaches))
+
 module _ {D : Type 0} (device : Device D) (disk : D) (old between mid new : StoreView D) (opened : IsTrue device.is_transparent → IsOpened device disk old) (first : device.fault_count disk ≤ device.fault_count old.opened)
     (head : between.head ≡ old.head) (exponent : between.exponent ≡ old.exponent) (opening : between.opened ≡ old.opened)
     (sets : IsTrue device.is_transparent → AddsRightFills old.head old.exponent between.history (fillings_in old.filled) (fillings_in between.filled)) (filled_on : IsFilledOn between mid) (healed : TriesToHeal device mid new)
@@ -264,17 +277,6 @@ module _ {D : Type 0} (device : Device D) (disk : D) (old between mid new : Stor
       adds_then old.head old.exponent new.history (fillings_in old.filled) (fillings_in between.filled) (fillings_in new.filled)
       (subst (λ (h : List Item). AddsRightFills old.head old.exponent h (fillings_in old.filled) (fillings_in between.filled)) (sym new_rows) (sets known)) behind
 
-  new_records : new.records ≡ mid.records
-  new_records = ap (λ (s : StoreView D). s.records) healed.left
-
-  -- where a write failed, and was taken back, the log is as near its limit as the store tells
-  log_near_behind : (addition : Addition) → IsTakenBack device disk new addition → (more : ℕ) → (IsTrue device.is_transparent → pending_fault_of new.fills ≡ None → HasRecordCount (device.reads new.disk) new.records)
-      → limit_of Records ≤ mid.records + more → IsLogNear device disk new.disk (Some more)
-  log_near_behind addition back more counted reaches once known =
-      let same = new_records in
-      let calm = healed_once device disk old new new_head new_exponent new_opening opened first keeps faults kept new_fills addition back once in
-      (new.records, counted known calm, omega (arith, same, reaches))
-
   -- no call of the disk had failed before the fills
   module _ (no_fault : faults_in between.fills ≡ []) (told : NoFault device disk between.disk) (writes : device.failed_writes between.disk ≡ device.failed_writes disk) where
     pub untouched : IsUnfailed device between mid → new ≡ mid
@@ -289,13 +291,6 @@ module _ {D : Type 0} (device : Device D) (disk : D) (old between mid new : Stor
     same_count : IsUnfailed device between mid → NoFault device disk new.disk
     same_count unfailed = ap (λ (s : StoreView D). device.fault_count s.disk) (untouched unfailed) ∙ unfailed.no_fault ∙ told
 
-    -- the log is as near its limit as the store tells
-    pub log_near : (more : ℕ) → (IsTrue device.is_transparent → pending_fault_of new.fills ≡ None → HasRecordCount (device.reads new.disk) new.records) → IsUnfailed device between mid
-        → limit_of Records ≤ mid.records + more → IsLogNear device disk new.disk (Some more)
-    log_near more counted unfailed reaches once known =
-        let same = new_records in
-        (new.records, counted known (pending_fault_of-in new.fills ∙ ap pending_fault_of (no_faults unfailed)), omega (arith, same, reaches))
-
     -- and none failed at a fill,
     pub unfailed_disk : IsUnfailed device between mid → HasDiskOutcome device disk new.disk false (Extended (filled_of old) between.history)
     unfailed_disk unfailed =
@@ -307,11 +302,6 @@ module _ {D : Type 0} (device : Device D) (disk : D) (old between mid new : Stor
     fill_taken_back failed =
         let fill = additions.Fill failed.interval failed.base in
         taken_back device disk mid new fill failed.count healed (failed.fault ∙ ap (λ (l : List Fill). l ++ Fault failed.count true fill ∷ []) no_fault) (failed.wrote ∙ ap raised writes)
-
-    -- so it is where a fill failed
-    pub log_near_unfilled : IsFillFailed device between mid → (more : ℕ) → (IsTrue device.is_transparent → pending_fault_of new.fills ≡ None → HasRecordCount (device.reads new.disk) new.records)
-        → limit_of Records ≤ mid.records + more → IsLogNear device disk new.disk (Some more)
-    log_near_unfilled failed more counted reaches = log_near_behind (additions.Fill failed.interval failed.base) (fill_taken_back failed) more counted reaches
 
     pub failed_disk : IsFillFailed device between mid → HasDiskOutcome device disk new.disk true (FillingFailed (filled_of old) between.history)
     failed_disk failed =
@@ -342,11 +332,6 @@ module _ {D : Type 0} (device : Device D) (disk : D) (old between mid new : Stor
 
     pub is_taken_back : faults_in mid.fills ≡ Fault count true addition ∷ [] → IsTakenBack device disk new addition
     is_taken_back one = taken_back device disk mid new addition count healed one (ap device.failed_writes (filled_on.no_call unhealed) ∙ wrote)
-
-    -- the log is as near its limit as the store tells
-    pub log_near_failed : (r : Result ℕ Refusal) → IfOk r (AllLateFilled device between mid) → IfErr r (IsFillingRefusal device between mid) → (more : ℕ)
-        → (IsTrue device.is_transparent → pending_fault_of new.fills ≡ None → HasRecordCount (device.reads new.disk) new.records) → limit_of Records ≤ mid.records + more → IsLogNear device disk new.disk (Some more)
-    log_near_failed r done refused more counted reaches = log_near_behind addition (is_taken_back (same_faults r done refused)) more counted reaches
 
     -- the count at which it was pending was reached since the disk was handed in
     pub fault_count_since : (r : Result ℕ Refusal) → IfOk r (AllLateFilled device between mid) → IfErr r (IsFillingRefusal device between mid) → (at : ℕ) → pending_fault_of between.fills ≡ Some at

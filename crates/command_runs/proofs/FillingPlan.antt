@@ -1,5 +1,5 @@
 -- How the plan goes by which a command fills what is late.
-use Rattle.std.proofs.Common.{◌≡◌, ◌⊎◌, inl, inr, ℕ, zero, suc, ◌+◌, ◌≤◌, Bool, false, true, List, length, Option, Some, None, refl, sym, ap}
+use Rattle.std.proofs.Common.{◌≡◌, inl, inr, ℕ, zero, suc, ◌+◌, ◌≤◌, Bool, false, true, List, length, Option, Some, None, refl, sym, ap}
 use Rattle.std.specs.Prelude.{IfErr, IfOk, Result, Ok, Err, nat_lt, if◌then◌else◌}
 use Rattle.arch_disk.specs.Disk.{Device}
 use Rattle.refusals.specs.declared.refusal.Refusal.{Refusal}
@@ -75,7 +75,7 @@ module _ (opened : FilledArchive) (reached : List Item) (s : Progress) {D : Type
   -- not each was filled, which is told
   module _ (IsFull : Bool → Type 0) (next : CommandPlan Progress ⊥) (untold : IsUntold s)
       (full : (refusal : Refusal) → filling_refusal old.records (length (late_intervals old.exponent old.history old.fills)) ≡ Some refusal → IsFull true)
-      (near : IsUnfailed device old mid → limit_of Records ≤ mid.records → IsLogNear device e.disk e.disk' (Some 0)) where
+      (near : limit_of Records ≤ mid.records → IsLogNear device e.disk' (Some 0)) where
     pub ran_unfilled : (refusal : Refusal) → IsFillingRefusal device old mid refusal → e.report ≡ record s.report { refusal = Some refusal } → Ran device (filling_plan IsFull opened reached s next) e
     ran_unfilled OutOfMemory r report = record {
       way = Interrupted s OfMemory;
@@ -93,7 +93,7 @@ module _ (opened : FilledArchive) (reached : List Item) (s : Progress) {D : Type
             printed = printed;
             output = rw no_output output;
             disk = rw no_disk (still r.2);
-            log = near r.2 r.1;
+            log = near r.1;
             pending = rw untold.1 tt;
           };
         }
@@ -107,13 +107,13 @@ module _ (opened : FilledArchive) (reached : List Item) (s : Progress) {D : Type
   -- another refusal is told, whatever it came to
   module _ (all : (filled : ℕ) → AllLateFilled device old mid filled → HasDiskOutcome device e.disk e.disk' false (AllFilled opened reached)) (refusal : Refusal)
       (report : e.report ≡ record s.report { refusal = Some refusal })
-      (log : IsUnfailed device old mid ⊎ IsFillFailed device old mid → IsLogNear device e.disk e.disk' s.log) (pending : IsCountedSince device e.disk e.disk' s.pending) where
+      (log : IsLogNear device e.disk' s.log) (pending : IsCountedSince device e.disk e.disk' s.pending) where
     ended : (end : Option Refusal) (told : EndedAt device e (filled_to opened reached s end) (Some refusal) (filled_to opened reached s end).failed) → IsFillingEnd end
         → Ran device (filling_behind_plan opened reached s refusal) e
     ended end told is = record { way = Stopped (filled_to opened reached s end) (Some refusal); allows = (end, is, refl); did = told }
 
     as_before : IsUnfailed device old mid → EndedAt device e s (Some refusal) s.failed
-    as_before unfailed = record { report = report; printed = printed; output = rw no_output output; disk = rw no_disk (still unfailed); log = log (inl unfailed); pending = pending }
+    as_before unfailed = record { report = report; printed = printed; output = rw no_output output; disk = rw no_disk (still unfailed); log = log; pending = pending }
 
     of_limit : (which : Which) (number : ℕ) → IsFillingRefusal device old mid (Limit which number) → IsFillingEnd (Some (Limit which number))
     of_limit which number r =
@@ -128,7 +128,7 @@ module _ (opened : FilledArchive) (reached : List Item) (s : Progress) {D : Type
           printed = printed;
           output = rw no_output output;
           disk = rw no_disk (all filled done);
-          log = log (inl done.unfailed);
+          log = log;
           pending = pending;
         }) tt
     ran_behind (Err OutOfMemory) done refused = ended (Some OutOfMemory) (as_before refused) tt
@@ -140,7 +140,7 @@ module _ (opened : FilledArchive) (reached : List Item) (s : Progress) {D : Type
           printed = printed;
           output = rw no_output output;
           disk = failed refused;
-          log = log (inr refused);
+          log = log;
           pending = pending;
         }) tt
     ran_behind (Err other) done refused = absurd refused

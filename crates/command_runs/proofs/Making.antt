@@ -1,5 +1,5 @@
 -- What is done with an archive that was made in the same call.
-use Rattle.std.proofs.Common.{◌≡◌, ◌+◌, ◌≤◌, ℕ, Bool, false, Option, Some, None, refl, sym, subst}
+use Rattle.std.proofs.Common.{◌≡◌, ◌≤◌, ℕ, Bool, false, Option, Some, None, refl, subst}
 use Rattle.std.specs.Prelude.{IsTrue}
 use Rattle.arch_disk.specs.Disk.{Device}
 use Rattle.refusals.specs.declared.refusal.Refusal.{Refusal}
@@ -9,7 +9,7 @@ use Rattle.command_plans.specs.Ledger.{RoseIf, UsedWithoutFailedWrite}
 use Rattle.command_plans.specs.Plan.{CommandPlan, EachEnd, FailedCalls, OfDisk, Way, Returned, Stopped, Interrupted, Return, Stop, May, Question, Choose, interruption_refusal, map_done, way_map_done, with_failed_call}
 use Rattle.command_plans.proofs.Plans.{allows_map_done, end_of}
 use Rattle.outer_traits.specs.States.{OutputState}
-use Rattle.command_runs.specs.Causes.{IsCountedSince, IsLogNear}
+use Rattle.command_runs.specs.Causes.{IsCountedSince}
 use Rattle.command_runs.specs.Command.{AllFilled, ArchiveSought, DiskOutcome, EndedAt, Extended, ExtensionFailed, FillingFailed, HasDiskOutcome, HasEffects, Made, MadeThen, MakingFailed, NotAsked, Opened, Progress, Ran, SeekingFailed, behind_making, effects_of}
 use Rattle.command_runs.specs.Creation.{IsMade}
 use Rattle.command_runs.specs.declared.report.Report.{Report}
@@ -43,11 +43,6 @@ module _ {D : Type 0} (device : Device D) (disk between new : D) (head : Head) (
   since None counted = tt
   since (Some faults) counted = subst (λ (n : ℕ). (above n ≤ faults) × (faults ≤ device.fault_count new)) used.faults counted
 
-  log_since : (told : Option ℕ) → IsLogNear device between new told → IsLogNear device disk new told
-  log_since None near = tt
-  log_since (Some more) near = λ once.
-      near (record { most = subst (λ (n : ℕ). device.fault_count new ≤ n + 1) (sym used.faults) once.most; below = once.below })
-
   ended_behind : (s : Progress) (refusal : Option Refusal) (failed : FailedCalls) → (s.disk ≡ NotAsked → ⊥) → EndedAt device (effects_of between new output output' report) s refusal failed
       → EndedAt device (effects_of disk new output output' report) (behind_making head s) refusal failed
   ended_behind s refusal failed asked h = record {
@@ -61,7 +56,7 @@ module _ {D : Type 0} (device : Device D) (disk between new : D) (head : Head) (
       after = h.disk;
       faults = subst (λ (n : ℕ). RoseIf (failed OfDisk) n (device.fault_count new)) used.faults (counted_by device between new (failed OfDisk) s.disk asked h.disk);
     };
-    log = log_since s.log h.log;
+    log = h.log;
     pending = since s.pending h.pending;
   }
 

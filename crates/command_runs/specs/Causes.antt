@@ -5,14 +5,13 @@ use Rattle.refusals.specs.declared.refusal.Which.TheVariants.{Records}
 use Rattle.refusals.specs.Limits.{limit_of}
 use Rattle.history_items.specs.Fills.{above}
 use Rattle.archive_store.specs.Stands.{HasRecordCount}
-use Rattle.command_runs.specs.Durable.{FailedAtMostOnce}
 
--- where a number is told and the disk failed at most once, its log reaches the limit with so many records more
-abbrev pub IsLogNear : {D : Type 0} → Device D → D → D → Option ℕ → Type 0
-IsLogNear device old new None = Unit {0}
-IsLogNear device old new (Some more) =
-    FailedAtMostOnce device old new → IsTrue device.is_transparent →
-    (records : ℕ) × HasRecordCount (device.reads new) records × (limit_of Records ≤ records + more)
+-- where a number is told, the log of a disk that is known reaches the limit with so many records more
+abbrev pub IsLogNear : {D : Type 0} → Device D → D → Option ℕ → Type 0
+IsLogNear device disk None = Unit {0}
+IsLogNear device disk (Some more) =
+    IsTrue device.is_transparent →
+    (records : ℕ) × HasRecordCount (device.reads disk) records × (limit_of Records ≤ records + more)
 
 -- where a count of faults is told, the disk came to it during the call
 abbrev pub IsCountedSince : {D : Type 0} → Device D → D → D → Option ℕ → Type 0

@@ -182,7 +182,7 @@ pub record EndedAt {D : Type 0} (device : Device D) (e : Effects D) (s : Progres
   pub printed : AppendsAs s.is_whole e.output.written e.output'.written s.text
   pub output : UsedOutput e.output e.output' (failed OfOutput)
   pub disk : HasDiskOutcome device e.disk e.disk' (failed OfDisk) s.disk
-  pub log : IsLogNear device e.disk e.disk' s.log
+  pub log : IsLogNear device e.disk' s.log
   pub pending : IsCountedSince device e.disk e.disk' s.pending
 
 -- a call did what is said where its way ended

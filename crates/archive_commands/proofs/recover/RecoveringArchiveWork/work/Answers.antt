@@ -76,6 +76,5 @@ returns-in-Err g c = λ disk new on heals after.
     ran_unrecovered device went (IsRecordCount device disk) s mid on.opened.records as_late still refl healed (none_failed device s mid on.opened.fills as_late left.unchanged)
     (unfailed_disk device disk s s mid new opened on.counts.faults refl refl refl (λ known i. inl refl) left heals after.images after.faults after.kept no_fault on.opened.no_fault on.opened.no_failed_write)
     (failed_disk device disk s s mid new opened on.counts.faults refl refl refl (λ known i. inl refl) left heals after.images after.faults after.kept no_fault on.opened.no_fault on.opened.no_failed_write)
-    (λ unfailed reaches. log_near device disk s s mid new opened on.counts.faults refl refl refl (λ known i. inl refl) left heals after.images after.faults after.kept no_fault on.opened.no_fault on.opened.no_failed_write
-    0 after.records unfailed (omega (arith, reaches)))
+    (λ reaches. log_near device mid new heals after.records 0 (omega (arith, reaches)))
     refusal refused is

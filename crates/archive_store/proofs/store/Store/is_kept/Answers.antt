@@ -26,6 +26,6 @@ returns g c =
       faults = of_store.faults;
       images = crash_of device s.disk s.opened.value s.journal s.head s.history.exponent s.history.items s.tracker.fills s.sets.filled s.pending_fault of_store;
       kept = λ known healed. kept_now device s.disk s.opened.value s.journal s.head s.history.exponent s.history.items s.tracker.fills s.sets.filled s.pending_fault of_store healed known;
-      records = λ known healed. records_now device s.disk s.opened.value s.journal s.head s.history.exponent s.history.items s.tracker.fills s.sets.filled s.pending_fault of_store healed known;
+      records = λ known. records_now device s.disk s.opened.value s.journal s.head s.history.exponent s.history.items s.tracker.fills s.sets.filled s.pending_fault of_store known;
     } in
     subst (λ (x : StoreView g.row.D.Denot). IsKept device x) c.self.view_is all
