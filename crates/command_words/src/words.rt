@@ -3,7 +3,7 @@
 ghost use Rattle.std.specs.Prelude.{◌≡◌, ◌≢◌, map, string_bytes, Some, IfOk, IfErr, true, not, nat_eq, codes, ◌&&◌, ◌⊎◌, false, None, option_map, position, ◌==◌, ◌<◌, length, IfSome};
 ghost use Rattle.std.specs.List.{list_all};
 ghost use Rattle.std.specs.Str.{bytes_eq};
-ghost use Rattle.clap.specs.Words.{app_of, is_simple, rows_of, found_of};
+ghost use Rattle.clap.specs.Words.{app_of, is_simple, one_text, rows_of, found_of};
 ghost use Rattle.clap.specs.Faults.{is_simple_and_free};
 ghost use Rattle.clap.specs.Walk.{rule_of, is_empty, first_of};
 ghost use Rattle.command_words.specs.Words.{are_plain, are_filled, are_whole, is_whole_word, rows_of_words, AreNoRows, plain_app, is_last};
@@ -26,6 +26,8 @@ pub enum Argument<'a> {
     Repeated(&'a str),
     /// An option `--id value` or `--id=value`, which may have to come.
     Option { id: &'a str, required: bool },
+    /// An option `--id` without a value, which may come.
+    Flag(&'a str),
 }
 
 /// What clap finds in the words behind a command that takes these arguments.
@@ -86,6 +88,7 @@ fn arg_of<'a>(alloc: Global, argument: Argument<'a>) -> Arg<'a>
             .long(id)
             .action(ArgAction::Set)
             .required(required),
+        Argument::Flag(id) => Arg::new(alloc, id).long(id).action(ArgAction::SetTrue),
     }
 }
 
@@ -94,6 +97,15 @@ pub fn given_word<'a>(found: &ArgMatches<'a>, id: &str) -> Option<&'a str>
     ensures { option_map (λ word. word.now) result ≡ first_of id.now (rows_of (found_of found.now)) }
 {
     found.get_str(id)
+}
+
+/// Whether the option of a `Flag` was given: clap finds the text `true` for it then, else `false`.
+pub fn is_given(found: &ArgMatches<'_>, id: &str) -> bool
+    ensures given { one_text (found_of found.now) id.now ≡ Some (codes "true") → result ≡ true }
+    ensures otherwise { one_text (found_of found.now) id.now ≡ Some (codes "false") → result ≡ false }
+    ensures unknown { one_text (found_of found.now) id.now ≡ None → result ≡ false }
+{
+    found.get_flag(id)
 }
 
 /// The words that were found for the id of a `Repeated`, in their order: one or more.
