@@ -5,11 +5,10 @@ use Rattle.asks.specs.declared.ask.Ask.TheVariants.{Values, Replay}
 use Rattle.asks.specs.Names.{parameter_number}
 use Rattle.history_items.specs.declared.items.Item.{Item}
 use Rattle.history_items.specs.Databases.{database_in, names_in}
-use Rattle.archive_store.specs.declared.head.Head.{Head}
-use Rattle.archive_store.specs.Entries.{Archive}
+use Rattle.archive_store.specs.Entries.{Archive, FilledArchive}
 use Rattle.live_asks.specs.declared.answered.AskAnswer.{AskAnswer}
 use Rattle.live_asks.specs.declared.answered.AskAnswer.TheVariants as collected
-use Rattle.live_asks.specs.LiveAsks.{IsAnsweredInTurn}
+use Rattle.live_asks.specs.LiveAsks.{DiskFacts, IsAnsweredInTurn}
 use Rattle.retrieval.specs.declared.found_asks.FoundAsk.{FoundAsk}
 use Rattle.retrieval.specs.AnswerText.{answer_lines}
 use Rattle.retrieval.specs.ReplayText.{replay_lines}
@@ -17,12 +16,12 @@ use Rattle.retrieval.specs.ReplayText.{replay_lines}
 -- ---- over which histories
 
 -- each ask was answered over a history that goes on from the first one and with which the last one begins
-abbrev pub AreAnsweredInTurns : (Type 0 → Type 0) → Head → List Item → List Item → List FoundAsk → List AskAnswer
+abbrev pub AreAnsweredInTurns : DiskFacts → FilledArchive → List Item → List Item → List FoundAsk → List AskAnswer
     → Type 0
-AreAnsweredInTurns Where head first last [] [] = Unit {0}
-AreAnsweredInTurns Where head first last (ask ∷ asks) (answer ∷ answers) =
-    IsAnsweredInTurn Where head first last ask answer × AreAnsweredInTurns Where head first last asks answers
-AreAnsweredInTurns Where head first last asks answers = ⊥
+AreAnsweredInTurns facts opened first last [] [] = Unit {0}
+AreAnsweredInTurns facts opened first last (ask ∷ asks) (answer ∷ answers) =
+    IsAnsweredInTurn facts opened first last ask answer × AreAnsweredInTurns facts opened first last asks answers
+AreAnsweredInTurns facts opened first last asks answers = ⊥
 
 -- ---- their text
 

@@ -43,7 +43,8 @@ pub fn check_asks<D: Disk>(
     }
 }
 
-/// Prints the answers to asks, numbered from 1, of which the last may still be buffered. Where there's none it always succeeds.
+/// Prints the answers to asks, numbered from 1, of which the last may still be buffered. Where there's none it always
+/// succeeds.
 pub fn print_asks<D: Disk, K: Sink, L: Ledger>(
     alloc: Global,
     asks: &[FoundAsk],

@@ -1,5 +1,6 @@
 -- Asks that are answered in a turn.
-use Rattle.std.proofs.Common.{◌≡◌, inl, inr, ℕ, ◌≤◌, List, length, Result, Ok, Err, MatchResult, Option, Some, None, sym, ap, ◌∙◌, subst, arith}
+use Rattle.std.proofs.Common.{◌≡◌, ◌⊎◌, inl, inr, ℕ, ◌≤◌, List, length, Result, Ok, Err, MatchResult, Option, Some, None, sym, ap, ◌∙◌, subst, arith}
+use Rattle.std.specs.Prelude.{IsTrue}
 use Rattle.arch_disk.specs.Disk.{Device}
 use Rattle.asks.specs.declared.ask.Answer.{Answer}
 use Rattle.asks.specs.declared.ask.Request.{Request}
@@ -16,8 +17,12 @@ use Rattle.history_items.specs.declared.fills.Fill.{Fill}
 use Rattle.history_items.specs.declared.items.Item.{Item}
 use Rattle.history_items.specs.Databases.{database_in, names_in}
 use Rattle.history_items.specs.Items.{rows_in}
+use Rattle.param_segments.specs.Rows.{SetRow}
 use Rattle.replay_merge.specs.Cursor.{CursorView, rest_of}
 use Rattle.replay_merge.specs.Replay.{replay_of}
+use Rattle.store_fills.specs.Filled.{IsRightFill}
+use Rattle.store_fills.specs.LastFills.{fillings_in}
+use Rattle.store_fills.specs.Sound.{Filling}
 use Rattle.turn_cell.specs.Pass.{PassView}
 use Rattle.archive_store.specs.declared.finding.FoundReplay.{FoundReplay}
 use Rattle.archive_store.specs.declared.finding.FoundRequest.{FoundRequest}
@@ -25,15 +30,16 @@ use Rattle.archive_store.specs.declared.head.Head.{Head}
 use Rattle.archive_store.specs.Finding.{IsNotFound, IsRequestFound}
 use Rattle.archive_store.specs.Replays.{IsReplayOpened, rows_below}
 use Rattle.archive_store.specs.Stands.{IsSoundImage}
-use Rattle.archive_store.specs.StoreView.{StoreView}
+use Rattle.archive_store.specs.StoreView.{StoreView, filled_of}
 use Rattle.archive_store.proofs.UnreadRows.{refusal_is_memory}
+use Rattle.retrieval.specs.FilledAnswer.{IsFilledAnswer}
 use Rattle.retrieval.specs.declared.found_asks.FoundAsk.TheVariants as looked_up
-use Rattle.live_archive.specs.Answers.{WhereSound}
+use Rattle.live_archive.specs.GoesOn.{GoesOn, HasFillOrNew}
 use Rattle.live_archive.specs.Retrievals.{IsAnswerIn, IsNotAnswered, in_force}
 use Rattle.live_archive.specs.Turns.{TookTurn}
 use Rattle.live_archive.proofs.Going.{prefix_trans}
 use Rattle.live_asks.specs.declared.answered.AskAnswer.TheVariants as answered
-use Rattle.live_asks.specs.LiveAsks.{IsAnsweredInTurn, OnlySees}
+use Rattle.live_asks.specs.LiveAsks.{AreFillsSince, IsAnsweredInTurn, OnlySees, disk_facts}
 use Rattle.live_asks.proofs.Sees.{found_begins, found_is_seen, sees_turn}
 
 -- a request that was found is refused for want of memory alone
@@ -44,11 +50,21 @@ memory_alone device before after exactly found refusal is (inl not) =
     let none : request_refusal (in_force before) found.request ≡ None = (exactly (in_force before) found.request).1 ((λ no. absurd (cc (no, is.number))), is.range) in
     subst (λ (o : Option AskRefusal). IsNotFound o refusal) none not
 
+-- the fills of a store that goes on from a first one are those that it had, or right ones since
+fills_since : {D : Type 0} (device : Device D) (first now : StoreView D) → GoesOn device first now → IsTrue device.is_transparent → AreFillsSince (filled_of first) now.history (fillings_in now.filled)
+fills_since device first now goes known interval = go (goes.sets known interval)
+  where
+    go : HasFillOrNew first now interval
+        → (fillings_in now.filled interval ≡ fillings_in first.filled interval)
+        ⊎ ((fill : Filling (List SetRow)) × (fillings_in now.filled interval ≡ Some fill) × IsRightFill first.exponent first.head.mdb now.history interval fill.base fill.set)
+    go (inl same) = inl same
+    go (inr new) = inr (new.fill, new.has, new.right)
+
 module _ {D T : Type 0} (device : Device D) (first : StoreView D) (old new : PassView Item Fill T) where
   -- ---- values
   module _ (found : FoundRequest) where
     values_answered : (answer : Answer) (turn : TookTurn device first old new (λ before after. (after ≡ before) × IsAnswerIn device before found.request answer))
-        → IsAnsweredInTurn (WhereSound device first) first.head old.history.seen new.history.seen (looked_up.Values found) (answered.Values answer)
+        → IsAnsweredInTurn (disk_facts device first.opened) (filled_of first) old.history.seen new.history.seen (looked_up.Values found) (answered.Values answer)
     values_answered answer turn =
         let before = turn.before in
         let request = found.request in
@@ -57,7 +73,10 @@ module _ {D T : Type 0} (device : Device D) (first : StoreView D) (old new : Pas
           later = turn.turned.begins;
           begins = found_begins device first before turn.after old new turn.turned turn.said.0;
           answers = record {
-            front = turn.said.1.filled.front;
+            fillings = fillings_in before.filled;
+            since = fills_since device first before turn.turned.found;
+            filled = subst (λ (head : Head). IsFilledAnswer (database_in head.mdb before.history) first.exponent before.history (fillings_in before.filled) request answer) goes.head
+                (subst (λ (exponent : ℕ). IsFilledAnswer (in_force before) exponent before.history (fillings_in before.filled) request answer) goes.exponent turn.said.1.filled);
             cells = λ clear sound. subst
                 (λ (head : Head). (number : ℕ) × (parameter_number (database_in head.mdb before.history) request.parameter ≡ Some number)
                 × (answer.cells ≡ answer_of (database_in head.mdb before.history) number request (rows_in before.history)))
@@ -76,7 +95,7 @@ module _ {D T : Type 0} (device : Device D) (first : StoreView D) (old new : Pas
       pub retrieval_sees : (result : Result Answer Refusal) → Retrieves result → OnlySees old new
       retrieval_sees result turn = sees_turn device first turn.before turn.after old new turn.turned turn.said.0
 
-      pub retrieval_answers : (answer : Answer) → Retrieves (Ok answer) → IsAnsweredInTurn (WhereSound device first) first.head old.history.seen new.history.seen (looked_up.Values found) (answered.Values answer)
+      pub retrieval_answers : (answer : Answer) → Retrieves (Ok answer) → IsAnsweredInTurn (disk_facts device first.opened) (filled_of first) old.history.seen new.history.seen (looked_up.Values found) (answered.Values answer)
       retrieval_answers answer turn = values_answered answer (of_found (Ok answer) turn)
 
       pub retrieval_refuses : RequestHasAnswerExactly → (refusal : Refusal) → IsRequestFound (database_in first.head.mdb first.history) found → Retrieves (Err refusal) → refusal ≡ OutOfMemory
@@ -98,7 +117,7 @@ module _ {D T : Type 0} (device : Device D) (first : StoreView D) (old new : Pas
   -- all rows that were left were taken
   pub replay_answers : (found : FoundReplay) (cursor : CursorView) (rows : List Row) (last : PassView Item Fill T) → Opens found cursor → OnlySees new last
       → rows ≡ rest_of cursor (rows_below last.history.seen)
-      → IsAnsweredInTurn (WhereSound device first) first.head old.history.seen last.history.seen (looked_up.Replay found) (answered.Replay (record { front = cursor.front; rows = rows }))
+      → IsAnsweredInTurn (disk_facts device first.opened) (filled_of first) old.history.seen last.history.seen (looked_up.Replay found) (answered.Replay (record { front = cursor.front; rows = rows }))
   replay_answers found cursor rows last turn sees is =
       let before = turn.before in
       let opened = turn.said.1 in

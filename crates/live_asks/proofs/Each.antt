@@ -4,26 +4,26 @@ use mathlib.Core.List.{IsPrefix}
 use Rattle.refusals.specs.declared.refusal.Refusal.{Refusal}
 use Rattle.refusals.specs.declared.refusal.Refusal.TheVariants.{OutOfMemory}
 use Rattle.history_items.specs.declared.items.Item.{Item}
-use Rattle.archive_store.specs.declared.head.Head.{Head}
+use Rattle.archive_store.specs.Entries.{FilledArchive}
 use Rattle.retrieval.specs.declared.found_asks.FoundAsk.{FoundAsk}
 use Rattle.live_archive.proofs.Going.{prefix_trans}
 use Rattle.live_asks.specs.declared.answered.AskAnswer.{AskAnswer}
-use Rattle.live_asks.specs.LiveAsks.{AreAnswered, IsAnsweredInTurn, every_fourth}
+use Rattle.live_asks.specs.LiveAsks.{AreAnswered, DiskFacts, IsAnsweredInTurn, every_fourth}
 
-module _ (Where : Type 0 → Type 0) (head : Head) where
+module _ (facts : DiskFacts) (opened : FilledArchive) where
   -- each of these is answered, over a history that goes on from that of the one before
   abbrev pub EachAnswered : List Item → List Item → List FoundAsk → List AskAnswer → Type 0
   EachAnswered old seen [] [] = Unit {0}
   EachAnswered old seen [] (answer ∷ answers) = ⊥
   EachAnswered old seen (ask ∷ asks) [] = ⊥
-  EachAnswered old seen (ask ∷ asks) (answer ∷ answers) = (turn : IsAnsweredInTurn Where head old seen ask answer) × EachAnswered turn.over seen asks answers
+  EachAnswered old seen (ask ∷ asks) (answer ∷ answers) = (turn : IsAnsweredInTurn facts opened old seen ask answer) × EachAnswered turn.over seen asks answers
 
   -- as the pass sees more
-  abbrev pub answer_stays : (old seen later : List Item) (ask : FoundAsk) (answer : AskAnswer) → IsPrefix seen later → IsAnsweredInTurn Where head old seen ask answer → IsAnsweredInTurn Where head old later ask answer
+  abbrev pub answer_stays : (old seen later : List Item) (ask : FoundAsk) (answer : AskAnswer) → IsPrefix seen later → IsAnsweredInTurn facts opened old seen ask answer → IsAnsweredInTurn facts opened old later ask answer
   answer_stays old seen later ask answer more is = record { over = is.over; later = is.later; begins = prefix_trans is.over seen later is.begins more; answers = is.answers }
 
   -- behind an older history
-  answer_since : (old mid seen : List Item) (ask : FoundAsk) (answer : AskAnswer) → IsPrefix old mid → IsAnsweredInTurn Where head mid seen ask answer → IsAnsweredInTurn Where head old seen ask answer
+  answer_since : (old mid seen : List Item) (ask : FoundAsk) (answer : AskAnswer) → IsPrefix old mid → IsAnsweredInTurn facts opened mid seen ask answer → IsAnsweredInTurn facts opened old seen ask answer
   answer_since old mid seen ask answer more is = record { over = is.over; later = prefix_trans old mid is.over more is.later; begins = is.begins; answers = is.answers }
 
   pub each_stays : (old seen later : List Item) (asks : List FoundAsk) (answers : List AskAnswer) → IsPrefix seen later → EachAnswered old seen asks answers → EachAnswered old later asks answers
@@ -34,29 +34,29 @@ module _ (Where : Type 0 → Type 0) (head : Head) where
 
   -- with one more, in a turn that found more than was seen
   pub each_more : (old seen later : List Item) (asks : List FoundAsk) (answers : List AskAnswer) (ask : FoundAsk) (answer : AskAnswer) → IsPrefix old seen → IsPrefix seen later → EachAnswered old seen asks answers
-      → IsAnsweredInTurn Where head seen later ask answer → EachAnswered old later (asks ++ ask ∷ []) (answers ++ answer ∷ [])
+      → IsAnsweredInTurn facts opened seen later ask answer → EachAnswered old later (asks ++ ask ∷ []) (answers ++ answer ∷ [])
   each_more old seen later [] [] ask answer begins more each is = (answer_since old seen later ask answer begins is, tt)
   each_more old seen later [] (answer' ∷ answers) ask answer begins more each is = absurd each
   each_more old seen later (ask' ∷ asks) [] ask answer begins more each is = absurd each
   each_more old seen later (ask' ∷ asks) (answer' ∷ answers) ask answer begins more each is =
       (answer_stays old seen later ask' answer' more each.0, each_more each.0.over seen later asks answers ask answer each.0.begins more each.1 is)
 
-  pub all_answered : (old seen : List Item) (asks : List FoundAsk) (answers : List AskAnswer) → EachAnswered old seen asks answers → AreAnswered Where head old seen asks answers None
+  pub all_answered : (old seen : List Item) (asks : List FoundAsk) (answers : List AskAnswer) → EachAnswered old seen asks answers → AreAnswered facts opened old seen asks answers None
   all_answered old seen [] [] each = tt
   all_answered old seen [] (answer ∷ answers) each = absurd each
   all_answered old seen (ask ∷ asks) [] each = absurd each
   all_answered old seen (ask ∷ asks) (answer ∷ answers) each = (each.0, all_answered each.0.over seen asks answers each.1)
 
   pub one_unanswered : (old seen : List Item) (asks : List FoundAsk) (answers : List AskAnswer) (ask : FoundAsk) (more : List FoundAsk) (refusal : Refusal) → EachAnswered old seen asks answers
-      → refusal ≡ OutOfMemory → AreAnswered Where head old seen (asks ++ ask ∷ more) answers (Some refusal)
+      → refusal ≡ OutOfMemory → AreAnswered facts opened old seen (asks ++ ask ∷ more) answers (Some refusal)
   one_unanswered old seen [] [] ask more refusal each is = is
   one_unanswered old seen [] (answer ∷ answers) ask more refusal each is = absurd each
   one_unanswered old seen (ask' ∷ asks) [] ask more refusal each is = absurd each
   one_unanswered old seen (ask' ∷ asks) (answer ∷ answers) ask more refusal each is = (each.0, one_unanswered each.0.over seen asks answers ask more refusal each.1 is)
 
   -- what a reader was answered stays so
-  pub are_answered_later : (old seen later : List Item) (asks : List FoundAsk) (answers : List AskAnswer) (refusal : Option Refusal) → IsPrefix seen later → AreAnswered Where head old seen asks answers refusal
-      → AreAnswered Where head old later asks answers refusal
+  pub are_answered_later : (old seen later : List Item) (asks : List FoundAsk) (answers : List AskAnswer) (refusal : Option Refusal) → IsPrefix seen later → AreAnswered facts opened old seen asks answers refusal
+      → AreAnswered facts opened old later asks answers refusal
   are_answered_later old seen later [] [] None more are = are
   are_answered_later old seen later [] [] (Some refusal) more are = absurd are
   are_answered_later old seen later [] (answer ∷ answers) refusal more are = absurd are
@@ -90,7 +90,7 @@ module _ (Where : Type 0 → Type 0) (head : Head) where
 
     -- one that is answered
     pub one_more : (later : List Item) (skip : ℕ) (answers answers' : List AskAnswer) (answer : AskAnswer) → skip ≡ 0 → IsPrefix old seen → IsPrefix seen later
-        → IsAnsweredInTurn Where head seen later ask answer → answers' ≡ answers ++ answer ∷ [] → AreAnsweredSoFar old seen all left skip answers → AreAnsweredSoFar old later all more 3 answers'
+        → IsAnsweredInTurn facts opened seen later ask answer → answers' ≡ answers ++ answer ∷ [] → AreAnsweredSoFar old seen all left skip answers → AreAnsweredSoFar old later all more 3 answers'
     one_more later skip answers answers' answer mine begins longer it pushed s = record {
       done = s.done ++ ask ∷ [];
       parts = whole skip answers mine s ∙ sym (append_assoc s.done (ask ∷ []) (every_fourth 3 more));
@@ -99,13 +99,13 @@ module _ (Where : Type 0 → Type 0) (head : Head) where
 
     -- one for which there is no memory
     pub ended_at : (later : List Item) (skip : ℕ) (answers : List AskAnswer) (refusal : Refusal) → skip ≡ 0 → IsPrefix seen later → refusal ≡ OutOfMemory → AreAnsweredSoFar old seen all left skip answers
-        → AreAnswered Where head old later all answers (Some refusal)
+        → AreAnswered facts opened old later all answers (Some refusal)
     ended_at later skip answers refusal mine longer memory s =
-        subst (λ (l : List FoundAsk). AreAnswered Where head old later l answers (Some refusal)) (sym (whole skip answers mine s))
+        subst (λ (l : List FoundAsk). AreAnswered facts opened old later l answers (Some refusal)) (sym (whole skip answers mine s))
         (one_unanswered old later s.done answers ask (every_fourth 3 more) refusal (each_stays old seen later s.done answers longer s.each) memory)
 
   -- none is left
-  pub ended_all : (old seen : List Item) (all left : List FoundAsk) (skip : ℕ) (answers : List AskAnswer) → left ≡ [] → AreAnsweredSoFar old seen all left skip answers → AreAnswered Where head old seen all answers None
+  pub ended_all : (old seen : List Item) (all left : List FoundAsk) (skip : ℕ) (answers : List AskAnswer) → left ≡ [] → AreAnsweredSoFar old seen all left skip answers → AreAnswered facts opened old seen all answers None
   ended_all old seen all left skip answers none s =
       let done : all ≡ s.done = s.parts ∙ (ap (λ (l : List FoundAsk). s.done ++ every_fourth skip l) none ∙ append-nil s.done) in
-      subst (λ (l : List FoundAsk). AreAnswered Where head old seen l answers None) (sym done) (all_answered old seen s.done answers s.each)
+      subst (λ (l : List FoundAsk). AreAnswered facts opened old seen l answers None) (sym done) (all_answered old seen s.done answers s.each)

@@ -1,20 +1,28 @@
 -- What a reader is told of a live archive.
-use Rattle.std.specs.Prelude.{◌≡◌, ℕ, zero, suc, List, [], ◌∷◌, length, Option, Some, None}
+use Rattle.std.specs.Prelude.{◌≡◌, ◌⊎◌, ℕ, zero, suc, List, [], ◌∷◌, length, Option, Some, None, IsTrue}
 use mathlib.Core.List.{IsPrefix}
+use Rattle.arch_disk.specs.Disk.{Device}
 use Rattle.asks.specs.declared.ask.Answer.{Answer}
 use Rattle.asks.specs.declared.ask.ReplayRequest.{ReplayRequest}
 use Rattle.asks.specs.declared.ask.Request.{Request}
 use Rattle.asks.specs.Names.{parameter_number, table_number}
 use Rattle.refusals.specs.declared.refusal.Refusal.{Refusal}
 use Rattle.refusals.specs.declared.refusal.Refusal.TheVariants.{OutOfMemory}
+use Rattle.intervals.specs.declared.interval.Interval.{Interval}
 use Rattle.container_extract.specs.Answer.{answer_of}
 use Rattle.history_items.specs.declared.fills.Fill.{Fill}
 use Rattle.history_items.specs.declared.items.Item.{Item}
 use Rattle.history_items.specs.Databases.{database_in, names_in}
 use Rattle.history_items.specs.Items.{rows_in}
+use Rattle.param_segments.specs.Rows.{SetRow}
 use Rattle.replay_merge.specs.Replay.{replay_of}
+use Rattle.store_fills.specs.Filled.{IsRightFill}
+use Rattle.store_fills.specs.Sound.{Filling, Fillings}
 use Rattle.turn_cell.specs.Pass.{PassView}
 use Rattle.archive_store.specs.declared.head.Head.{Head}
+use Rattle.archive_store.specs.Entries.{FilledArchive}
+use Rattle.archive_store.specs.Stands.{IsSoundImage}
+use Rattle.retrieval.specs.FilledAnswer.{IsFilledAnswer}
 use Rattle.retrieval.specs.declared.found_asks.FoundAsk.{FoundAsk}
 use Rattle.retrieval.specs.declared.found_asks.FoundAsk.TheVariants as looked_up
 use Rattle.live_asks.specs.declared.answered.ReplayedRows.{ReplayedRows}
@@ -38,16 +46,40 @@ every_fourth before [] = []
 every_fourth zero (x ∷ xs) = x ∷ every_fourth 3 xs
 every_fourth (suc before) (x ∷ xs) = every_fourth before xs
 
+-- ---- the archive that is asked
+
+-- whether what the disk of an archive holds is known, and whether the fills there are sound
+pub record DiskFacts : Type 1 where
+  pub known : Type 0
+  pub sound : Type 0
+
+-- those of a disk
+abbrev pub disk_facts : {D : Type 0} → Device D → D → DiskFacts
+disk_facts device disk = record { known = IsTrue device.is_transparent; sound = IsSoundImage (device.reads disk) }
+
+-- fills that an archive may have since it was opened: each interval has the one that it had then, or one that is right
+-- for a history
+abbrev pub AreFillsSince : FilledArchive → List Item → Fillings (List SetRow) → Type 0
+AreFillsSince opened history fillings =
+    (interval : Interval) →
+    (fillings interval ≡ opened.fillings interval)
+    ⊎ ((fill : Filling (List SetRow)) × (fillings interval ≡ Some fill)
+    × IsRightFill opened.plain.exponent opened.plain.head.mdb history interval fill.base fill.set)
+
 -- ---- answers
 
--- The whole history stands behind the answer; where `Where` says so, as where the archive's fills were sound when it
--- was opened, its cells are those that the rows of the range give.
-pub record HasCellsOf (Where : Type 0 → Type 0) (head : Head) (history : List Item) (request : Request)
+-- The whole history stands behind the answer, with the fills that there were in its turn. Where the disk is known each
+-- is one of the archive when it was opened, or a right one since; where those were sound, too, the cells are those that
+-- the rows of the range give.
+pub record HasCellsOf (facts : DiskFacts) (opened : FilledArchive) (history : List Item) (request : Request)
     (answer : Answer) : Type 0 where
-  pub front : answer.front ≡ length history
-  pub cells : Where ((number : ℕ)
-      × (parameter_number (database_in head.mdb history) request.parameter ≡ Some number)
-      × (answer.cells ≡ answer_of (database_in head.mdb history) number request (rows_in history)))
+  pub fillings : Fillings (List SetRow)
+  pub since : facts.known → AreFillsSince opened history fillings
+  pub filled : IsFilledAnswer (database_in opened.plain.head.mdb history) opened.plain.exponent history fillings request
+      answer
+  pub cells : facts.known → facts.sound → (number : ℕ)
+      × (parameter_number (database_in opened.plain.head.mdb history) request.parameter ≡ Some number)
+      × (answer.cells ≡ answer_of (database_in opened.plain.head.mdb history) number request (rows_in history))
 
 -- the whole history stands behind the rows, which are the replay of it
 pub record HasReplayOf (head : Head) (history : List Item) (request : ReplayRequest) (replayed : ReplayedRows)
@@ -58,29 +90,29 @@ pub record HasReplayOf (head : Head) (history : List Item) (request : ReplayRequ
   pub rows : replayed.rows ≡ replay_of (names_in head.mdb history) table request (rows_in history)
 
 -- an ask is answered over a history
-abbrev pub AnswersOver : (Type 0 → Type 0) → Head → List Item → FoundAsk → AskAnswer → Type 0
-AnswersOver Where head history (looked_up.Values found) (answered.Values answer) =
-    HasCellsOf Where head history found.request answer
-AnswersOver Where head history (looked_up.Replay found) (answered.Replay replayed) =
-    HasReplayOf head history found.request replayed
-AnswersOver Where head history ask other = ⊥
+abbrev pub AnswersOver : DiskFacts → FilledArchive → List Item → FoundAsk → AskAnswer → Type 0
+AnswersOver facts opened history (looked_up.Values found) (answered.Values answer) =
+    HasCellsOf facts opened history found.request answer
+AnswersOver facts opened history (looked_up.Replay found) (answered.Replay replayed) =
+    HasReplayOf opened.plain.head history found.request replayed
+AnswersOver facts opened history ask other = ⊥
 
 -- It is over the history that there was in some turn: it goes on from an old one, and the one seen last goes on from
 -- it.
-pub record IsAnsweredInTurn (Where : Type 0 → Type 0) (head : Head) (old seen : List Item) (ask : FoundAsk)
+pub record IsAnsweredInTurn (facts : DiskFacts) (opened : FilledArchive) (old seen : List Item) (ask : FoundAsk)
     (answer : AskAnswer) : Type 0 where
   pub over : List Item
   pub later : IsPrefix old over
   pub begins : IsPrefix over seen
-  pub answers : AnswersOver Where head over ask answer
+  pub answers : AnswersOver facts opened over ask answer
 
 -- each ask is answered, over a history that goes on from that of the answer before, or, where there was no memory for
 -- one, those before it
-abbrev pub AreAnswered : (Type 0 → Type 0) → Head → List Item → List Item → List FoundAsk → List AskAnswer
+abbrev pub AreAnswered : DiskFacts → FilledArchive → List Item → List Item → List FoundAsk → List AskAnswer
     → Option Refusal → Type 0
-AreAnswered Where head old seen [] [] None = Unit {0}
-AreAnswered Where head old seen (ask ∷ asks) [] (Some refusal) = refusal ≡ OutOfMemory
-AreAnswered Where head old seen (ask ∷ asks) (answer ∷ answers) refusal =
-    (turn : IsAnsweredInTurn Where head old seen ask answer)
-    × AreAnswered Where head turn.over seen asks answers refusal
-AreAnswered Where head old seen asks answers refusal = ⊥
+AreAnswered facts opened old seen [] [] None = Unit {0}
+AreAnswered facts opened old seen (ask ∷ asks) [] (Some refusal) = refusal ≡ OutOfMemory
+AreAnswered facts opened old seen (ask ∷ asks) (answer ∷ answers) refusal =
+    (turn : IsAnsweredInTurn facts opened old seen ask answer)
+    × AreAnswered facts opened turn.over seen asks answers refusal
+AreAnswered facts opened old seen asks answers refusal = ⊥

@@ -4,8 +4,8 @@ ghost use Rattle.std.specs.Prelude.{◌≡◌, []};
 ghost use Rattle.retrieval.specs.FoundAsks.{AreFound};
 ghost use Rattle.std.specs.Result.{result_err};
 ghost use Rattle.turn_cell.specs.Pass.{IsFree};
-ghost use Rattle.live_archive.specs.Answers.{WhereSound};
-ghost use Rattle.live_asks.specs.LiveAsks.{AreAnswered, OnlySees, every_fourth};
+ghost use Rattle.archive_store.specs.StoreView.{filled_of};
+ghost use Rattle.live_asks.specs.LiveAsks.{AreAnswered, OnlySees, disk_facts, every_fourth};
 
 use crate::answered::AskAnswers;
 use crate::turns::{Gated, answer_ask};
@@ -47,8 +47,8 @@ pub struct ReaderDone<P> {
 impl<'a, D: Disk + Send, G: Gate + Sync> Job for Reader<'a, Live<D>, LivePass<D>, G> {
     ghost use Rattle.retrieval.specs.FoundAsks.{AreFound};
     ghost use Rattle.turn_cell.specs.Pass.{IsFree};
-    ghost use Rattle.live_archive.specs.Answers.{WhereSound};
-    ghost use Rattle.live_asks.specs.LiveAsks.{AreAnswered, OnlySees, every_fourth};
+    ghost use Rattle.archive_store.specs.StoreView.{filled_of};
+    ghost use Rattle.live_asks.specs.LiveAsks.{AreAnswered, OnlySees, disk_facts, every_fourth};
 
     type Done = ReaderDone<LivePass<D>>;
 
@@ -56,9 +56,9 @@ impl<'a, D: Disk + Send, G: Gate + Sync> Job for Reader<'a, Live<D>, LivePass<D>
         × AreFound reader.live.now.cell.first.store.head reader.live.now.cell.first.store.history reader.asks.now };
 
     ghost did = { λ reader done. IsFree reader.live.now.cell done.pass × OnlySees reader.pass done.pass
-        × AreAnswered (WhereSound D.device reader.live.now.cell.first.store) reader.live.now.cell.first.store.head
-        reader.pass.history.seen done.pass.history.seen (every_fourth reader.before reader.asks.now) done.answers
-        done.refusal };
+        × AreAnswered (disk_facts D.device reader.live.now.cell.first.store.opened)
+        (filled_of reader.live.now.cell.first.store) reader.pass.history.seen done.pass.history.seen
+        (every_fourth reader.before reader.asks.now) done.answers done.refusal };
 
     fn run<R: Wait>(self, rt: &R) -> ReaderDone<LivePass<D>> {
         let Reader {
@@ -110,8 +110,9 @@ fn answer_asks<D: Disk, G: Gate, R: Wait>(
     requires none { answers.old ≡ [] }
     ensures free { IsFree live.now.cell pass.new }
     ensures sees { OnlySees pass.old pass.new }
-    ensures answered { AreAnswered (WhereSound D.device live.now.cell.first.store) live.now.cell.first.store.head
-        pass.old.history.seen pass.new.history.seen (every_fourth before asks.now) answers.new (result_err result) }
+    ensures answered { AreAnswered (disk_facts D.device live.now.cell.first.store.opened)
+        (filled_of live.now.cell.first.store) pass.old.history.seen pass.new.history.seen
+        (every_fourth before asks.now) answers.new (result_err result) }
 {
     let mut skip = before;
     for ask in asks {

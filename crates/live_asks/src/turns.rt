@@ -5,14 +5,14 @@ ghost use Rattle.refusals.specs.declared.refusal.Refusal.TheVariants.{OutOfMemor
 ghost use Rattle.archive_store.specs.Finding.{IsReplayFound, IsRequestFound};
 ghost use Rattle.history_items.specs.Databases.{database_in};
 ghost use Rattle.archive_store.specs.Replays.{rows_below};
+ghost use Rattle.archive_store.specs.StoreView.{filled_of};
 ghost use Rattle.replay_merge.specs.Cursor.{rest_of};
 ghost use Rattle.retrieval.specs.FoundAsks.{IsAskFound};
 ghost use Rattle.retrieval.specs.declared.found_asks.FoundAsk.TheVariants as looked_up;
 ghost use Rattle.turn_cell.specs.Pass.{IsFree};
-ghost use Rattle.live_archive.specs.Answers.{WhereSound};
 ghost use Rattle.live_archive.specs.Retrievals.{IsAnswerIn, IsNotAnswered};
 ghost use Rattle.live_archive.specs.Turns.{TookTurn};
-ghost use Rattle.live_asks.specs.LiveAsks.{IsAnsweredInTurn, OnlySees};
+ghost use Rattle.live_asks.specs.LiveAsks.{IsAnsweredInTurn, OnlySees, disk_facts};
 
 use crate::answered::{AskAnswer, ReplayedRows};
 use arch_disk::Disk;
@@ -63,8 +63,9 @@ pub(crate) fn answer_ask<D: Disk, G: Gate, R: Wait>(
     requires found { IsAskFound live.now.cell.first.store.head live.now.cell.first.store.history ask.now }
     ensures free { IsFree live.now.cell pass.new }
     ensures sees { OnlySees pass.old pass.new }
-    ensures answered { IfOk result (IsAnsweredInTurn (WhereSound D.device live.now.cell.first.store)
-        live.now.cell.first.store.head pass.old.history.seen pass.new.history.seen ask.now) }
+    ensures answered { IfOk result (IsAnsweredInTurn
+        (disk_facts D.device live.now.cell.first.store.opened) (filled_of live.now.cell.first.store)
+        pass.old.history.seen pass.new.history.seen ask.now) }
     ensures refused { IfErr result (λ refusal. refusal ≡ OutOfMemory) }
 {
     match ask {
@@ -87,8 +88,9 @@ fn values<D: Disk, G: Gate, R: Wait>(
         live.now.cell.first.store.history) found.now }
     ensures free { IsFree live.now.cell pass.new }
     ensures sees { OnlySees pass.old pass.new }
-    ensures answered { IfOk result (IsAnsweredInTurn (WhereSound D.device live.now.cell.first.store)
-        live.now.cell.first.store.head pass.old.history.seen pass.new.history.seen (looked_up.Values found.now)) }
+    ensures answered { IfOk result (IsAnsweredInTurn
+        (disk_facts D.device live.now.cell.first.store.opened) (filled_of live.now.cell.first.store)
+        pass.old.history.seen pass.new.history.seen (looked_up.Values found.now)) }
     ensures refused { IfErr result (λ refusal. refusal ≡ OutOfMemory) }
 {
     request_has_answer_exactly();
@@ -145,8 +147,9 @@ fn replay<D: Disk, G: Gate, R: Wait>(
     requires found { IsReplayFound live.now.cell.first.store.head.tables found.now }
     ensures free { IsFree live.now.cell pass.new }
     ensures sees { OnlySees pass.old pass.new }
-    ensures answered { IfOk result (IsAnsweredInTurn (WhereSound D.device live.now.cell.first.store)
-        live.now.cell.first.store.head pass.old.history.seen pass.new.history.seen (looked_up.Replay found.now)) }
+    ensures answered { IfOk result (IsAnsweredInTurn
+        (disk_facts D.device live.now.cell.first.store.opened) (filled_of live.now.cell.first.store)
+        pass.old.history.seen pass.new.history.seen (looked_up.Replay found.now)) }
     ensures refused { IfErr result (λ refusal. refusal ≡ OutOfMemory) }
 {
     gated.pass();

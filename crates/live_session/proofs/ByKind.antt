@@ -8,13 +8,12 @@ use Rattle.refusals.specs.declared.refusal.Refusal.{Refusal}
 use Rattle.outer_traits.specs.States.{SourceState}
 use Rattle.history_items.specs.declared.fills.Addition.{Addition}
 use Rattle.jobs.specs.Ends.{EachDid}
-use Rattle.archive_store.specs.StoreView.{StoreView}
-use Rattle.live_archive.specs.Answers.{WhereSound}
+use Rattle.archive_store.specs.StoreView.{StoreView, filled_of}
 use Rattle.load_session.specs.Receiving.{receiving}
 use Rattle.load_jobs.specs.declared.ending.LinkEnd.{LinkEnd}
 use Rattle.load_jobs.specs.Ends.{refusal_of_end}
 use Rattle.live_asks.specs.declared.answered.AskAnswer.{AskAnswer}
-use Rattle.live_asks.specs.LiveAsks.{AreAnswered, every_fourth}
+use Rattle.live_asks.specs.LiveAsks.{AreAnswered, disk_facts, every_fourth}
 use Rattle.live_session.specs.declared.order.JobEnd.{JobEnd}
 use Rattle.live_session.specs.declared.order.JobEnd.TheVariants as Ended
 use Rattle.live_session.specs.declared.order.Order.{Order}
@@ -97,7 +96,7 @@ module _ {D S : Type 0} (device : Device D) (state : S → SourceState) (first c
 
   -- where none of them was refused, this reader answered each of its asks
   abbrev AreAllAnswered : ℕ → List AskAnswer → Type 0
-  AreAllAnswered before answers = AreAnswered (WhereSound device first) first.head first.history closed.history (every_fourth before g.asks) answers None
+  AreAllAnswered before answers = AreAnswered (disk_facts device first.opened) (filled_of first) first.history closed.history (every_fourth before g.asks) answers None
 
   abbrev AreUnrefused : List (JobEnd S) → Type 0
   AreUnrefused ends = AllByRecursion (λ refusal. refusal ≡ None) (filter_map other_in ends)
@@ -125,7 +124,7 @@ module _ {D S : Type 0} (device : Device D) (state : S → SourceState) (first c
       at rest none zero low =
           let here : from ≡ from + 0 = omega arith in
           subst (λ (n : ℕ). AreAllAnswered n answers) here
-          (subst (λ (o : Option Refusal). AreAnswered (WhereSound device first) first.head first.history closed.history (every_fourth from g.asks) answers o) none.0 each.0.0)
+          (subst (λ (o : Option Refusal). AreAnswered (disk_facts device first.opened) (filled_of first) first.history closed.history (every_fourth from g.asks) answers o) none.0 each.0.0)
       at rest none (suc k) low =
           let deep = rest.answered none.1 k (omega (arith, low)) in
           let next : from + 1 + k ≡ from + suc k = omega arith in

@@ -75,9 +75,9 @@ module _ {D S : Type 0} (device : Device D) (state : S → SourceState) (first c
         let failed = what_failed device state first closed g orders ends over link sources readers fillers are done is_history in
         let p = parts device state first closed g orders ends over link sources readers fillers are done is_history failed.0 failed.1 in
         record {
-          outcome = outcome device state first closed g orders ends over link sources readers fillers are done is_history failed.0 failed.1 fit.of_archive many_readers answers interleaved;
-          possible = possible device state first closed g orders ends over link sources readers fillers are done is_history failed.0 failed.1 fit.of_archive many_readers answers interleaved;
-          loaded = loaded device state first closed g orders ends over link sources readers fillers are done is_history failed.0 failed.1 fit.of_archive many_readers answers interleaved;
+          outcome = outcome device state first closed g orders ends over link sources readers fillers are done is_history failed.0 failed.1 many_readers answers interleaved;
+          possible = possible device state first closed g orders ends over link sources readers fillers are done is_history failed.0 failed.1 many_readers answers interleaved;
+          loaded = loaded device state first closed g orders ends over link sources readers fillers are done is_history failed.0 failed.1 many_readers answers interleaved;
           sources = subst (AreSourcesRead state link_ends sources) (sym same) p.read;
           said_is = is;
           counts_are = λ none. counted;

@@ -30,11 +30,10 @@ use Rattle.space_packet.specs.Rest.{why_of}
 use Rattle.turn_cell.specs.Pass.{PassView}
 use Rattle.archive_history.specs.declared.row_limit.RowLimit.{RowLimit}
 use Rattle.archive_history.specs.declared.row_limit.RowLimit.TheVariants as of_rows
-use Rattle.archive_store.specs.declared.head.Head.{Head}
+use Rattle.archive_store.specs.Entries.{FilledArchive}
 use Rattle.archive_store.specs.Limits.{IsLimit, limit_of_history}
-use Rattle.archive_store.specs.StoreView.{StoreView}
+use Rattle.archive_store.specs.StoreView.{StoreView, filled_of}
 use Rattle.live_archive.specs.declared.held.HeldStore.{HeldStore}
-use Rattle.live_archive.specs.Answers.{WhereSound}
 use Rattle.live_archive.specs.GoesOn.{dones}
 use Rattle.live_archive.proofs.Going.{dones-append, prefix_length, prefix_trans}
 use Rattle.load_session.specs.declared.session.DumpSummary.{DumpSummary}
@@ -46,7 +45,7 @@ use Rattle.load_jobs.specs.Ends.{IsEndOf, IsLinkRun, IsReadTo, kind_of_rest, ref
 use Rattle.load_jobs.specs.Links.{HasNoted, IsDumpSent, IsRecordedIn, IsSendingEnd, work_of}
 use Rattle.retrieval.specs.declared.found_asks.FoundAsk.{FoundAsk}
 use Rattle.live_asks.specs.declared.answered.AskAnswer.{AskAnswer}
-use Rattle.live_asks.specs.LiveAsks.{AreAnswered, every_fourth}
+use Rattle.live_asks.specs.LiveAsks.{AreAnswered, DiskFacts, disk_facts, every_fourth}
 use Rattle.live_asks.proofs.Each.{are_answered_later}
 use Rattle.live_fills.specs.Filler.{FillsAlone, IsFillNote, IsFillerRefusal, IsNoBatchFault, IsOfFill, IsRefusalOf}
 use Rattle.live_session.specs.declared.order.JobEnd.{JobEnd}
@@ -246,14 +245,14 @@ module _ {D : Type 0} (first closed : StoreView D) (last : List Fill) (failed : 
 -- ---- a reader
 
 -- it is refused for want of memory alone
-reader_refusal : (Where : Type 0 → Type 0) (head : Head) (old seen : List Item) (asks : List FoundAsk) (answers : List AskAnswer) (refusal : Option Refusal) → AreAnswered Where head old seen asks answers refusal
+reader_refusal : (facts : DiskFacts) (opened : FilledArchive) (old seen : List Item) (asks : List FoundAsk) (answers : List AskAnswer) (refusal : Option Refusal) → AreAnswered facts opened old seen asks answers refusal
     → IsReaderCause refusal
-reader_refusal Where head old seen [] [] None are = tt
-reader_refusal Where head old seen [] [] (Some refusal) are = absurd are
-reader_refusal Where head old seen [] (answer ∷ answers) refusal are = absurd are
-reader_refusal Where head old seen (ask ∷ asks) [] None are = absurd are
-reader_refusal Where head old seen (ask ∷ asks) [] (Some refusal) are = are
-reader_refusal Where head old seen (ask ∷ asks) (answer ∷ answers) refusal are = reader_refusal Where head are.0.over seen asks answers refusal are.1
+reader_refusal facts opened old seen [] [] None are = tt
+reader_refusal facts opened old seen [] [] (Some refusal) are = absurd are
+reader_refusal facts opened old seen [] (answer ∷ answers) refusal are = absurd are
+reader_refusal facts opened old seen (ask ∷ asks) [] None are = absurd are
+reader_refusal facts opened old seen (ask ∷ asks) [] (Some refusal) are = are
+reader_refusal facts opened old seen (ask ∷ asks) (answer ∷ answers) refusal are = reader_refusal facts opened are.0.over seen asks answers refusal are.1
 
 reader_seen : {D : Type 0} (first closed : StoreView D) (refusal : Option Refusal) → IsReaderCause refusal → IfSome refusal (IsSeenIn first closed)
 reader_seen first closed None is = tt
@@ -268,7 +267,7 @@ module _ {D S : Type 0} (device : Device D) (state : S → SourceState) (first c
       LinkLoads first.exponent failed closed.history (receiving g.head first.history g.route link g.moment) (state source).left end
       × IsSourceRead end (state source) (state back) × IfSome (refusal_of_end end) (IsSeenIn first closed)
   CameTo (Ordered.Reader before) (Ended.Reader answers refusal) =
-      AreAnswered (WhereSound device first) first.head first.history closed.history (every_fourth before g.asks) answers refusal
+      AreAnswered (disk_facts device first.opened) (filled_of first) first.history closed.history (every_fourth before g.asks) answers refusal
       × IsReaderCause refusal × IfSome refusal (IsSeenIn first closed)
   CameTo (Ordered.Filler wakes) (Ended.Filler refusal) = IsFillerCause failed refusal × IfSome refusal (IsSeenIn first closed)
   CameTo order end = ⊥
@@ -311,9 +310,9 @@ module _ {D S : Type 0} (device : Device D) (state : S → SourceState) (first c
         )
     each_comes (p ∷ passes) (Ordered.Reader before ∷ orders) (Ended.Reader answers refusal ∷ ends) each began within own =
         let asks = every_fourth before g.asks in
-        let are = are_answered_later (WhereSound device first) first.head first.history p.ended.history.seen closed.history asks answers refusal within.0.0
-        (subst (λ (h : List Item). AreAnswered (WhereSound device first) first.head h p.ended.history.seen asks answers refusal) began.0.history each.0.1) in
-        let why = reader_refusal (WhereSound device first) first.head first.history closed.history asks answers refusal are in (
+        let are = are_answered_later (disk_facts device first.opened) (filled_of first) first.history p.ended.history.seen closed.history asks answers refusal within.0.0
+        (subst (λ (h : List Item). AreAnswered (disk_facts device first.opened) (filled_of first) h p.ended.history.seen asks answers refusal) began.0.history each.0.1) in
+        let why = reader_refusal (disk_facts device first.opened) (filled_of first) first.history closed.history asks answers refusal are in (
           (are, why, reader_seen first closed refusal why),
           each_comes passes orders ends each.1 began.1 within.1 own,
         )

@@ -16,12 +16,12 @@ use Rattle.history_items.specs.FillList.{flights_of}
 use Rattle.interval_fills.specs.Steps.{all_freed}
 use Rattle.store_fills.specs.Faults.{IsDone, faults_in}
 use Rattle.store_fills.proofs.Faults.{faults_in-done}
-use Rattle.archive_store.specs.StoreView.{StoreView}
-use Rattle.live_archive.specs.Answers.{WhereSound}
+use Rattle.archive_store.specs.StoreView.{StoreView, filled_of}
 use Rattle.live_archive.specs.GoesOn.{NoneFailed, OneFailed}
 use Rattle.live_archive.proofs.Going.{all_freed_is}
 use Rattle.live_fills.specs.Laws.{WereLate}
 use Rattle.live_fills.proofs.Late.{settling_adds_none}
+use Rattle.live_asks.specs.LiveAsks.{disk_facts}
 use Rattle.load_jobs.specs.declared.ending.LinkEnd.{LinkEnd}
 use Rattle.load_jobs.specs.declared.ending.LinkEnd.TheVariants.{Refused}
 use Rattle.live_asks.specs.declared.answered.AskAnswer.{AskAnswer}
@@ -112,7 +112,7 @@ module _ {D S : Type 0} (device : Device D) (state : S → SourceState) (first c
   abbrev outcome : List S → JobsOutcome
   outcome sources = record { reached = closed.history; ends = ends_for sources; answers = []; others = []; failed = None }
 
-  possible : (link : ℕ) (sources : List S) → reported_of link (ends_for sources) [] ≡ Some (reported OutOfMemory None) → IsJobsOutcome (WhereSound device first) first.exponent first.history g link (lefts_of state sources) (outcome sources)
+  possible : (link : ℕ) (sources : List S) → reported_of link (ends_for sources) [] ≡ Some (reported OutOfMemory None) → IsJobsOutcome (disk_facts device first.opened) (filled_of first) g link (lefts_of state sources) (outcome sources)
   possible link sources is = record {
     more = [];
     grown = nothing.history ∙ sym (append-nil first.history);

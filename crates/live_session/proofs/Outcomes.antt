@@ -25,10 +25,8 @@ use Rattle.shared_history.proofs.Own.{each_row_is_of_a_link, get_drop, rows_of_a
 use Rattle.shared_history.proofs.Sending.{fresh_stays}
 use Rattle.store_fills.specs.Faults.{IsDone, faults_in}
 use Rattle.store_fills.proofs.Faults.{faults_in-done}
-use Rattle.archive_store.specs.declared.head.Head.{Head}
-use Rattle.archive_store.specs.StoreView.{StoreView}
+use Rattle.archive_store.specs.StoreView.{StoreView, filled_of}
 use Rattle.live_archive.specs.declared.held.HeldStore.{HeldStore}
-use Rattle.live_archive.specs.Answers.{WhereSound}
 use Rattle.live_archive.specs.GoesOn.{AreNewTo}
 use Rattle.live_fills.specs.Filler.{IsOfFill}
 use Rattle.load_session.specs.Receiving.{receiving}
@@ -36,7 +34,7 @@ use Rattle.load_session.specs.Session.{SessionResult, next_fresh_rows, next_rows
 use Rattle.load_jobs.specs.declared.ending.LinkEnd.{LinkEnd}
 use Rattle.load_jobs.specs.Ends.{refusal_of_end}
 use Rattle.live_asks.specs.declared.answered.AskAnswer.{AskAnswer}
-use Rattle.live_asks.specs.LiveAsks.{AreAnswered, every_fourth}
+use Rattle.live_asks.specs.LiveAsks.{AreAnswered, disk_facts, every_fourth}
 use Rattle.live_session.specs.declared.order.JobEnd.{JobEnd}
 use Rattle.live_session.specs.declared.order.JobEnd.TheVariants as Ended
 use Rattle.live_session.specs.declared.order.Order.{Order}
@@ -298,25 +296,24 @@ module _ {D S : Type 0} (device : Device D) (state : S → SourceState) (first c
 
     -- ---- the whole
 
-    module _ (of_archive : g.head ≡ first.head) (many_readers : readers ≡ min 4 (length g.asks)) (answers : List AskAnswer)
+    module _ (many_readers : readers ≡ min 4 (length g.asks)) (answers : List AskAnswer)
         (interleaved : HaveAnswersFor g.asks (answers_at 0 (filter_map answers_in ends)) (answers_at 1 (filter_map answers_in ends)) (answers_at 2 (filter_map answers_in ends)) (answers_at 3 (filter_map answers_in ends))
         → AreEveryFourth answers (answers_at 0 (filter_map answers_in ends)) (answers_at 1 (filter_map answers_in ends)) (answers_at 2 (filter_map answers_in ends)) (answers_at 3 (filter_map answers_in ends))) where
       abbrev pub outcome : JobsOutcome
       outcome = record { reached = closed.history; ends = filter_map end_in ends; answers = answers; others = filter_map other_in ends; failed = failed }
 
       answered : reported_of link outcome.ends outcome.others ≡ None → (before : ℕ) → before < 4
-          → AreAnswered (WhereSound device first) g.head first.history closed.history (every_fourth before g.asks) (every_fourth before answers) None
+          → AreAnswered (disk_facts device first.opened) (filled_of first) first.history closed.history (every_fourth before g.asks) (every_fourth before answers) None
       answered none =
           let calm = (unrefused link outcome.ends outcome.others none).1 in
           let lists = filter_map answers_in ends in
-          let each : (k : ℕ) → k < min 4 (length g.asks) → AreAnswered (WhereSound device first) g.head first.history closed.history (every_fourth k g.asks) (answers_at k lists) None =
-          λ k low. subst (λ (h : Head). AreAnswered (WhereSound device first) h first.history closed.history (every_fourth k g.asks) (answers_at k lists) None) (sym of_archive)
-          (parts.answered calm k (omega (arith, low, many_readers))) in
+          let each : (k : ℕ) → k < min 4 (length g.asks) → AreAnswered (disk_facts device first.opened) (filled_of first) first.history closed.history (every_fourth k g.asks) (answers_at k lists) None =
+          λ k low. parts.answered calm k (omega (arith, low, many_readers)) in
           let many : length lists ≡ min 4 (length g.asks) = parts.many ∙ many_readers in
-          all_answered (WhereSound device first) g.head first.history closed.history g.asks lists many each answers
-          (interleaved (have_as_many (WhereSound device first) g.head first.history closed.history g.asks lists many each))
+          all_answered (disk_facts device first.opened) (filled_of first) first.history closed.history g.asks lists many each answers
+          (interleaved (have_as_many (disk_facts device first.opened) (filled_of first) first.history closed.history g.asks lists many each))
 
-      pub possible : IsJobsOutcome (WhereSound device first) first.exponent first.history g link lefts outcome
+      pub possible : IsJobsOutcome (disk_facts device first.opened) (filled_of first) g link lefts outcome
       possible = record {
         more = came_rows;
         grown = grown;

@@ -13,16 +13,15 @@ use Rattle.history_items.specs.declared.items.Item.{Item}
 use Rattle.history_items.specs.Items.{databases_in}
 use Rattle.turn_cell.specs.Pass.{PassView}
 use Rattle.archive_store.specs.declared.head.Head.{Head}
-use Rattle.archive_store.specs.StoreView.{StoreView}
+use Rattle.archive_store.specs.StoreView.{StoreView, filled_of}
 use Rattle.retrieval.specs.declared.found_asks.FoundAsk.{FoundAsk}
 use Rattle.retrieval.specs.FoundAsks.{AreFound}
 use Rattle.stream_graph.specs.declared.statement.RouteStatement.{RouteStatement}
 use Rattle.load_session.specs.Receiving.{IsRouteOver, Receiving, receiving}
-use Rattle.live_archive.specs.Answers.{WhereSound}
 use Rattle.load_jobs.specs.declared.ending.LinkEnd.{LinkEnd}
 use Rattle.load_jobs.specs.Ends.{IsLinkRun, IsReadCounted}
 use Rattle.load_jobs.specs.Links.{CanSend}
-use Rattle.live_asks.specs.LiveAsks.{AreAnswered, OnlySees, every_fourth}
+use Rattle.live_asks.specs.LiveAsks.{AreAnswered, OnlySees, disk_facts, every_fourth}
 use Rattle.live_fills.specs.Filler.{AreWorksDone, FillsAlone, IsRefusalOf}
 use Rattle.live_session.specs.declared.order.JobEnd.{JobEnd}
 use Rattle.live_session.specs.declared.order.JobEnd.TheVariants as Ended
@@ -77,8 +76,8 @@ IsSourceRead end old new =
     × (old.never_fails → Stays old.faults new.faults)
 
 -- This came of a job, whose pass was so at its beginning and so at its end: what was read of a link's dump was sent,
--- as its end tells; a reader's asks were answered, or those before one that wasn't; a filler filled alone, each of its works
--- to the end, or there is why not.
+-- as its end tells; a reader's asks were answered, or those before one that wasn't; a filler filled alone, each of its
+-- works to the end, or there is why not.
 abbrev pub IsOutcomeOf : {D T S : Type 0} → Device D → (S → SourceState) → StoreView D → JobSetting
     → PassView Item Fill T → PassView Item Fill T → Order S → JobEnd S → Type 0
 IsOutcomeOf device state first setting old new (Ordered.Link link source wake) (Ended.Link number back end) =
@@ -86,7 +85,7 @@ IsOutcomeOf device state first setting old new (Ordered.Link link source wake) (
     × IsSourceRead end (state source) (state back) × (number ≡ link)
 IsOutcomeOf device state first setting old new (Ordered.Reader before) (Ended.Reader answers refusal) =
     OnlySees old new
-    × AreAnswered (WhereSound device first) first.head old.history.seen new.history.seen
+    × AreAnswered (disk_facts device first.opened) (filled_of first) old.history.seen new.history.seen
     (every_fourth before setting.asks) answers refusal
 IsOutcomeOf device state first setting old new (Ordered.Filler wakes) (Ended.Filler refusal) =
     FillsAlone first old new × IfNone refusal (AreWorksDone device first old new)

@@ -73,7 +73,8 @@ module _ (exponent : ℕ) (failed : Option Addition) (history : List Item) (r : 
         (came_to.reached ≡ history)
         × (history ≡ after_rows r.history (rows_received r (take came_to.place came_to.packets)))
 
-  -- What a link put is what the history has of its number behind that of before, and comes of what was read of its dump.
+  -- What a link put is what the history has of its number behind that of before, and comes of what was read of its
+  -- dump.
   pub record LinkLoads (left : Option (List ℕ)) (end : LinkEnd) : Type 0 where
     pub put : List Row
     pub own : filter (λ row. row.link == r.link) (rows_in (drop (length r.history) history)) ≡ put

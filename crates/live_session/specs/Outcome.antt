@@ -14,11 +14,11 @@ use Rattle.history_items.specs.declared.fills.Addition.TheVariants.{Rows}
 use Rattle.history_items.specs.declared.items.Item.{Item}
 use Rattle.history_items.specs.Fills.{in_flight, pending_fault_of}
 use Rattle.history_items.specs.Items.{items_of}
-use Rattle.archive_store.specs.StoreView.{StoreView}
-use Rattle.live_archive.specs.Answers.{WhereSound}
+use Rattle.archive_store.specs.Entries.{FilledArchive}
+use Rattle.archive_store.specs.StoreView.{StoreView, filled_of}
 use Rattle.live_archive.specs.GoesOn.{GoesOn, NoneFailed, OneFailed}
 use Rattle.live_asks.specs.declared.answered.AskAnswer.{AskAnswer}
-use Rattle.live_asks.specs.LiveAsks.{AreAnswered, every_fourth}
+use Rattle.live_asks.specs.LiveAsks.{AreAnswered, DiskFacts, disk_facts, every_fourth}
 use Rattle.live_fills.specs.Filler.{IsOfFill}
 use Rattle.live_fills.specs.Laws.{WereLate}
 use Rattle.load_jobs.specs.declared.ending.LinkEnd.{LinkEnd}
@@ -62,18 +62,19 @@ reported_of link [] others = reported_of_others others
 reported_of link (end ∷ ends) others =
     reported_of_link link end (refusal_of_end end) (reported_of (suc link) ends others)
 
--- what the whole dumps of links had together
-abbrev pub counts_with : LinkEnd → DumpCounts → DumpCounts
-counts_with (Whole summary) counts = record {
+-- the counts with those of one more dump, if it is whole
+abbrev pub counts_with_end : LinkEnd → DumpCounts → DumpCounts
+counts_with_end (Whole summary) counts = record {
   packets = summary.packets + counts.packets;
   idle = summary.idle + counts.idle;
   routed = summary.routed + counts.routed;
 }
-counts_with other counts = counts
+counts_with_end other counts = counts
 
+-- what the dumps had together whose links ended so
 abbrev pub counts_of : List LinkEnd → DumpCounts
 counts_of [] = record { packets = 0; idle = 0; routed = 0 }
-counts_of (end ∷ ends) = counts_with end (counts_of ends)
+counts_of (end ∷ ends) = counts_with_end end (counts_of ends)
 
 -- a whole dump has no more packets and rows than the octets of one let it have
 abbrev pub HasFewCounts : LinkEnd → Type 0
@@ -103,25 +104,27 @@ IsFailedAddition first reached setting link dumps ends (Rows rows) =
     IsBatchInHand first reached setting link dumps ends rows
 IsFailedAddition first reached setting link dumps ends other = IsOfFill other
 
--- What the jobs of links from this number on, by what is left of their dumps, may come to behind a history, over
--- intervals of this exponent; what an answer says of cells holds where `Where` says so.
-pub record IsJobsOutcome (Where : Type 0 → Type 0) (exponent : ℕ) (first : List Item) (setting : JobSetting) (link : ℕ)
+-- What the jobs of links from this number on, by what is left of their dumps, may come to over an archive that was
+-- opened on a disk of which this is known.
+pub record IsJobsOutcome (facts : DiskFacts) (opened : FilledArchive) (setting : JobSetting) (link : ℕ)
     (dumps : List (Option (List ℕ))) (outcome : JobsOutcome) : Type 0 where
   -- rows came, each by one of the links
   pub more : List Row
-  pub grown : outcome.reached ≡ first ++ items_of more
+  pub grown : outcome.reached ≡ opened.plain.history ++ items_of more
   pub of_links : AllByRecursion (λ row. (link ≤ row.link) × (row.link < link + length dumps)) more
-  pub links : AreLinksLoaded exponent outcome.failed first outcome.reached setting link dumps outcome.ends
+  pub links : AreLinksLoaded opened.plain.exponent outcome.failed opened.plain.history outcome.reached setting link
+      dumps outcome.ends
   -- where nothing was refused each ask is answered: every fourth over histories that go on from each other
   pub answered : reported_of link outcome.ends outcome.others ≡ None → (before : ℕ) → before < 4 →
-      AreAnswered Where setting.head first outcome.reached (every_fourth before setting.asks)
+      AreAnswered facts opened opened.plain.history outcome.reached (every_fourth before setting.asks)
       (every_fourth before outcome.answers) None
   -- readers come first, one for each ask, but four at most; behind them come the fillers
   pub readers : AllByRecursion IsReaderCause (take (min 4 (length setting.asks)) outcome.others)
   pub fillers : AllByRecursion (IsFillerCause outcome.failed) (drop (min 4 (length setting.asks)) outcome.others)
   -- a write that failed is reported, and nothing came behind it
   pub reported_so : reported_of link outcome.ends outcome.others ≡ None → outcome.failed ≡ None
-  pub failed : IfSome outcome.failed (IsFailedAddition first outcome.reached setting link dumps outcome.ends)
+  pub failed : IfSome outcome.failed
+      (IsFailedAddition opened.plain.history outcome.reached setting link dumps outcome.ends)
 
 -- ---- the store behind it
 
@@ -170,8 +173,8 @@ pub record IsLoadOutcome {D S : Type 0} (device : Device D) (state : S → Sourc
     (setting : JobSetting) (link : ℕ) (olds news : List S) (said : Option ReportedRefusal) (counts : DumpCounts)
     (answers : List AskAnswer) : Type 0 where
   pub outcome : JobsOutcome
-  pub possible : IsJobsOutcome (WhereSound device first) first.exponent first.history setting link
-      (lefts_of state olds) outcome
+  pub possible : IsJobsOutcome (disk_facts device first.opened) (filled_of first) setting link (lefts_of state olds)
+      outcome
   pub loaded : HasLoaded device first closed link outcome
   pub sources : AreSourcesRead state outcome.ends olds news
   pub said_is : said ≡ reported_of link outcome.ends outcome.others

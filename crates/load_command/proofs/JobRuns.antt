@@ -1,5 +1,5 @@
 -- How the jobs of a load went, and what is printed behind them.
-use Rattle.std.proofs.Common.{◌≡◌, inl, inr, ℕ, ℤ, ◌-◌, ◌<◌, false, List, [], ◌∷◌, length, Some, None, Option, refl, sym, ◌∙◌, subst, arith}
+use Rattle.std.proofs.Common.{◌≡◌, inl, inr, ℕ, ℤ, ◌<◌, false, List, [], ◌∷◌, length, Some, None, Option, refl, sym, ◌∙◌, subst, arith}
 use Rattle.std.specs.Prelude.{IfErr, IfOk, Result}
 use Rattle.std.specs.List.{list_any}
 use Rattle.arch_disk.specs.Disk.{Device}
@@ -24,13 +24,14 @@ use Rattle.command_runs.specs.Healing.{TriesToHeal}
 use Rattle.command_runs.specs.Opened.{IsOpenedOn}
 use Rattle.command_runs.specs.Report.{loaded}
 use Rattle.live_asks.specs.declared.answered.AskAnswer.{AskAnswer}
+use Rattle.live_asks.specs.LiveAsks.{disk_facts}
 use Rattle.live_session.specs.declared.reported.DumpCounts.{DumpCounts}
 use Rattle.live_session.specs.declared.reported.ReportedRefusal.{ReportedRefusal}
 use Rattle.live_session.specs.Jobs.{JobSetting}
 use Rattle.live_session.specs.Outcome.{IsLoadOutcome, JobsOutcome, counts_of, lefts_of, reported_of}
 use Rattle.load_session.specs.Filling.{AllLateFilled, IsFilledOn, IsFillingRefusal}
 use Rattle.stream_graph.specs.declared.statement.RouteStatement.{RouteStatement}
-use Rattle.load_command.specs.Load.{WhereSoundOn, after_jobs, answering_asks_plan, history_extended, jobs_plan, load_printing_plan}
+use Rattle.load_command.specs.Load.{after_jobs, answering_asks_plan, history_extended, jobs_plan, load_printing_plan}
 use Rattle.load_command.specs.LoadLine.{load_text, whole_report}
 use Rattle.load_command.specs.Loading.{HaveUsedSources, IsNothingReported, IsReported, IsSettingOf, dumps_of, is_unread, printed_report}
 use Rattle.load_command.proofs.Dumps.{used_by_links}
@@ -69,7 +70,7 @@ module _ {D S : Type 0} (device : Device D) (disk : D) (old between mid new : St
   printing_next = load_printing_plan dumps (filled_of old) asks c
 
   abbrev Loaded : Type 0
-  Loaded = RanWith device (jobs_plan (WhereSoundOn device disk) files next words (filled_of old) route asks) went (HaveUsedSources state olds news)
+  Loaded = RanWith device (jobs_plan (disk_facts device disk) files next words (filled_of old) route asks) went (HaveUsedSources state olds news)
 
   -- what came of the jobs is chosen, and the sources were used as it says
   chosen : Ran device (after_jobs dumps (filled_of old) asks c (reported_of words.link c.ends c.others) c.failed) went → Loaded

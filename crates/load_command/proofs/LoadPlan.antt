@@ -1,5 +1,5 @@
 -- How the plan of `load` goes.
-use Rattle.std.proofs.Common.{◌≡◌, ◌∙◌, ◌⊎◌, inl, inr, ℕ, ℤ, Bool, true, false, List, [], ◌∷◌, length, Option, Some, None, refl, sym, ap, subst}
+use Rattle.std.proofs.Common.{◌≡◌, ◌∙◌, inl, inr, ℕ, ℤ, Bool, true, false, List, [], ◌∷◌, length, Option, Some, None, refl, sym, ap, subst}
 use Rattle.std.specs.Prelude.{Err, IsSome, IsTrue, Result, Ok}
 use Rattle.std.specs.List.{list_any}
 use Rattle.arch_disk.specs.Disk.{Device}
@@ -14,7 +14,7 @@ use Rattle.command_plans.specs.Inputs.{AnsweredByPlan}
 use Rattle.command_plans.specs.Ledger.{UsedInputs}
 use Rattle.command_plans.proofs.Ledgers.{inputs_unused}
 use Rattle.command_plans.specs.Plan.{FailedCalls, OfMemory, OfInputs, OfOutput, OfDisk, no_failed_calls, with_failed_call, CommandPlan, Way, Returned, Stopped, Interrupted, Allows, EachEnd, IsDetermined, map_done}
-use Rattle.command_plans.specs.Sources.{AreNewSources, GaveSources, TookSources, UsedSources, WereNotOpened, WereOpened, opening_all_plan}
+use Rattle.command_plans.specs.Sources.{AreNewSources, GaveSources, TookSources, UsedSources, opening_all_plan}
 use Rattle.command_plans.proofs.Plans.{allows_map_done, cut, determined, determined_map_done, ended, gave}
 use Rattle.command_plans.proofs.Sources.{new_sources_length, opening_all_determined, unused_sources, used_sources}
 use Rattle.command_words.specs.Job.{LoadWords}
@@ -22,18 +22,18 @@ use Rattle.command_words.specs.LoadLimits.{links_refusal, load_limit_refusal}
 use Rattle.ask_answers.specs.Asks.{asks_check_plan}
 use Rattle.ask_answers.proofs.AskSheets.{asked_determined, check_determined, check_refused, checked}
 use Rattle.command_runs.specs.ArchiveWork.{RanWith, UsedByWork, opened_plan}
-use Rattle.command_runs.specs.Command.{Effects, EndedAt, HasDiskOutcome, HasEffects, Opened, Progress, RanOver, archive_opened, failed_at, nothing_done, opening_plan, sources_at}
+use Rattle.command_runs.specs.Command.{Effects, EndedAt, HasDiskOutcome, Opened, Progress, RanOver, archive_opened, failed_at, nothing_done, opening_plan, sources_at}
 use Rattle.command_runs.specs.FillingPlan.{after_filling, filled_to}
 use Rattle.command_runs.specs.Report.{read_only, unopened}
 use Rattle.command_runs.proofs.Commands.{no_text}
 use Rattle.command_runs.proofs.FillingPlan.{filling_determined}
 use Rattle.command_runs.proofs.Openings.{opens_determined}
 use Rattle.command_runs.proofs.OverInputs.{ran_unread}
-use Rattle.script_answers.specs.Scripts.{OrNoMemory}
+use Rattle.live_asks.specs.LiveAsks.{DiskFacts, disk_facts}
 use Rattle.live_session.specs.declared.reported.ReportedRefusal.{ReportedRefusal}
 use Rattle.live_session.specs.Outcome.{JobsOutcome, reported_of}
 use Rattle.stream_graph.specs.declared.statement.RouteStatement.{RouteStatement}
-use Rattle.load_command.specs.Load.{WhereSoundOn, after_jobs, after_session, after_limits, after_links, after_route, archive_load_plan, history_extended, job_refused, jobs_plan, load_plan, load_printing_plan, loading_plan, read_load_plan, route_plan, routed_load_plan}
+use Rattle.load_command.specs.Load.{after_jobs, after_session, after_limits, after_links, after_route, archive_load_plan, history_extended, job_refused, jobs_plan, load_plan, load_printing_plan, loading_plan, read_load_plan, route_plan, routed_load_plan}
 use Rattle.load_command.specs.Loading.{HaveUsedSources, IsReady, IsRouteAnswer, IsUnready, LoadAsked, is_unread, load_asked}
 use Rattle.load_command.proofs.RoutePlan.{route_determined, route_read_determined}
 
@@ -71,10 +71,10 @@ module _ (dumps : ℕ) (filled : FilledArchive) (c : JobsOutcome) where
 
 -- ---- dumps that were opened, loaded into an archive that was
 
-module _ {D : Type 0} (device : Device D) (e : Effects D) (Where : Type 0 → Type 0) (files : Option Files) (next : Option ℤ) (words : LoadWords) (text : Option (List ℕ)) (sheet : Result (List Ask) Refusal) (filled : FilledArchive)
+module _ {D : Type 0} (device : Device D) (e : Effects D) (facts : DiskFacts) (files : Option Files) (next : Option ℤ) (words : LoadWords) (text : Option (List ℕ)) (sheet : Result (List Ask) Refusal) (filled : FilledArchive)
     {S : Type 0} (state : S → SourceState) (olds : List S) (as_many : length words.dumps ≡ length olds) where
   abbrev loading : CommandPlan Progress ⊥
-  loading = loading_plan Where files next words text sheet filled
+  loading = loading_plan facts files next words text sheet filled
 
   abbrev archive : Archive
   archive = filled.plain
@@ -90,17 +90,17 @@ module _ {D : Type 0} (device : Device D) (e : Effects D) (Where : Type 0 → Ty
 
   -- the asks of a sheet that the archive can answer are checked, and the jobs run
   routes_on : (route : List RouteStatement) → links_refusal words ≡ None → IsRouteAnswer archive text (Ok route) → (way : Way Progress ⊥)
-      → Allows (after_route Where files next words sheet filled route) way → Allows loading way
+      → Allows (after_route facts files next words sheet filled route) way → Allows loading way
   routes_on route near is way goes =
-      (None, sym near, gave (route_plan opened archive text) (after_route Where files next words sheet filled) route way (inr (Ok route, is, refl)) goes)
+      (None, sym near, gave (route_plan opened archive text) (after_route facts files next words sheet filled) route way (inr (Ok route, is, refl)) goes)
 
   pub load_run : (route : List RouteStatement) (asks : List Ask) → IsReady archive asked route asks → (news : List S)
-      → RanWith device (jobs_plan Where files next words filled route asks) e (HaveUsedSources state olds news) → Loaded news
+      → RanWith device (jobs_plan facts files next words filled route asks) e (HaveUsedSources state olds news) → Loaded news
   load_run route asks ready news went = record {
     ran = record {
       way = went.ran.way;
       allows = routes_on route ready.0 ready.1 went.ran.way
-          (gave (asks_check_plan opened archive sheet) (jobs_plan Where files next words filled route) asks went.ran.way (checked opened archive sheet asks ready.2) went.ran.allows);
+          (gave (asks_check_plan opened archive sheet) (jobs_plan facts files next words filled route) asks went.ran.way (checked opened archive sheet asks ready.2) went.ran.allows);
       did = went.ran.did;
     };
     used = went.used;
@@ -136,12 +136,12 @@ module _ {D : Type 0} (device : Device D) (e : Effects D) (Where : Type 0 → Ty
     pub load_unready : (refusal : Refusal) → IsUnready archive asked refusal → e.report ≡ read_only (Some refusal) (length archive.history) → Loaded olds
     load_unready refusal (inl far) report = stopped refusal report (Some refusal, sym far, refl)
     load_unready refusal (inr (near, inl (inl memory))) report =
-        without_memory refusal memory report (None, sym near, cut (route_plan opened archive text) (after_route Where files next words sheet filled) opened OfMemory (inl refl))
+        without_memory refusal memory report (None, sym near, cut (route_plan opened archive text) (after_route facts files next words sheet filled) opened OfMemory (inl refl))
     load_unready refusal (inr (near, inl (inr is))) report =
-        stopped refusal report (None, sym near, ended (route_plan opened archive text) (after_route Where files next words sheet filled) opened (Some refusal) (inr (Err refusal, is, refl)))
+        stopped refusal report (None, sym near, ended (route_plan opened archive text) (after_route facts files next words sheet filled) opened (Some refusal) (inr (Err refusal, is, refl)))
     load_unready refusal (inr (near, inr asks_are)) report =
         let route = asks_are.0 in
-        let f = jobs_plan Where files next words filled route in
+        let f = jobs_plan facts files next words filled route in
         elim (check_refused opened archive sheet refusal asks_are.2) [
           | inl ending ↦ stopped refusal report
               (routes_on route near asks_are.1 (Stopped opened (Some refusal)) (ended (asks_check_plan opened archive sheet) f opened (Some refusal) ending))
@@ -156,7 +156,7 @@ module _ {D : Type 0} (device : Device D) (e : Effects D) (files : Option Files)
   opens = opening_all_plan files words.dumps 0
 
   abbrev behind : CommandPlan Progress ⊥
-  behind = opened_plan (length words.dumps) device e.disk (λ records. loading_plan (WhereSoundOn device e.disk) files next words text sheet)
+  behind = opened_plan (length words.dumps) device e.disk (λ records. loading_plan (disk_facts device e.disk) files next words text sheet)
 
   abbrev plan : CommandPlan Progress ⊥
   plan = archive_load_plan device e.disk files next words text sheet
@@ -182,13 +182,13 @@ module _ {D : Type 0} (device : Device D) (e : Effects D) (files : Option Files)
         (closed (failed_at way OfInputs) (subst (λ (l : List S). UsedSources state firsts l (failed_at way OfInputs)) (sym before.2) (subst (UsedSources state firsts firsts) (sym before.1) (unused_sources state firsts))))
     over way (inr used) = subst (λ (n : ℕ). UsedInputs a b n (failed_at way OfInputs)) (sym (used.given ∙ as_many)) (closed (failed_at way OfInputs) used.used)
 
-    pub ran_loaded : RanWith device (opened_plan (length firsts) device e.disk (λ records. loading_plan (WhereSoundOn device e.disk) files next words text sheet)) e
+    pub ran_loaded : RanWith device (opened_plan (length firsts) device e.disk (λ records. loading_plan (disk_facts device e.disk) files next words text sheet)) e
         (UsedByWork (length firsts) firsts lasts (HaveUsedSources state firsts lasts)) → RanOver device plan e a b
     ran_loaded went = record {
       ran = record {
         way = went.ran.way;
         allows = gave (map_done nothing_done opens) (λ (done : Unit {0}). behind) tt went.ran.way (allows_map_done nothing_done opens (Returned tt) (allows 0))
-            (subst (λ (n : ℕ). Allows (opened_plan n device e.disk (λ records. loading_plan (WhereSoundOn device e.disk) files next words text sheet)) went.ran.way) as_many went.ran.allows);
+            (subst (λ (n : ℕ). Allows (opened_plan n device e.disk (λ records. loading_plan (disk_facts device e.disk) files next words text sheet)) went.ran.way) as_many went.ran.allows);
         did = went.ran.did;
       };
       inputs = over went.ran.way went.used;
@@ -228,18 +228,18 @@ jobs_determined dumps filled asks c reported failed = session_determined dumps f
     printing [] = tt
     printing (ask ∷ asks) = tt
 
-module _ (Where : Type 0 → Type 0) (files : Option Files) (next : Option ℤ) (words : LoadWords) (sheet : Result (List Ask) Refusal) (filled : FilledArchive) where
-  routed_determined : (route : List RouteStatement) → IsDetermined (after_route Where files next words sheet filled route)
+module _ (facts : DiskFacts) (files : Option Files) (next : Option ℤ) (words : LoadWords) (sheet : Result (List Ask) Refusal) (filled : FilledArchive) where
+  routed_determined : (route : List RouteStatement) → IsDetermined (after_route facts files next words sheet filled route)
   routed_determined route =
-      determined (asks_check_plan (archive_opened (length words.dumps) filled) filled.plain sheet) (jobs_plan Where files next words filled route) (check_determined (archive_opened (length words.dumps) filled) filled.plain sheet)
+      determined (asks_check_plan (archive_opened (length words.dumps) filled) filled.plain sheet) (jobs_plan facts files next words filled route) (check_determined (archive_opened (length words.dumps) filled) filled.plain sheet)
       (λ asks g given c came. jobs_determined (length words.dumps) filled asks c (reported_of words.link c.ends c.others) c.failed)
 
-  loading_determined : (text : Option (List ℕ)) → IsDetermined (loading_plan Where files next words text sheet filled)
+  loading_determined : (text : Option (List ℕ)) → IsDetermined (loading_plan facts files next words text sheet filled)
   loading_determined text = (λ a b h k. h ∙ sym k, λ found h. each found)
     where
-      each : (found : Option Refusal) → IsDetermined (after_links Where files next words text sheet filled found)
+      each : (found : Option Refusal) → IsDetermined (after_links facts files next words text sheet filled found)
       each None =
-          determined (route_plan (archive_opened (length words.dumps) filled) filled.plain text) (after_route Where files next words sheet filled) (route_determined (archive_opened (length words.dumps) filled) filled.plain text)
+          determined (route_plan (archive_opened (length words.dumps) filled) filled.plain text) (after_route facts files next words sheet filled) (route_determined (archive_opened (length words.dumps) filled) filled.plain text)
           routed_determined
       each (Some refusal) = tt
 
@@ -251,10 +251,10 @@ load_determined device disk (Some all) next words known some = (λ a b h k. h �
   where
     archived : (text : Option (List ℕ)) (sheet : Result (List Ask) Refusal) → IsDetermined (archive_load_plan device disk (Some all) next words text sheet)
     archived text sheet =
-        determined (map_done nothing_done (opening_all_plan (Some all) words.dumps 0)) (λ (done : Unit {0}). opened_plan (length words.dumps) device disk (λ records. loading_plan (WhereSoundOn device disk) (Some all) next words text sheet))
+        determined (map_done nothing_done (opening_all_plan (Some all) words.dumps 0)) (λ (done : Unit {0}). opened_plan (length words.dumps) device disk (λ records. loading_plan (disk_facts device disk) (Some all) next words text sheet))
         (determined_map_done nothing_done (opening_all_plan (Some all) words.dumps 0) (opening_all_determined all words.dumps 0))
-        (λ done. determined (opening_plan (length words.dumps) device disk) (loading_plan (WhereSoundOn device disk) (Some all) next words text sheet) (opens_determined (length words.dumps) device disk known)
-        (λ filled. loading_determined (WhereSoundOn device disk) (Some all) next words sheet filled text))
+        (λ done. determined (opening_plan (length words.dumps) device disk) (loading_plan (disk_facts device disk) (Some all) next words text sheet) (opens_determined (length words.dumps) device disk known)
+        (λ filled. loading_determined (disk_facts device disk) (Some all) next words sheet filled text))
 
     each : (found : Option Refusal) → IsDetermined (after_limits device disk (Some all) next words found)
     each None =

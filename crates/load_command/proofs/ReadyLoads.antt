@@ -1,5 +1,5 @@
 -- What is ready of a load once there's a link for each of its dumps.
-use Rattle.std.proofs.Common.{◌≡◌, List, None, Option, Some, inr}
+use Rattle.std.proofs.Common.{◌≡◌, List, None, inr}
 use Rattle.std.specs.Prelude.{Err, IfErr, IfOk, Ok, Result}
 use Rattle.asks.specs.declared.ask.Ask.{Ask}
 use Rattle.refusals.specs.declared.refusal.Refusal.{Refusal}

@@ -1,5 +1,5 @@
 -- How the jobs of a session over an archive went, what was filled behind them, and what they leave of the disk.
-use Rattle.std.proofs.Common.{◌≡◌, ◌⊎◌, inl, inr, ℕ, ◌+◌, ◌-◌, ◌≤◌, true, false, List, [], ◌∷◌, ◌++◌, length, Some, None, Option, refl, sym, ap, ◌∙◌, subst, arith}
+use Rattle.std.proofs.Common.{◌≡◌, ℕ, ◌+◌, ◌-◌, ◌≤◌, true, false, List, [], ◌∷◌, ◌++◌, length, Some, None, Option, refl, sym, ap, ◌∙◌, subst, arith}
 use Rattle.std.specs.Prelude.{IfErr, IfOk, IfSome, IsTrue, Result}
 use Rattle.arch_disk.specs.Image.{Image}
 use Rattle.arch_disk.specs.Disk.{Device, LeavesOnly, NoFault, raised}
@@ -30,10 +30,11 @@ use Rattle.command_runs.specs.Opened.{IsOpenedOn}
 use Rattle.command_runs.specs.Report.{loaded}
 use Rattle.command_runs.proofs.Commands.{no_text}
 use Rattle.command_runs.proofs.During.{IsOpened, opened_store}
-use Rattle.command_runs.proofs.FilledDisks.{batch_failed_disk, failed_disk, fill_failed_disk, fault_count_since, filled_disk, log_near, log_near_failed, log_near_unfilled, new_fills, unfailed_disk}
+use Rattle.command_runs.proofs.FilledDisks.{batch_failed_disk, failed_disk, fill_failed_disk, fault_count_since, filled_disk, log_near, new_fills, unfailed_disk}
 use Rattle.command_runs.proofs.FillingPlan.{ran_all_filled, ran_behind, ran_unfilled}
 use Rattle.live_archive.specs.GoesOn.{NoneFailed, OneFailed}
 use Rattle.live_asks.specs.declared.answered.AskAnswer.{AskAnswer}
+use Rattle.live_asks.specs.LiveAsks.{DiskFacts, disk_facts}
 use Rattle.live_fills.proofs.Late.{fills_of_late}
 use Rattle.live_session.specs.declared.reported.DumpCounts.{DumpCounts}
 use Rattle.live_session.specs.declared.reported.ReportedRefusal.{ReportedRefusal}
@@ -42,7 +43,7 @@ use Rattle.live_session.specs.Outcome.{HasFailed, IsFailedAddition, IsJobsOutcom
 use Rattle.load_jobs.proofs.Closing.{left_during}
 use Rattle.load_session.specs.During.{IsDuring}
 use Rattle.load_session.specs.Filling.{AllLateFilled, IsFillFailed, IsFilledOn, IsFillingRefusal, IsUnfailed}
-use Rattle.load_command.specs.Load.{WhereSoundOn, after_session, history_extended, job_refused, write_failed}
+use Rattle.load_command.specs.Load.{after_session, history_extended, job_refused, write_failed}
 use Rattle.load_command.specs.Loading.{IsNothingReported, IsReported, log_behind, outcome_of_failure, pending_behind}
 
 -- where nothing is reported, no job is refused
@@ -56,8 +57,8 @@ module _ {D S : Type 0} (device : Device D) (disk : D) (old between mid new : St
     (came : IsLoadOutcome device state old between g link olds news said counts answers) (lefts : lefts_of state olds ≡ contents)
     (filling : Result ℕ Refusal) (filled : IfOk filling (AllLateFilled device between mid)) (unfilled : IfErr filling (IsFillingRefusal device between mid)) (filled_on : IsFilledOn between mid)
     (healed : TriesToHeal device mid new) (kept_old : IsKept device old) (kept : IsKept device new) (output output' : OutputState) (report : Report) where
-  abbrev Where : Type 0 → Type 0
-  Where = WhereSoundOn device disk
+  abbrev facts : DiskFacts
+  facts = disk_facts device disk
 
   abbrev c : JobsOutcome
   c = came.outcome
@@ -70,10 +71,10 @@ module _ {D S : Type 0} (device : Device D) (disk : D) (old between mid new : St
 
   -- ---- the way of the plan
 
-  pub outcome : IsJobsOutcome Where old.exponent old.history g link contents c
+  pub outcome : IsJobsOutcome facts (filled_of old) g link contents c
   outcome =
-      subst (λ (image : Image). IsJobsOutcome (λ (P : Type 0). IsTrue device.is_transparent → IsSoundImage image → P) old.exponent old.history g link contents c) on.opened.opening
-      (subst (λ (l : List (Option (List ℕ))). IsJobsOutcome (λ (P : Type 0). IsTrue device.is_transparent → IsSoundImage (device.reads old.opened) → P) old.exponent old.history g link l c) lefts came.possible)
+      subst (λ (image : Image). IsJobsOutcome (record { known = IsTrue device.is_transparent; sound = IsSoundImage image }) (filled_of old) g link contents c) on.opened.opening
+      (subst (λ (l : List (Option (List ℕ))). IsJobsOutcome (disk_facts device old.opened) (filled_of old) g link l c) lefts came.possible)
 
   -- it goes on by what is reported of the jobs, and by the write that failed
   goes_on : (reported : Option ReportedRefusal) (failed : Option Addition) → reported_of link c.ends c.others ≡ reported → c.failed ≡ failed → Ran device (after_session sources (filled_of old) c next reported failed) went → Loaded
@@ -110,6 +111,10 @@ module _ {D S : Type 0} (device : Device D) (disk : D) (old between mid new : St
       let later = filled_on.records in
       omega (arith, full, same, later)
 
+  log_told : (refusal : Refusal) → IsSeenIn old between refusal → IsLogNear device new.disk (log_behind refusal came_rows)
+  log_told (Limit Records number) seen = log_near device mid new healed kept.records came_rows (log_reaches (seen refl))
+  log_told other seen = tt
+
   -- the fills that there are behind all: those that there were, and right ones
   pub right_fills : IsTrue device.is_transparent → AddsRightFills old.head old.exponent new.history (fillings_in old.filled) (fillings_in new.filled)
   right_fills = new_fills device disk old between mid new opened on.counts.faults appends.head appends.exponent appends.opened sets filled_on healed kept.images kept.faults kept.kept
@@ -144,27 +149,14 @@ module _ {D S : Type 0} (device : Device D) (disk : D) (old between mid new : St
         (filled_disk device disk old between mid new opened on.counts.faults appends.head appends.exponent appends.opened sets filled_on healed kept.images kept.faults kept.kept no_faults no_fault no_write count is
         (λ known. kept.bases))
 
-    near : (more : ℕ) → IsUnfailed device between mid → limit_of Records ≤ mid.records + more → IsLogNear device disk new.disk (Some more)
-    near more is reaches =
-        log_near device disk old between mid new opened on.counts.faults appends.head appends.exponent appends.opened sets filled_on healed kept.images kept.faults kept.kept no_faults no_fault no_write more kept.records is reaches
-
-    near_unfilled : (more : ℕ) → IsFillFailed device between mid → limit_of Records ≤ mid.records + more → IsLogNear device disk new.disk (Some more)
-    near_unfilled more is reaches =
-        log_near_unfilled device disk old between mid new opened on.counts.faults appends.head appends.exponent appends.opened sets filled_on healed kept.images kept.faults kept.kept no_faults no_fault no_write is more kept.records reaches
-
     -- ---- a job was refused, which is reported whatever the filling came to
-
-    log_reported : (refusal : Refusal) → IsSeenIn old between refusal → IsUnfailed device between mid ⊎ IsFillFailed device between mid → IsLogNear device disk new.disk (log_behind refusal came_rows)
-    log_reported (Limit Records number) seen (inl is) = near came_rows is (log_reaches (seen refl))
-    log_reported (Limit Records number) seen (inr is) = near_unfilled came_rows is (log_reaches (seen refl))
-    log_reported other seen how = tt
 
     refused : (reported : ReportedRefusal) → reported_of link c.ends c.others ≡ Some reported → c.failed ≡ None → IsSeenIn old between reported.refusal → output' ≡ output
         → report ≡ loaded (Some reported.refusal) reported.link (length old.history) (length c.reached) 0 0 0 → Loaded
     refused reported is also seen silent report_is =
         goes_on (Some reported) None is also
         (ran_behind (filled_of old) c.reached (job_refused sources (filled_of old) c reported) device went between mid calm refl refl
-        (rw silent (no_text output.written)) (record { counted = ap (λ (o : OutputState). o.faults) silent }) unfailed failed all reported.refusal report_is (log_reported reported.refusal seen) tt filling filled unfilled)
+        (rw silent (no_text output.written)) (record { counted = ap (λ (o : OutputState). o.faults) silent }) unfailed failed all reported.refusal report_is (log_told reported.refusal seen) tt filling filled unfilled)
 
     -- ---- no job was
 
@@ -178,7 +170,7 @@ module _ {D S : Type 0} (device : Device D) (disk : D) (old between mid new : St
         goes_on None None is also
         (ran_unfilled (filled_of old) c.reached st device went between mid calm refl refl
         (rw silent (no_text output.written)) (record { counted = ap (λ (o : OutputState). o.faults) silent }) unfailed failed (λ full. Unit {0}) next (refl, refl) (λ other reported. tt)
-        (λ is reaches. near 0 is (omega (arith, reaches))) refusal cause report_is)
+        (λ reaches. log_near device mid new healed kept.records 0 (omega (arith, reaches))) refusal cause report_is)
 
     -- each late interval was filled, and what follows was done
     all_done : (late : ℕ) → reported_of link c.ends c.others ≡ None → c.failed ≡ None → AllLateFilled device between mid late
@@ -217,12 +209,6 @@ module _ {D S : Type 0} (device : Device D) (disk : D) (old between mid new : St
         filling filled unfilled faults seen
     counted_since other seen = tt
 
-    log_failed : (refusal : Refusal) → IsSeenIn old between refusal → IsLogNear device disk new.disk (log_behind refusal came_rows)
-    log_failed (Limit Records number) seen =
-        log_near_failed device disk old between mid new opened on.counts.faults appends.head appends.exponent appends.opened sets filled_on healed kept.images kept.faults kept.kept addition one.count held wrote_once
-        filling filled unfilled came_rows kept.records (log_reaches (seen refl))
-    log_failed other seen = tt
-
     write_refused : (reported : ReportedRefusal) → reported_of link c.ends c.others ≡ Some reported → c.failed ≡ Some addition → IsFailedAddition old.history c.reached g link contents c.ends addition
         → IsSeenIn old between reported.refusal → output' ≡ output → report ≡ loaded (Some reported.refusal) reported.link (length old.history) (length c.reached) 0 0 0 → Loaded
     write_refused reported is also failed seen silent report_is =
@@ -234,7 +220,7 @@ module _ {D S : Type 0} (device : Device D) (disk : D) (old between mid new : St
             printed = rw silent (no_text output.written);
             output = record { counted = ap (λ (o : OutputState). o.faults) silent };
             disk = what_failed addition refl failed;
-            log = log_failed reported.refusal seen;
+            log = log_told reported.refusal seen;
             pending = counted_since reported.refusal seen;
           };
         })

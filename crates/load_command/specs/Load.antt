@@ -1,12 +1,11 @@
 -- The command `load`.
-use Rattle.std.specs.Prelude.{◌≡◌, ◌-◌, ℕ, ℤ, List, [], ◌∷◌, length, true, false, Option, Some, None, Result, IsTrue}
+use Rattle.std.specs.Prelude.{◌≡◌, ◌-◌, ℕ, ℤ, List, [], ◌∷◌, length, true, false, Option, Some, None, Result}
 use Rattle.arch_disk.specs.Disk.{Device}
 use Rattle.asks.specs.declared.ask.Ask.{Ask}
 use Rattle.refusals.specs.declared.refusal.Refusal.{Refusal}
 use Rattle.outer_traits.specs.Outside.{Files}
 use Rattle.history_items.specs.declared.fills.Addition.{Addition}
 use Rattle.archive_store.specs.Entries.{Archive, FilledArchive}
-use Rattle.archive_store.specs.Stands.{IsSoundImage}
 use Rattle.command_plans.specs.Plan.{OfMemory, OfOutput, OfDisk, with_failed_call, CommandPlan, Stop, May, Question, Choose, and_then, map_done}
 use Rattle.command_plans.specs.Sources.{opening_all_plan}
 use Rattle.command_words.specs.Job.{LoadWords}
@@ -17,6 +16,7 @@ use Rattle.command_runs.specs.Command.{Progress, Extended, archive_opened, nothi
 use Rattle.command_runs.specs.FillingPlan.{all_filled, filling_behind_plan, filling_plan}
 use Rattle.command_runs.specs.Report.{loaded}
 use Rattle.script_answers.specs.Scripts.{after_answer, script_octets_plan}
+use Rattle.live_asks.specs.LiveAsks.{DiskFacts, disk_facts}
 use Rattle.live_session.specs.declared.reported.ReportedRefusal.{ReportedRefusal}
 use Rattle.live_session.specs.Outcome.{IsJobsOutcome, JobsOutcome, reported_of}
 use Rattle.stream_graph.specs.declared.statement.RouteStatement.{RouteStatement}
@@ -72,11 +72,11 @@ load_printing_plan dumps filled asks outcome =
     (May OfOutput printing
     (Stop (record done { text = text; report = whole_report (length filled.plain.history) outcome }) None))
 
--- What the jobs lead to, by what is reported of them and what a failed write was to add. Where none was refused, what is
--- late still is filled, and this follows. Where one was, that is reported, whatever the filling comes to. Behind a
+-- What the jobs lead to, by what is reported of them and what a failed write was to add. Where none was refused, what
+-- is late still is filled, and this follows. Where one was, that is reported, whatever the filling comes to. Behind a
 -- write that failed no fill comes: it is taken back last.
-abbrev pub after_session : ℕ → FilledArchive → JobsOutcome → CommandPlan Progress ⊥ → Option ReportedRefusal → Option Addition
-    → CommandPlan Progress ⊥
+abbrev pub after_session : ℕ → FilledArchive → JobsOutcome → CommandPlan Progress ⊥ → Option ReportedRefusal
+    → Option Addition → CommandPlan Progress ⊥
 after_session sources filled outcome next None failed =
     filling_plan (λ full. Unit {0}) filled outcome.reached (history_extended sources filled None outcome) next
 after_session sources filled outcome next (Some reported) None =
@@ -91,15 +91,15 @@ after_jobs dumps filled asks outcome = after_session dumps filled outcome (load_
 
 -- ---- the jobs
 
--- Runs the jobs of links, readers and fillers over an archive, at the clock's moment: what they come to is chosen by the
--- turns that they take. `Where` says where the fills of the archive are known to be sound.
-abbrev pub jobs_plan : (Type 0 → Type 0) → Option Files → Option ℤ → LoadWords → FilledArchive → List RouteStatement
+-- Runs the jobs of links, readers and fillers over an archive that was opened on a disk of which this is known, at the
+-- clock's moment: what they come to is chosen by the turns that they take.
+abbrev pub jobs_plan : DiskFacts → Option Files → Option ℤ → LoadWords → FilledArchive → List RouteStatement
     → List Ask → CommandPlan Progress ⊥
-jobs_plan Where files next words filled route asks =
+jobs_plan facts files next words filled route asks =
     Choose (IsSettingOf filled.plain next route asks) (λ setting.
-    Choose (IsJobsOutcome Where filled.plain.exponent filled.plain.history setting words.link
-    (dumps_of files words.dumps)) (λ outcome. after_jobs (length words.dumps) filled asks outcome
-    (reported_of words.link outcome.ends outcome.others) outcome.failed))
+    Choose (IsJobsOutcome facts filled setting words.link (dumps_of files words.dumps)) (λ outcome.
+    after_jobs (length words.dumps) filled asks outcome (reported_of words.link outcome.ends outcome.others)
+    outcome.failed))
 
 -- ---- before them
 
@@ -109,40 +109,36 @@ abbrev pub route_plan : Progress → Archive → Option (List ℕ) → CommandPl
 route_plan s archive text = May OfMemory s (Question (IsRouteAnswer archive text) (after_answer s))
 
 -- what a route leads to: the asks are checked, and the jobs run
-abbrev pub after_route : (Type 0 → Type 0) → Option Files → Option ℤ → LoadWords → Result (List Ask) Refusal
+abbrev pub after_route : DiskFacts → Option Files → Option ℤ → LoadWords → Result (List Ask) Refusal
     → FilledArchive → List RouteStatement → CommandPlan Progress ⊥
-after_route Where files next words asks filled route =
+after_route facts files next words asks filled route =
     and_then (asks_check_plan (archive_opened (length words.dumps) filled) filled.plain asks)
-    (jobs_plan Where files next words filled route)
+    (jobs_plan facts files next words filled route)
 
 -- what the number of the last link leads to: the text of the route is looked at
-abbrev pub after_links : (Type 0 → Type 0) → Option Files → Option ℤ → LoadWords → Option (List ℕ)
+abbrev pub after_links : DiskFacts → Option Files → Option ℤ → LoadWords → Option (List ℕ)
     → Result (List Ask) Refusal → FilledArchive → Option Refusal → CommandPlan Progress ⊥
-after_links Where files next words text asks filled None =
+after_links facts files next words text asks filled None =
     and_then (route_plan (archive_opened (length words.dumps) filled) filled.plain text)
-    (after_route Where files next words asks filled)
-after_links Where files next words text asks filled (Some refusal) =
+    (after_route facts files next words asks filled)
+after_links facts files next words text asks filled (Some refusal) =
     Stop (archive_opened (length words.dumps) filled) (Some refusal)
 
 -- loads dumps that were opened into an archive that was: Limit Links; the refusal of the route; that of the asks; that
 -- of the first job by number that is refused
-abbrev pub loading_plan : (Type 0 → Type 0) → Option Files → Option ℤ → LoadWords → Option (List ℕ)
+abbrev pub loading_plan : DiskFacts → Option Files → Option ℤ → LoadWords → Option (List ℕ)
     → Result (List Ask) Refusal → FilledArchive → CommandPlan Progress ⊥
-loading_plan Where files next words text asks filled =
-    Question (λ found. found ≡ links_refusal words) (after_links Where files next words text asks filled)
+loading_plan facts files next words text asks filled =
+    Question (λ found. found ≡ links_refusal words) (after_links facts files next words text asks filled)
 
--- where a disk is known, and the fills of what it stands for are sound
-abbrev pub WhereSoundOn : {D : Type 0} → Device D → D → Type 0 → Type 0
-WhereSoundOn device disk P = IsTrue device.is_transparent → IsSoundImage (device.reads disk) → P
-
--- opens the dumps in their order and then the archive, looks at the text of a route and checks the asks of a sheet, which
--- were read, runs the jobs, and prints the answers and what became of the packets
+-- opens the dumps in their order and then the archive, looks at the text of a route and checks the asks of a sheet,
+-- which were read, runs the jobs, and prints the answers and what became of the packets
 abbrev pub archive_load_plan : {D : Type 0} → Device D → D → Option Files → Option ℤ → LoadWords → Option (List ℕ)
     → Result (List Ask) Refusal → CommandPlan Progress ⊥
 archive_load_plan device disk files next words text asks =
     and_then (map_done nothing_done (opening_all_plan files words.dumps 0))
     (λ done. opened_plan (length words.dumps) device disk
-    (λ records. loading_plan (WhereSoundOn device disk) files next words text asks))
+    (λ records. loading_plan (disk_facts device disk) files next words text asks))
 
 -- reads the script of a route, where one is given, and goes on with its text; where none is there is none
 abbrev pub routed_plan : Option Files → Option (List ℕ) → (Option (List ℕ) → CommandPlan Progress ⊥)

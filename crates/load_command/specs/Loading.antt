@@ -1,5 +1,5 @@
 -- The steps of a load: how its asks are checked, what its jobs are given, and what is reported of them.
-use Rattle.std.specs.Prelude.{◌≡◌, ◌⊎◌, ◌≤◌, ◌-◌, ℕ, ℤ, List, length, map, Bool, true, false, Option, Some, None, Result, Ok, Err}
+use Rattle.std.specs.Prelude.{◌≡◌, ◌⊎◌, ◌-◌, ℕ, ℤ, List, length, map, Bool, true, false, Option, Some, None, Result, Ok, Err}
 use Rattle.std.specs.FinMap.{get}
 use Rattle.std.specs.List.{list_any}
 use Rattle.asks.specs.declared.ask.Ask.{Ask}
@@ -122,8 +122,8 @@ abbrev pub pending_behind : Refusal → Option ℕ
 pending_behind (NeedsReopen faults) = Some faults
 pending_behind other = None
 
--- What was done to the sources of dumps, by the way that a load took behind their opening: each was given, and some failed
--- where the way says so.
+-- What was done to the sources of dumps, by the way that a load took behind their opening: each was given, and some
+-- failed where the way says so.
 pub record HaveUsedSources {S : Type 0} (state : S → SourceState) (olds news : List S) (way : Way Progress ⊥)
     : Type 0 where
   pub given : sources_at way ≡ length olds

@@ -27,21 +27,25 @@ use std::alloc::Global;
 use std::sync::Wait;
 use std::thread::Threads;
 
-/// Opens dumps and the archive of a disk, and runs the jobs of a load: each dump comes by a link of its own, whose packets are ingested in batches of 64
-/// into the tables that a route names, or where none is given into `tm`; fillers fill what is late; readers answer the asks of a sheet, where one is given,
-/// each over the history of its turn. Behind them it fills what is late still, and prints the answers and what became of the packets. Room for the line is
-/// taken before.
+/// Opens dumps and the archive of a disk, and runs the jobs of a load: each dump comes by a link of its own, whose
+/// packets are ingested in batches of 64 into the tables that a route names, or where none is given into `tm`; fillers
+/// fill what is late; readers answer the asks of a sheet, where one is given, each over the history of its turn. Behind
+/// them it fills what is late still, and prints the answers and what became of the packets. Room for the line is taken
+/// before.
 ///
-/// Refuses, in this order: by `Limit` Dumps or Fillers; by `Missing`, `ReadFault` or `Limit` ScriptOctets of the route; by `Missing`, `ReadFault` or `Limit`
-/// SheetOctets of the sheet; by `Missing` or `ReadFault` of the first dump that isn't opened; by `DiskFault`, `NoArchive` or `Damaged`; by `Limit` Links; by
-/// `BadSql` of rule 1 or 2; by `Limit` Statements or SqlDepth; at the first token with which something is wrong by `BadSql` or `UnknownTable`; by `BadSheet`;
-/// by `Limit` Asks; each ask in turn by `UnknownParameter` or `UnknownTable`, then by `BadRange`; then by that of the first job that is refused, by its
-/// number: of a link by `ReadFault` or `Limit` DumpOctets, by a `Limit` of the history, by `DiskFault` or `NeedsReopen`, or by `BadPacket`; of a filler by
-/// `Limit` Records, `DiskFault` or `NeedsReopen`; behind the jobs fill by fill by `Limit` Records or by `DiskFault`; by `WriteFault`. `OutOfMemory` may come
-/// anywhere before the line.
+/// Refuses, in this order: by `Limit` Dumps or Fillers; by `Missing`, `ReadFault` or `Limit` ScriptOctets of the route;
+/// by `Missing`, `ReadFault` or `Limit` SheetOctets of the sheet; by `Missing` or `ReadFault` of the first dump that
+/// isn't opened; by `DiskFault`, `NoArchive` or `Damaged`; by `Limit` Links; by `BadSql` of rule 1 or 2; by `Limit`
+/// Statements or SqlDepth; at the first token with which something is wrong by `BadSql` or `UnknownTable`; by
+/// `BadSheet`; by `Limit` Asks; each ask in turn by `UnknownParameter` or `UnknownTable`, then by `BadRange`; then by
+/// that of the first job that is refused, by its number: of a link by `ReadFault` or `Limit` DumpOctets, by a `Limit`
+/// of the history, by `DiskFault` or `NeedsReopen`, or by `BadPacket`; of a filler by `Limit` Records, `DiskFault` or
+/// `NeedsReopen`; behind the jobs fill by fill by `Limit` Records or by `DiskFault`; by `WriteFault`. `OutOfMemory` may
+/// come anywhere before the line.
 ///
-/// A job that is refused leaves the others to go on to their ends, and what is late is filled behind them whatever was refused; what is reported is that. Where a
-/// write failed, it is taken back before it ends, as far as the disk lets it; until then nothing more is filled (`fill_late`).
+/// A job that is refused leaves the others to go on to their ends, and what is late is filled behind them whatever was
+/// refused; what is reported is that. Where a write failed, it is taken back before it ends, as far as the disk lets
+/// it; until then nothing more is filled (`fill_late`).
 pub fn load<D: Disk + Send, I: Inputs, K: Sink, C: Clock, G: Gate + Sync, R: Threads + Wait + Sync>(
     rt: &R,
     alloc: Global,
@@ -55,8 +59,8 @@ pub fn load<D: Disk + Send, I: Inputs, K: Sink, C: Clock, G: Gate + Sync, R: Thr
 where
     I::Source: Send,
     requires words { AreLoadWords (load_words_of words.now) }
-    // It took a way through its plan: where that ends stands what was printed, what became of the disk, what is reported, how many
-    // sources were given, and which calls failed.
+    // It took a way through its plan: where that ends stands what was printed, what became of the disk, what is
+    // reported, how many sources were given, and which calls failed.
     ensures ran { RanOver D.device
         (load_plan D.device disk (I.state inputs.old).files (C.state clock.old).next (load_words_of words.now))
         (effects_of disk result.disk (K.state sink.old) (K.state sink.new) result.report)
@@ -79,7 +83,8 @@ where
     }
 }
 
-/// Does the command whose words pass no limit: reads the script of a route, where one is given, and then loads the dumps.
+/// Does the command whose words pass no limit: reads the script of a route, where one is given, and then loads the
+/// dumps.
 fn work<D: Disk + Send, I: Inputs, K: Sink, C: Clock, G: Gate + Sync, R: Threads + Wait + Sync>(
     rt: &R,
     alloc: Global,

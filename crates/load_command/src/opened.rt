@@ -15,10 +15,11 @@ ghost use Rattle.command_runs.specs.Opened.{IsOpenedOn, WasOpened};
 ghost use Rattle.command_runs.specs.Report.{disk_of_work, report_of_work};
 ghost use Rattle.archive_store.specs.Keeping.{IsKept};
 ghost use Rattle.archive_store.specs.StoreView.{StoreView, archive_of, filled_of};
+ghost use Rattle.live_asks.specs.LiveAsks.{disk_facts};
 ghost use Rattle.live_session.specs.Outcome.{lefts_of};
 ghost use Rattle.load_session.specs.Receiving.{IsRouteOver};
 ghost use Rattle.script_answers.specs.Scripts.{OrNoMemory};
-ghost use Rattle.load_command.specs.Load.{WhereSoundOn, loading_plan};
+ghost use Rattle.load_command.specs.Load.{loading_plan};
 ghost use Rattle.ask_answers.specs.Asks.{AreAnswerable};
 ghost use Rattle.load_command.specs.Loading.{HaveUsedSources, IsReady, IsRouteAnswer, IsRouteOrSheetRefused, IsUnready, dumps_of, load_asked};
 
@@ -52,8 +53,8 @@ pub(crate) struct Asked<'a> {
     pub(crate) sheet: Result<Asks, Refusal>,
 }
 
-/// Opens the archive of a disk, loads dumps into it that were opened, takes back a write that failed, and gives the disk and the dumps back. Room for the
-/// line is taken before.
+/// Opens the archive of a disk, loads dumps into it that were opened, takes back a write that failed, and gives the
+/// disk and the dumps back. Room for the line is taken before.
 pub(crate) fn load_opened<
     D: Disk + Send,
     S: Source + Send + Drop,
@@ -79,7 +80,7 @@ pub(crate) fn load_opened<
         lefts_of S.state sources.items ≡ dumps_of files (load_words_of asked.entry.words.now).dumps →
         IsMomentOf next moment →
         RanWith D.device (opened_plan (length sources.items) D.device disk (λ records.
-        loading_plan (WhereSoundOn D.device disk) files next (load_words_of asked.entry.words.now)
+        loading_plan (disk_facts D.device disk) files next (load_words_of asked.entry.words.now)
         (option_map (λ text. text.now) asked.entry.text) asked.entry.sheet))
         (effects_of disk (disk_of_work result.0) (K.state sink.old) (K.state sink.new) (report_of_work result.0))
         (UsedByWork (length sources.items) sources.items result.1.items
@@ -108,8 +109,8 @@ pub(crate) fn load_opened<
     (Ok((store.into_disk(), report)), sources)
 }
 
-/// Loads dumps that were opened into an archive that was, where there's a link for each, the text of the route is none that is refused, and the asks of the
-/// sheet are found in the archive. A write that failed stays pending.
+/// Loads dumps that were opened into an archive that was, where there's a link for each, the text of the route is none
+/// that is refused, and the asks of the sheet are found in the archive. A write that failed stays pending.
 fn load_into<
     D: Disk + Send,
     S: Source + Send + Drop,
@@ -134,13 +135,13 @@ fn load_into<
     requires empty { line_buffer ≡ [] }
     requires opened { WasOpened D.device store }
 
-    // Whichever disk it was opened on, and whatever taking a failed write back leaves: it took a way through its plan, and did
-    // what is said where that ends. What a store keeps is given.
+    // Whichever disk it was opened on, and whatever taking a failed write back leaves: it took a way through its plan,
+    // and did what is said where that ends. What a store keeps is given.
     ensures { (disk : D) (healed : StoreView D) (files : AnOption Files) (next : AnOption ℤ) →
         IsOpenedOn D.device disk store → TriesToHeal D.device result.0 healed → IsKept D.device healed →
         lefts_of S.state sources.items ≡ dumps_of files (load_words_of asked.entry.words.now).dumps →
         IsMomentOf next moment →
-        RanWith D.device (loading_plan (WhereSoundOn D.device disk) files next (load_words_of asked.entry.words.now)
+        RanWith D.device (loading_plan (disk_facts D.device disk) files next (load_words_of asked.entry.words.now)
         (option_map (λ text. text.now) asked.entry.text) asked.entry.sheet (filled_of store))
         (effects_of disk healed.disk (K.state sink.old) (K.state sink.new) result.2)
         (HaveUsedSources S.state sources.items result.1.items) }

@@ -20,9 +20,10 @@ ghost use Rattle.command_runs.specs.Moment.{IsMomentOf};
 ghost use Rattle.command_runs.specs.Opened.{IsOpenedOn, WasOpened};
 ghost use Rattle.archive_store.specs.Keeping.{IsKept};
 ghost use Rattle.archive_store.specs.StoreView.{StoreView, archive_of, filled_of};
+ghost use Rattle.live_asks.specs.LiveAsks.{disk_facts};
 ghost use Rattle.live_session.specs.Outcome.{lefts_of};
 ghost use Rattle.load_session.specs.Receiving.{IsRouteOver};
-ghost use Rattle.load_command.specs.Load.{WhereSoundOn, jobs_plan};
+ghost use Rattle.load_command.specs.Load.{jobs_plan};
 ghost use Rattle.load_command.specs.LoadLine.{load_line};
 ghost use Rattle.load_command.specs.Loading.{HaveUsedSources, dumps_of, printed_report};
 
@@ -47,8 +48,9 @@ use std::sync::Wait;
 use std::thread::Threads;
 use stream_graph::graph::Graph;
 
-/// Runs the jobs of a load over an archive, and fills what is late behind them whatever they came to. Then it prints the answers to the asks and what became
-/// of the packets, or reports why not. A write that failed stays pending: what comes behind takes it back.
+/// Runs the jobs of a load over an archive, and fills what is late behind them whatever they came to. Then it prints
+/// the answers to the asks and what became of the packets, or reports why not. A write that failed stays pending: what
+/// comes behind takes it back.
 pub(crate) fn run_jobs<
     D: Disk + Send,
     S: Source + Send + Drop,
@@ -78,12 +80,12 @@ pub(crate) fn run_jobs<
     requires empty { line_buffer ≡ [] }
     requires opened { WasOpened D.device store }
 
-    // Whichever disk it was opened on, and whatever taking a failed write back leaves: it took a way through the plan of the
-    // jobs, and did what is said where that ends. What a store keeps is given.
+    // Whichever disk it was opened on, and whatever taking a failed write back leaves: it took a way through the plan
+    // of the jobs, and did what is said where that ends. What a store keeps is given.
     ensures { (disk : D) (healed : StoreView D) (files : AnOption Files) (next : AnOption ℤ) →
         IsOpenedOn D.device disk store → TriesToHeal D.device result.0 healed → IsKept D.device healed →
         lefts_of S.state sources.items ≡ dumps_of files (load_words_of words.now).dumps → IsMomentOf next moment →
-        RanWith D.device (jobs_plan (WhereSoundOn D.device disk) files next (load_words_of words.now) (filled_of store)
+        RanWith D.device (jobs_plan (disk_facts D.device disk) files next (load_words_of words.now) (filled_of store)
         graph (asks_found asks)) (effects_of disk healed.disk (K.state sink.old) (K.state sink.new) result.2)
         (HaveUsedSources S.state sources.items result.1.items) }
 {

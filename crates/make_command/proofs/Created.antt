@@ -1,5 +1,5 @@
 -- An archive that was made is as one that was opened on the disk that its making left.
-use Rattle.std.proofs.Common.{◌≡◌, ◌∙◌, ℕ, suc, List, [], ◌∷◌, length, map, Some, None, refl, sym, ap, subst, arith}
+use Rattle.std.proofs.Common.{◌≡◌, ◌∙◌, inl, inr, ℕ, suc, List, [], ◌∷◌, length, map, Some, None, refl, sym, ap, subst, arith}
 use Rattle.std.specs.Prelude.{IsTrue}
 use Rattle.std.specs.List.{AllByRecursion}
 use mathlib.Core.List.{IsPrefix}
@@ -53,7 +53,10 @@ module _ {D : Type 0} (device : Device D) (disk : D) (head : Head) (s : StoreVie
   calm = ap pending_fault_of created.fills
 
   counted : IsTrue device.is_transparent → HasRecordCount (device.reads s.disk) s.records
-  counted known = kept.records known calm
+  counted known = elim (kept.records known) [
+    | inl has ↦ has
+    | inr more ↦ absurd (more.0 calm)
+  ]
 
   stands : IsTrue device.is_transparent → StandsFor (device.reads s.disk) (archive_of s)
   stands known =

@@ -28,16 +28,17 @@ use Rattle.command_runs.specs.Opened.{IsOpenedOn}
 use Rattle.command_runs.specs.Report.{loaded}
 use Rattle.command_runs.proofs.FilledDisks.{late_as_filled}
 use Rattle.live_asks.specs.declared.answered.AskAnswer.{AskAnswer}
+use Rattle.live_asks.specs.LiveAsks.{disk_facts}
 use Rattle.live_session.specs.declared.reported.DumpCounts.{DumpCounts}
 use Rattle.live_session.specs.declared.reported.ReportedRefusal.{ReportedRefusal}
 use Rattle.live_session.specs.Jobs.{JobSetting, job_setting}
 use Rattle.live_session.specs.Outcome.{IsJobsOutcome, IsLoadOutcome, JobsOutcome, counts_of, lefts_of, reported_of}
 use Rattle.load_session.specs.Filling.{AllLateFilled, IsFilledOn, IsFillingRefusal}
 use Rattle.stream_graph.specs.Routes.{every_packet_route}
-use Rattle.load_command.specs.Load.{WhereSoundOn, after_session}
+use Rattle.load_command.specs.Load.{after_session}
 use Rattle.load_command.specs.Loading.{IsNothingReported, IsReported}
 use Rattle.load_command.proofs.SessionRuns.{nothing_reported, outcome as session_outcome, ran_reported as session_reported, ran_whole as session_whole, right_fills}
-use Rattle.make_command.specs.Made.{IsFilledBy, IsMadeOutcome, dumps_of_seed, made_archive, made_contents, made_head, memory_state}
+use Rattle.make_command.specs.Made.{IsFilledBy, IsMadeOutcome, dumps_of_seed, made_archive, made_contents, made_head, octets_state}
 use Rattle.make_command.specs.Make.{made_load_plan, summary_plan}
 use Rattle.make_command.specs.Summing.{IsSummaryReply, counts_behind, summary_report}
 use Rattle.make_command.proofs.Created.{archive_is, opened_on}
@@ -48,7 +49,7 @@ use Rattle.make_command.proofs.SummaryRuns.{ran_summary}
 -- back.
 module _ {D : Type 0} (device : Device D) (disk : D) (s between mid new : StoreView D) (created : IsStoreCreated device disk made_head s) (kept_first : IsKept device s) (seed : ℕ) (next : Option ℤ) (moment : ℤ)
     (is_moment : IsMomentOf next moment) (g : JobSetting) (g_is : g ≡ job_setting made_head every_packet_route moment []) (olds news : List (List ℕ)) (dumps : olds ≡ dumps_of_seed seed)
-    (said : Option ReportedRefusal) (counts : DumpCounts) (answers : List AskAnswer) (came : IsLoadOutcome device memory_state s between g 1 olds news said counts answers)
+    (said : Option ReportedRefusal) (counts : DumpCounts) (answers : List AskAnswer) (came : IsLoadOutcome device octets_state s between g 1 olds news said counts answers)
     (filling : Result ℕ Refusal) (filled : IfOk filling (AllLateFilled device between mid)) (unfilled : IfErr filling (IsFillingRefusal device between mid)) (filled_on : IsFilledOn between mid)
     (healed : TriesToHeal device mid new) (kept : IsKept device new) (output output' : OutputState) (report : Report) where
   abbrev c : JobsOutcome
@@ -71,20 +72,19 @@ module _ {D : Type 0} (device : Device D) (disk : D) (s between mid new : StoreV
 
   -- ---- the way of the plan
 
-  lefts : lefts_of memory_state olds ≡ made_contents seed
-  lefts = ap (lefts_of memory_state) dumps
+  lefts : lefts_of octets_state olds ≡ made_contents seed
+  lefts = ap (lefts_of octets_state) dumps
 
-  possible : IsJobsOutcome (WhereSoundOn device s.disk) s.exponent s.history g 1 (made_contents seed) c
+  possible : IsJobsOutcome (disk_facts device s.disk) (filled_of s) g 1 (made_contents seed) c
   possible =
-      session_outcome device s.disk s between mid new on memory_state 1 0 (made_contents seed) behind g olds news said counts answers came lefts filling filled unfilled filled_on healed kept_first kept output output' report
+      session_outcome device s.disk s between mid new on octets_state 1 0 (made_contents seed) behind g olds news said counts answers came lefts filling filled unfilled filled_on healed kept_first kept output output' report
 
   came_to : IsMadeOutcome seed moment c
   came_to =
-      made_outcome (WhereSoundOn device s.disk) seed moment c
-      (subst (λ (h : List Item). IsJobsOutcome (WhereSoundOn device s.disk) format_1_exponent h (job_setting made_head every_packet_route moment []) 1 (made_contents seed) c) created.history
-      (subst (λ (e : ℕ). IsJobsOutcome (WhereSoundOn device s.disk) e s.history (job_setting made_head every_packet_route moment []) 1 (made_contents seed) c) created.exponent
-      (subst (λ (f : JobSetting). IsJobsOutcome (WhereSoundOn device s.disk) s.exponent s.history f 1 (made_contents seed) c) g_is possible)))
-      (none_unread memory_state c.ends olds news (λ source. tt) (λ source. refl) came.sources)
+      made_outcome (disk_facts device s.disk) seed moment c
+      (subst (λ (f : FilledArchive). IsJobsOutcome (disk_facts device s.disk) f (job_setting made_head every_packet_route moment []) 1 (made_contents seed) c) first_is
+      (subst (λ (f : JobSetting). IsJobsOutcome (disk_facts device s.disk) (filled_of s) f 1 (made_contents seed) c) g_is possible))
+      (none_unread octets_state c.ends olds news (λ source. tt) (λ source. refl) came.sources)
 
   chosen : Ran device (after_session 0 (filled_of s) c behind (reported_of 1 c.ends c.others) c.failed) went → Loaded
   chosen ran =
@@ -94,7 +94,7 @@ module _ {D : Type 0} (device : Device D) (disk : D) (s between mid new : StoreV
   -- the jobs were refused, or else the filling behind them
   pub ran_refused : (reported : ReportedRefusal) → IsReported said filling reported → output' ≡ output → report ≡ loaded (Some reported.refusal) reported.link 0 (length c.reached) 0 0 0 → Loaded
   ran_refused reported is silent report_is =
-      chosen (session_reported device s.disk s between mid new on memory_state 1 0 (made_contents seed) behind g olds news said counts answers came lefts filling filled unfilled filled_on healed kept_first kept
+      chosen (session_reported device s.disk s between mid new on octets_state 1 0 (made_contents seed) behind g olds news said counts answers came lefts filling filled unfilled filled_on healed kept_first kept
       output output' report reported is silent
       (subst (λ (h : List Item). report ≡ loaded (Some reported.refusal) reported.link (length h) (length c.reached) 0 0 0) (sym created.history) report_is))
 
@@ -123,7 +123,7 @@ module _ {D : Type 0} (device : Device D) (disk : D) (s between mid new : StoreV
       (subst (λ (l : List Item). AddsRightFills s.head s.exponent l no_fillings (fillings_in mid.filled)) same_rows
       (subst (λ (f : Fillings (List SetRow)). AddsRightFills s.head s.exponent new.history f (fillings_in mid.filled)) created.filled
       (subst (λ (f : PlacedFills). AddsRightFills s.head s.exponent new.history (fillings_in s.filled) (fillings_in f)) same_fills
-      (right_fills device s.disk s between mid new on memory_state 1 0 (made_contents seed) behind g olds news said counts answers came lefts filling filled unfilled filled_on healed kept_first kept output output' report known)))))
+      (right_fills device s.disk s between mid new on octets_state 1 0 (made_contents seed) behind g olds news said counts answers came lefts filling filled unfilled filled_on healed kept_first kept output output' report known)))))
 
   each_filled : (o : Option ReportedRefusal) → IsNothingReported o filling → (count : ℕ) × AllLateFilled device between mid count
   each_filled (Some reported) nothing = absurd nothing
@@ -148,7 +148,7 @@ module _ {D : Type 0} (device : Device D) (disk : D) (s between mid new : StoreV
       let reports =
       subst (λ (l : List Item). report ≡ summary_report refusal (length l) (counts_behind (counts_of c.ends) (length c.reached))) rows
       (subst (λ (n : LoadCounts). report ≡ summary_report refusal (length mid.history) n) same report_is) in
-      chosen (session_whole device s.disk s between mid new on memory_state 1 0 (made_contents seed) behind g olds news said counts answers came lefts filling filled unfilled filled_on healed kept_first kept
+      chosen (session_whole device s.disk s between mid new on octets_state 1 0 (made_contents seed) behind g olds news said counts answers came lefts filling filled unfilled filled_on healed kept_first kept
       output output' report nothing
       (λ disk_is. ran_summary device s.disk new.disk output output' report seed c (fillings_in mid.filled) (is_filled nothing kept_mid)
       (subst (λ (f : FilledArchive). HasDiskOutcome device s.disk new.disk false (AllFilled f c.reached)) first_is disk_is) refusal replied reports))

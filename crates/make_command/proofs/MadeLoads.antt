@@ -8,11 +8,10 @@ use Rattle.mdb_items.specs.Checks.{first_at}
 use Rattle.mdb_items.specs.ContainerRows.{container_fault_at}
 use Rattle.mdb_items.specs.ParameterRows.{parameter_fault_at}
 use Rattle.mdb_items.specs.Paths.{paths_of}
-use Rattle.intervals.specs.Interval.{format_1_exponent}
 use Rattle.history_items.specs.declared.items.Item.{Item}
-use Rattle.archive_store.specs.declared.head.Head.{Head}
+use Rattle.archive_store.specs.Entries.{FilledArchive}
 use Rattle.live_asks.specs.declared.answered.AskAnswer.{AskAnswer}
-use Rattle.live_asks.specs.LiveAsks.{AreAnswered}
+use Rattle.live_asks.specs.LiveAsks.{AreAnswered, DiskFacts}
 use Rattle.live_session.specs.Jobs.{IsSourceRead, job_setting}
 use Rattle.live_session.specs.Outcome.{AreSourcesRead, IsJobsOutcome, JobsOutcome}
 use Rattle.load_jobs.specs.declared.ending.LinkEnd.{LinkEnd}
@@ -20,7 +19,7 @@ use Rattle.load_jobs.specs.declared.ending.LinkEnd.TheVariants.{Unread}
 use Rattle.load_session.specs.Receiving.{IsRouteOver}
 use Rattle.stream_graph.specs.Routes.{every_packet_route}
 use Rattle.load_command.specs.Loading.{is_unread}
-use Rattle.make_command.specs.Made.{IsMadeOutcome, made_contents, made_head, two_dumps}
+use Rattle.make_command.specs.Made.{IsMadeOutcome, made_archive, made_contents, made_head, no_facts, two_dumps}
 use Rattle.make_command.specs.Summing.{KnowsParameters}
 
 -- ---- what it is given
@@ -47,9 +46,9 @@ made_parameters_known = (refl, (refl, (refl, tt)))
 -- ---- what its jobs came to
 
 -- where nothing is asked an answer says nothing
-no_ask : (Where Other : Type 0 → Type 0) (head : Head) (low reached : List Item) (answers : List AskAnswer) → AreAnswered Where head low reached [] answers None → AreAnswered Other head low reached [] answers None
-no_ask Where Other head low reached [] is = tt
-no_ask Where Other head low reached (answer ∷ answers) is = absurd is
+no_ask : (facts other : DiskFacts) (opened : FilledArchive) (low reached : List Item) (answers : List AskAnswer) → AreAnswered facts opened low reached [] answers None → AreAnswered other opened low reached [] answers None
+no_ask facts other opened low reached [] is = tt
+no_ask facts other opened low reached (answer ∷ answers) is = absurd is
 
 -- a source that never fails was read to where its link stopped
 module _ {S : Type 0} (state : S → SourceState) where
@@ -66,15 +65,15 @@ module _ {S : Type 0} (state : S → SourceState) where
       rw (read_on end (state old) (state new) (never old) read.0 (none old)) (none_unread ends olds news never none read.1)
   none_unread ends olds news never none read = absurd read
 
-pub made_outcome : (Where : Type 0 → Type 0) (seed : ℕ) (moment : ℤ) (c : JobsOutcome) → IsJobsOutcome Where format_1_exponent [] (job_setting made_head every_packet_route moment []) 1 (made_contents seed) c
+pub made_outcome : (facts : DiskFacts) (seed : ℕ) (moment : ℤ) (c : JobsOutcome) → IsJobsOutcome facts made_archive (job_setting made_head every_packet_route moment []) 1 (made_contents seed) c
     → list_any is_unread c.ends ≡ false → IsMadeOutcome seed moment c
-made_outcome Where seed moment c is read = record {
+made_outcome facts seed moment c is read = record {
   came = record {
     more = is.more;
     grown = is.grown;
     of_links = is.of_links;
     links = is.links;
-    answered = λ none before few. no_ask Where (λ (P : Type 0). Unit {0}) made_head [] c.reached _ (is.answered none before few);
+    answered = λ none before few. no_ask facts no_facts made_archive [] c.reached _ (is.answered none before few);
     readers = is.readers;
     fillers = is.fillers;
     reported_so = is.reported_so;

@@ -25,7 +25,7 @@ use Rattle.load_command.specs.Load.{after_session, history_extended, job_refused
 use Rattle.load_command.specs.Loading.{is_unread, outcome_of_failure}
 use Rattle.load_command.proofs.LoadPlan.{HasUsed, session_determined, session_used}
 use Rattle.make_command.specs.Made.{made_archive, made_head}
-use Rattle.make_command.specs.Make.{after_comparing, behind_plan, made_load_plan, make_plan, summary_plan}
+use Rattle.make_command.specs.Make.{summary_or_mismatch, behind_plan, made_load_plan, make_plan, summary_plan}
 
 -- ---- one answer is due
 
@@ -33,7 +33,7 @@ module _ {D : Type 0} (device : Device D) (seed : ℕ) (c : JobsOutcome) where
   summary_determined : IsDetermined (summary_plan device seed c)
   summary_determined = λ fillings is. (compared_once (filled_at made_archive c.reached fillings), λ found was. each (filled_at made_archive c.reached fillings) found)
     where
-      each : (filled : FilledArchive) (found : Option Refusal) → IsDetermined (after_comparing seed c filled found)
+      each : (filled : FilledArchive) (found : Option Refusal) → IsDetermined (summary_or_mismatch seed c filled found)
       each filled None = tt
       each filled (Some refusal) = tt
 
@@ -53,7 +53,7 @@ module _ {D : Type 0} (device : Device D) (seed : ℕ) (c : JobsOutcome) where
   summary_used : EachEnd (HasUsed 0 (list_any is_unread c.ends)) (summary_plan device seed c)
   summary_used = λ fillings is. ((refl, refl), λ found was. each (filled_at made_archive c.reached fillings) found)
     where
-      each : (filled : FilledArchive) (found : Option Refusal) → EachEnd (HasUsed 0 (list_any is_unread c.ends)) (after_comparing seed c filled found)
+      each : (filled : FilledArchive) (found : Option Refusal) → EachEnd (HasUsed 0 (list_any is_unread c.ends)) (summary_or_mismatch seed c filled found)
       each filled None = ((refl, refl), ((refl, refl), (refl, refl)))
       each filled (Some refusal) = (refl, refl)
 
@@ -90,7 +90,7 @@ module _ {D : Type 0} (device : Device D) (seed : ℕ) (c : JobsOutcome) where
   summary_asks : EachEnd AsksDisk (summary_plan device seed c)
   summary_asks = λ fillings is. (filled_to_end, λ found was. each (filled_at made_archive c.reached fillings) found)
     where
-      each : (filled : FilledArchive) (found : Option Refusal) → EachEnd AsksDisk (after_comparing seed c filled found)
+      each : (filled : FilledArchive) (found : Option Refusal) → EachEnd AsksDisk (summary_or_mismatch seed c filled found)
       each filled None = (filled_to_end, (filled_to_end, filled_to_end))
       each filled (Some refusal) = filled_to_end
 

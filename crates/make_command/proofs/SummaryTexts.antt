@@ -39,7 +39,7 @@ use Rattle.live_session.specs.declared.reported.DumpCounts.{DumpCounts}
 use Rattle.make_command.specs.declared.summary.CellCounts.{CellCounts}
 use Rattle.script_answers.specs.Statements.{records_text}
 use Rattle.make_command.specs.Summary.{cell_count, cells_line, counted_parameters, make_line, made_counts, summary_text, whole_request}
-use Rattle.make_command.specs.Summing.{AreCellCounts, AreCountsOf, IsSummaryReply, IsSummedUp, cell_lines, counts_behind, made_counts_of, summary_report}
+use Rattle.make_command.specs.Summing.{AreCellCounts, AreCountsOf, IsSummaryReply, IsSummedUp, count_lines, counts_behind, made_counts_of, summary_report}
 
 -- ---- what is counted
 
@@ -87,7 +87,7 @@ made_line_is seed counts sound filled are = rw (are.rows, are.intervals, are.lat
 three_lines : (x y z a b c n : List ℕ) → x ++ a ++ (n ++ y) ++ b ++ (n ++ z) ++ c ++ n ≡ (x ++ a ++ n) ++ ((y ++ b ++ n) ++ ((z ++ c ++ n) ++ []))
 three_lines x y z a b c n = simp (append_assoc, append-nil) refl
 
-cells_are : (filled : FilledArchive) (cells : CellCounts) → AreCellCounts filled cells → cell_lines cells ≡ flat_map (cells_line filled) counted_parameters
+cells_are : (filled : FilledArchive) (cells : CellCounts) → AreCellCounts filled cells → count_lines cells ≡ flat_map (cells_line filled) counted_parameters
 cells_are filled cells are =
     rw (are.apid, are.temp, are.level)
     (three_lines (codes "cells apid ") (codes "cells temp ") (codes "cells level ") (decimal (cell_count filled (codes "apid"))) (decimal (cell_count filled (codes "temp")))
@@ -98,7 +98,7 @@ sound_line_is sound filled are = rw (are.rows, are.intervals, are.late) refl
 
 -- what is printed in front of the records
 abbrev pub front_text : ℕ → LoadCounts → Sound → CellCounts → List ℕ
-front_text seed counts sound cells = make_line seed (made_counts_of counts sound) ++ cell_lines cells
+front_text seed counts sound cells = make_line seed (made_counts_of counts sound) ++ count_lines cells
 
 -- what is printed is the summary
 pub summary_is : (seed : ℕ) (counts : LoadCounts) (sound : Sound) (cells : CellCounts) (filled : FilledArchive) → IsSummedUp filled sound cells
@@ -107,7 +107,7 @@ summary_is seed counts sound cells filled is =
     let records = records_text filled.plain 0 in
     let end = sound_line sound.rows sound.intervals sound.late in
     let line = make_line seed (made_counts counts.packets counts.duplicates filled) in
-    ap (λ (t : List ℕ). ((t ++ cell_lines cells) ++ records) ++ end) (made_line_is seed counts sound filled is.counts)
+    ap (λ (t : List ℕ). ((t ++ count_lines cells) ++ records) ++ end) (made_line_is seed counts sound filled is.counts)
     ∙ ap (λ (t : List ℕ). ((line ++ t) ++ records) ++ end) (cells_are filled cells is.values)
     ∙ ap (λ (t : List ℕ). ((line ++ flat_map (cells_line filled) counted_parameters) ++ records) ++ t) (sound_line_is sound filled is.counts)
 

@@ -16,6 +16,7 @@ use Rattle.archive_store.specs.Entries.{FilledArchive, filled_archive}
 use Rattle.archive_store.specs.LateFills.{late_in_archive}
 use Rattle.stream_graph.specs.Routes.{every_packet_route}
 use Rattle.command_runs.specs.Extension.{filled_at}
+use Rattle.live_asks.specs.LiveAsks.{DiskFacts}
 use Rattle.live_session.specs.Jobs.{job_setting}
 use Rattle.live_session.specs.Outcome.{IsJobsOutcome, JobsOutcome}
 use Rattle.load_command.specs.Loading.{is_unread}
@@ -45,15 +46,19 @@ abbrev pub made_contents : ℕ → List (Option (List ℕ))
 made_contents seed = map Some (dumps_of_seed seed)
 
 -- what is known of a source by the octets that are left of its dump: these, and that no read of it fails
-abbrev pub memory_state : List ℕ → SourceState
-memory_state left = record { left = Some left; faults = 0; never_fails = Unit {0} }
+abbrev pub octets_state : List ℕ → SourceState
+octets_state left = record { left = Some left; faults = 0; never_fails = Unit {0} }
 
 -- ---- what becomes of them
 
--- The jobs that load them, from link 1 on and at a moment, came to this. No ask is answered, and no read failed: octets in
--- memory are read to their end.
+-- nothing is known of a disk
+abbrev pub no_facts : DiskFacts
+no_facts = record { known = ⊥; sound = ⊥ }
+
+-- The jobs that load them, from link 1 on and at a moment, came to this. No ask is answered, and no read failed: octets
+-- in memory are read to their end.
 pub record IsMadeOutcome (seed : ℕ) (moment : ℤ) (c : JobsOutcome) : Type 0 where
-  pub came : IsJobsOutcome (λ P. Unit {0}) format_1_exponent [] (job_setting made_head every_packet_route moment []) 1
+  pub came : IsJobsOutcome no_facts made_archive (job_setting made_head every_packet_route moment []) 1
       (made_contents seed) c
   pub read : list_any is_unread c.ends ≡ false
 

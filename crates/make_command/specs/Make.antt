@@ -39,14 +39,14 @@ summary_printing_plan seed c filled =
     (May OfOutput printing (Stop (record (made_and_filled c) { text = text; report = report }) None))
 
 -- what comparing leads to: the lines, or the mismatch and no text
-abbrev pub after_comparing : ℕ → JobsOutcome → FilledArchive → Option Refusal → CommandPlan Progress ⊥
-after_comparing seed c filled None = summary_printing_plan seed c filled
-after_comparing seed c filled (Some refusal) = Stop (made_and_filled c) (Some refusal)
+abbrev pub summary_or_mismatch : ℕ → JobsOutcome → FilledArchive → Option Refusal → CommandPlan Progress ⊥
+summary_or_mismatch seed c filled None = summary_printing_plan seed c filled
+summary_or_mismatch seed c filled (Some refusal) = Stop (made_and_filled c) (Some refusal)
 
 -- compares what is stored of the intervals with what their rows give
 abbrev pub comparing_plan : ℕ → JobsOutcome → FilledArchive → CommandPlan Progress ⊥
 comparing_plan seed c filled =
-    May OfMemory (made_and_filled c) (Question (IsCompared filled) (after_comparing seed c filled))
+    May OfMemory (made_and_filled c) (Question (IsCompared filled) (summary_or_mismatch seed c filled))
 
 -- what follows where nothing was refused: the fills that the archive has got are compared, and all is printed
 abbrev pub summary_plan : {D : Type 0} → Device D → ℕ → JobsOutcome → CommandPlan Progress ⊥

@@ -14,8 +14,8 @@ use Rattle.script_answers.specs.Statements.{records_text}
 
 -- ---- the first line
 
--- what an archive has of made packets: how many there were, its rows, those that came again, its intervals, and how many
--- of these are late
+-- what an archive has of made packets: how many there were, its rows, those that came again, its intervals, and how
+-- many of these are late
 pub record MadeCounts : Type 0 where
   pub packets : ℕ
   pub rows : ℕ

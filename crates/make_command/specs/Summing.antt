@@ -52,8 +52,8 @@ made_counts_of counts sound = record {
 }
 
 -- the lines of the parameters
-abbrev pub cell_lines : CellCounts → List ℕ
-cell_lines counts =
+abbrev pub count_lines : CellCounts → List ℕ
+count_lines counts =
     codes "cells apid " ++ decimal counts.apid ++ codes "\ncells temp " ++ decimal counts.temp
     ++ codes "\ncells level " ++ decimal counts.level ++ codes "\n"
 

@@ -35,9 +35,9 @@ impl MadeSource {
 }
 
 impl Source for MadeSource {
-    ghost use Rattle.make_command.specs.Made.{memory_state};
+    ghost use Rattle.make_command.specs.Made.{octets_state};
 
-    ghost state = { memory_state };
+    ghost state = { octets_state };
 
     fn read(&mut self, into: &mut [u8]) -> Result<usize, Failed> {
         let n = into.len().min(self.octets.len() - self.at);

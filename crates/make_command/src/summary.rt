@@ -9,7 +9,7 @@ ghost use Rattle.archive_store.specs.StoreView.{filled_of};
 ghost use Rattle.line_buffer.specs.LineRoom.{HasLineRoom};
 ghost use Rattle.line_buffer.specs.Printed.{PrintsText};
 ghost use Rattle.make_command.specs.Summary.{cell_count, make_line, summary_text, whole_request};
-ghost use Rattle.make_command.specs.Summing.{AreCellCounts, IsSummaryReply, IsSummedUp, KnowsParameters, cell_lines, counts_behind, made_counts_of, summary_report};
+ghost use Rattle.make_command.specs.Summing.{AreCellCounts, IsSummaryReply, IsSummedUp, KnowsParameters, count_lines, counts_behind, made_counts_of, summary_report};
 
 use arch_disk::Disk;
 use arch_types::direction::Direction;
@@ -216,7 +216,7 @@ fn put_made(line_buffer: &mut LineBuffer, seed: u32, counts: LoadCounts, sound: 
 /// Adds the lines of the parameters.
 fn put_cells(line_buffer: &mut LineBuffer, cells: CellCounts)
     requires { HasLineRoom line_buffer.old }
-    ensures { line_buffer.new ≡ line_buffer.old ++ cell_lines cells }
+    ensures { line_buffer.new ≡ line_buffer.old ++ count_lines cells }
 {
     line_buffer.put_number(b"cells apid ", cells.apid);
     line_buffer.put_number(b"\ncells temp ", cells.temp);

@@ -1,13 +1,13 @@
 use Rattle.std.proofs.Common.{◌≡◌, ◌∙◌, ℕ, w64, to_z, of_z, length, Some, refl, sym, ap, subst, arith}
 use Rattle.std.proofs.lemmas.Int.{to_z-of_z}
 use Rattle.history_items.specs.Databases.{database_in, names_in}
-use Rattle.archive_store.specs.StoreView.{archive_of}
+use Rattle.archive_store.specs.StoreView.{archive_of, filled_of}
 use Rattle.archive_store.specs.declared.head.Head.{Head}
 use Rattle.command_words.specs.JobView.{load_words_of}
 use Rattle.retrieval.specs.FoundAsks.{AreFound, asks_found}
 use Rattle.ask_answers.proofs.CollectedTexts.{are_answers, each_answered}
 use Rattle.command_runs.specs.Report.{loaded as of_load}
-use Rattle.live_archive.specs.Answers.{WhereSound}
+use Rattle.live_asks.specs.LiveAsks.{disk_facts}
 use Rattle.live_session.specs.Jobs.{JobSetting, job_setting}
 use Rattle.live_session.specs.Outcome.{IsLoadOutcome}
 use Rattle.load_command.specs.Loading.{IsSettingOf}
@@ -33,9 +33,9 @@ print-report-requires-clause-answered g c =
     let came : IsLoadOutcome device g.S.Source.state store loaded.store all c.args.words.now.link c.args.sources.items loaded.sources.items loaded.reported loaded.counts loaded.answers =
     rw (to_z-of_z w64 c.args.moment c.ranges.moment, c.as_slice.ensures) at c.load-store.ensures.outcome in
     let none = sym came.said_is ∙ nothing_reported loaded.reported c.fill_late-filled.result c.in-None.ensures.nothing in
-    let each = each_answered (WhereSound device store) store.head store.history came.outcome.reached c.args.asks came.outcome.answers (came.possible.answered none) in
+    let each = each_answered (disk_facts device store.opened) (filled_of store) store.history came.outcome.reached c.args.asks came.outcome.answers (came.possible.answered none) in
     rw (c.as_slice-in-None.ensures, c.as_slice-in-None-2.ensures, came.answers_are)
-    (are_answers (WhereSound device store) store.head store.history came.outcome.reached c.args.asks came.outcome.answers each)
+    (are_answers (disk_facts device store.opened) (filled_of store) store.history came.outcome.reached c.args.asks came.outcome.answers each)
 
 -- the asks that were found are found behind the jobs, which added no database
 pub print-report-requires-clause-found : goal.print-report-requires-clause-found

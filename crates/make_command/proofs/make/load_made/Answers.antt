@@ -14,7 +14,7 @@ use Rattle.command_runs.specs.Report.{loaded as of_load}
 use Rattle.live_session.specs.Jobs.{JobSetting, job_setting}
 use Rattle.live_session.specs.Outcome.{IsLoadOutcome}
 use Rattle.load_command.proofs.SessionRuns.{nothing_reported}
-use Rattle.make_command.specs.Made.{made_head, memory_state}
+use Rattle.make_command.specs.Made.{made_head, octets_state}
 use Rattle.make_command.specs.Summing.{KnowsParameters}
 use Rattle.make_command.proofs.LoadRuns.{ran_refused, ran_summed}
 use Rattle.make_command.proofs.MadeLoads.{dumps_are_two, made_parameters_known, made_route}
@@ -83,7 +83,7 @@ returns-in-None g c = λ next healed told heals kept.
     ap (λ (h : Head). job_setting h packets.graph packets.moment asks) c.requires.created.1.head_is
     ∙ ap (λ (r : List RouteStatement). job_setting made_head r packets.moment asks) c.requires.route
     ∙ ap (λ (a : List FoundAsk). job_setting made_head every_packet_route packets.moment a) c.new-asks.ensures in
-    let came : IsLoadOutcome device memory_state store behind.store setting 1 packets.sources.items behind.sources.items behind.reported behind.counts behind.answers =
+    let came : IsLoadOutcome device octets_state store behind.store setting 1 packets.sources.items behind.sources.items behind.reported behind.counts behind.answers =
     rw (to_z-of_z w64 packets.moment fits, c.as_slice.ensures) at c.load-store.ensures.outcome in
     let mid = c.fill_late-filled.new.store in
     let fill = c.fill_late-filled.ensures in
@@ -107,7 +107,7 @@ returns-in-Some g c = λ next healed told heals kept.
     ap (λ (h : Head). job_setting h packets.graph packets.moment asks) c.requires.created.1.head_is
     ∙ ap (λ (r : List RouteStatement). job_setting made_head r packets.moment asks) c.requires.route
     ∙ ap (λ (a : List FoundAsk). job_setting made_head every_packet_route packets.moment a) c.new-asks.ensures in
-    let came : IsLoadOutcome device memory_state store behind.store setting 1 packets.sources.items behind.sources.items behind.reported behind.counts behind.answers =
+    let came : IsLoadOutcome device octets_state store behind.store setting 1 packets.sources.items behind.sources.items behind.reported behind.counts behind.answers =
     rw (to_z-of_z w64 packets.moment fits, c.as_slice.ensures) at c.load-store.ensures.outcome in
     let mid = c.fill_late-filled.new.store in
     let fill = c.fill_late-filled.ensures in

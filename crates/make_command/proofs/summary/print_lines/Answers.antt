@@ -7,7 +7,7 @@ use Rattle.archive_store.specs.StoreView.{archive_of, filled_of}
 use Rattle.script_answers.specs.Statements.{records_text}
 use Rattle.script_answers.proofs.Unprinted.{unprinted}
 use Rattle.make_command.specs.Summary.{summary_text}
-use Rattle.make_command.specs.Summing.{cell_lines}
+use Rattle.make_command.specs.Summing.{count_lines}
 use Rattle.make_command.proofs.SummaryTexts.{first_table, front_text, printed_then_failed, summary_is}
 use Rattle.make_command.proofs.summary.print_lines.Goals as goal
 
@@ -29,7 +29,7 @@ returns-in_err-flush_if_full g c =
     let front = front_text s.seed s.counts s.sound s.cells in
     let records = records_text (archive_of c.args.store.now) 0 in
     let end = sound_line s.sound.rows s.sound.intervals s.sound.late in
-    let held : c.put_cells.new.line_buffer ≡ front = c.put_cells.ensures ∙ ap (λ (l : List ℕ). l ++ cell_lines s.cells) c.put_made.ensures.made in
+    let held : c.put_cells.new.line_buffer ≡ front = c.put_cells.ensures ∙ ap (λ (l : List ℕ). l ++ count_lines s.cells) c.put_made.ensures.made in
     let cut : IsCutOff first now front = subst (λ (l : List ℕ). IsCutOff first now l) held c.in_err-flush_if_full.ensures in
     let p = err_from_is_err_and c.from_residual.result c.from_residual.ensures.1 in
     rw (p.1, p.2)
@@ -47,7 +47,7 @@ returns-in_err-print_records g c =
     let front = front_text s.seed s.counts s.sound s.cells in
     let records = records_text (archive_of c.args.store.now) 0 in
     let end = sound_line s.sound.rows s.sound.intervals s.sound.late in
-    let held : c.put_cells.new.line_buffer ≡ front = c.put_cells.ensures ∙ ap (λ (l : List ℕ). l ++ cell_lines s.cells) c.put_made.ensures.made in
+    let held : c.put_cells.new.line_buffer ≡ front = c.put_cells.ensures ∙ ap (λ (l : List ℕ). l ++ count_lines s.cells) c.put_made.ensures.made in
     let printed : IsPrinted first now front c.flush_if_full.new.self = subst (λ (l : List ℕ). IsPrinted first now l c.flush_if_full.new.self) held c.in_ok-flush_if_full.ensures in
     let p = err_from_is_err_and c.from_residual-in_err-print_records.result c.from_residual-in_err-print_records.ensures.1 in
     let failed = printed_then_failed p.0 first now new front records c.flush_if_full.new.self left printed (rw p.2 c.in_err-print_records.ensures) in
@@ -66,7 +66,7 @@ returns-in_err-flush_if_full-2 g c =
     let front = front_text s.seed s.counts s.sound s.cells in
     let records = records_text (archive_of c.args.store.now) 0 in
     let end = sound_line s.sound.rows s.sound.intervals s.sound.late in
-    let held : c.put_cells.new.line_buffer ≡ front = c.put_cells.ensures ∙ ap (λ (l : List ℕ). l ++ cell_lines s.cells) c.put_made.ensures.made in
+    let held : c.put_cells.new.line_buffer ≡ front = c.put_cells.ensures ∙ ap (λ (l : List ℕ). l ++ count_lines s.cells) c.put_made.ensures.made in
     let printed : IsPrinted first now front c.flush_if_full.new.self = subst (λ (l : List ℕ). IsPrinted first now l c.flush_if_full.new.self) held c.in_ok-flush_if_full.ensures in
     let both = printed_on first now mid front records c.flush_if_full.new.self left printed c.in_ok-print_records.ensures in
     let cut : IsCutOff mid new (left ++ end) = subst (λ (l : List ℕ). IsCutOff mid new l) c.put_sound.ensures c.in_err-flush_if_full-2.ensures in
@@ -86,7 +86,7 @@ returns g c =
     let front = front_text s.seed s.counts s.sound s.cells in
     let records = records_text (archive_of c.args.store.now) 0 in
     let end = sound_line s.sound.rows s.sound.intervals s.sound.late in
-    let held : c.put_cells.new.line_buffer ≡ front = c.put_cells.ensures ∙ ap (λ (l : List ℕ). l ++ cell_lines s.cells) c.put_made.ensures.made in
+    let held : c.put_cells.new.line_buffer ≡ front = c.put_cells.ensures ∙ ap (λ (l : List ℕ). l ++ count_lines s.cells) c.put_made.ensures.made in
     let printed : IsPrinted first now front c.flush_if_full.new.self = subst (λ (l : List ℕ). IsPrinted first now l c.flush_if_full.new.self) held c.in_ok-flush_if_full.ensures in
     let both = printed_on first now mid front records c.flush_if_full.new.self left printed c.in_ok-print_records.ensures in
     let ended : IsPrinted mid new (left ++ end) last = subst (λ (l : List ℕ). IsPrinted mid new l last) c.put_sound.ensures c.in_ok-flush_if_full-2.ensures in
