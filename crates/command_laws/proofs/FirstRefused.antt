@@ -11,6 +11,7 @@ use Rattle.refusals.specs.Limits.{limit_of}
 use Rattle.outer_traits.specs.Outside.{Files}
 use Rattle.history_items.specs.declared.fills.Addition.{Addition}
 use Rattle.archive_store.specs.Entries.{FilledArchive}
+use Rattle.live_asks.specs.LiveAsks.{DiskFacts}
 use Rattle.load_jobs.specs.Ends.{is_of_dump, refusal_of_end}
 use Rattle.load_jobs.specs.declared.ending.LinkEnd.{LinkEnd}
 use Rattle.load_jobs.specs.declared.ending.LinkEnd.TheVariants.{Whole, Rest, Unread, TooLong, Refused}
@@ -71,9 +72,9 @@ others_cause failed (None ∷ others) all t is = others_cause failed others all.
 others_cause failed (Some refusal ∷ others) all t is =
     let same : reported refusal None ≡ t = cc (is) in subst (λ (x : ReportedRefusal). IsFillerCause failed (Some x.refusal)) same all.0
 
-module _ (files : Files) (clock : Option ℤ) (words : LoadWords) (before : FilledArchive) (Where : Type 0 → Type 0) (asks : List Ask) (c : JobsOutcome) (came : CameToJobs files clock words before Where asks c) where
+module _ (files : Files) (clock : Option ℤ) (words : LoadWords) (before : FilledArchive) (facts : DiskFacts) (asks : List Ask) (c : JobsOutcome) (came : CameToJobs files clock words before facts asks c) where
   abbrev Came : ℕ → Type 0
-  Came link = CameWhole files (moment files clock words before Where asks c came) words before c.reached link
+  Came link = CameWhole files (moment files clock words before facts asks c came) words before c.reached link
 
   -- the links before this one came whole
   abbrev pub Earlier : ℕ → Type 0
@@ -86,7 +87,7 @@ module _ (files : Files) (clock : Option ℤ) (words : LoadWords) (before : Fill
     pub comes : ComesBy words link name
     pub earlier : Earlier link
     pub end : LinkEnd
-    pub loads : Loads files clock words before Where asks c came link name end
+    pub loads : Loads files clock words before facts asks c came link name end
     pub refusal : refusal_of_end end ≡ Some t.refusal
     pub named : is_of_dump end ≡ true → t.link ≡ Some link
     pub unread : is_unread end ≡ true → list_any is_unread c.ends ≡ true
@@ -107,7 +108,7 @@ module _ (files : Files) (clock : Option ℤ) (words : LoadWords) (before : Fill
     Unreads ends = list_any is_unread ends ≡ true → list_any is_unread c.ends ≡ true
 
     -- the link that was refused
-    stops : (link : ℕ) (name : List ℕ) → ComesBy words link name → Earlier link → (end : LinkEnd) (ends : List LinkEnd) → Loads files clock words before Where asks c came link name end → Unreads (end ∷ ends)
+    stops : (link : ℕ) (name : List ℕ) → ComesBy words link name → Earlier link → (end : LinkEnd) (ends : List LinkEnd) → Loads files clock words before facts asks c came link name end → Unreads (end ∷ ends)
         → (refusal : Refusal) → refusal_of_end end ≡ Some refusal → ◌≡◌ {A = Option ReportedRefusal} (Some (reported refusal (if is_of_dump end then Some link else None))) (Some t) → IsFirstRefused t
     stops link name comes earlier end ends loads unreads refusal is said =
         let same : reported refusal (if is_of_dump end then Some link else None) ≡ t = cc (said) in record {
@@ -122,40 +123,40 @@ module _ (files : Files) (clock : Option ℤ) (words : LoadWords) (before : Fill
           unread = λ failed. unreads (ap (λ (b : Bool). b || list_any is_unread ends) failed);
         }
 
-    reported_from : (link : ℕ) (names : List (List ℕ)) (ends : List LinkEnd) → AreNamesFrom files clock words before Where asks c came link names → AreLoaded files clock words before Where asks c came link names ends → Earlier link → Unreads ends
+    reported_from : (link : ℕ) (names : List (List ℕ)) (ends : List LinkEnd) → AreNamesFrom files clock words before facts asks c came link names → AreLoaded files clock words before facts asks c came link names ends → Earlier link → Unreads ends
         → reported_of link ends c.others ≡ Some t → IsFirstRefused t ⊎ IsOtherRefused t
     reported_from link [] [] are loaded earlier unreads is =
         let last = are.last in inr (record { all = λ other low high. earlier other low (omega (arith, high, last)); cause = others_cause c.failed c.others (all_causes c.failed (min 4 (length came.g.asks)) c.others came.outcome.readers came.outcome.fillers) t is })
     reported_from link [] (end ∷ ends) are loaded earlier unreads is = absurd loaded
     reported_from link (name ∷ names) [] are loaded earlier unreads is = absurd loaded
     reported_from link (name ∷ names) (Whole summary ∷ ends) are loaded earlier unreads is =
-        let comes = first_name files clock words before Where asks c came link name names are in
-        reported_from (suc link) names ends (later_names files clock words before Where asks c came link name names are) loaded.1
-        (later link earlier (came_whole files clock words before Where asks c came link name comes summary loaded.0)) unreads is
+        let comes = first_name files clock words before facts asks c came link name names are in
+        reported_from (suc link) names ends (later_names files clock words before facts asks c came link name names are) loaded.1
+        (later link earlier (came_whole files clock words before facts asks c came link name comes summary loaded.0)) unreads is
     reported_from link (name ∷ names) (Rest place kind ∷ ends) are loaded earlier unreads is =
-        inl (stops link name (first_name files clock words before Where asks c came link name names are) earlier (Rest place kind) ends loaded.0 unreads (BadPacket place kind) refl is)
+        inl (stops link name (first_name files clock words before facts asks c came link name names are) earlier (Rest place kind) ends loaded.0 unreads (BadPacket place kind) refl is)
     reported_from link (name ∷ names) (Unread None ∷ ends) are loaded earlier unreads is =
-        inl (stops link name (first_name files clock words before Where asks c came link name names are) earlier (Unread None) ends loaded.0 unreads ReadFault refl is)
+        inl (stops link name (first_name files clock words before facts asks c came link name names are) earlier (Unread None) ends loaded.0 unreads ReadFault refl is)
     reported_from link (name ∷ names) (Unread (Some refusal) ∷ ends) are loaded earlier unreads is =
-        inl (stops link name (first_name files clock words before Where asks c came link name names are) earlier (Unread (Some refusal)) ends loaded.0 unreads refusal refl is)
+        inl (stops link name (first_name files clock words before facts asks c came link name names are) earlier (Unread (Some refusal)) ends loaded.0 unreads refusal refl is)
     reported_from link (name ∷ names) (TooLong ∷ ends) are loaded earlier unreads is =
-        inl (stops link name (first_name files clock words before Where asks c came link name names are) earlier TooLong ends loaded.0 unreads (Limit DumpOctets (limit_of DumpOctets)) refl is)
+        inl (stops link name (first_name files clock words before facts asks c came link name names are) earlier TooLong ends loaded.0 unreads (Limit DumpOctets (limit_of DumpOctets)) refl is)
     reported_from link (name ∷ names) (Refused refusal ∷ ends) are loaded earlier unreads is =
-        inl (stops link name (first_name files clock words before Where asks c came link name names are) earlier (Refused refusal) ends loaded.0 unreads refusal refl is)
+        inl (stops link name (first_name files clock words before facts asks c came link name names are) earlier (Refused refusal) ends loaded.0 unreads refusal refl is)
 
     pub first_reported : reported_of words.link c.ends c.others ≡ Some t → IsFirstRefused t ⊎ IsOtherRefused t
-    first_reported is = reported_from words.link words.dumps c.ends (all_names files clock words before Where asks c came) came.outcome.links (λ other low high. absurd (omega (arith, low, high))) (λ some. some) is
+    first_reported is = reported_from words.link words.dumps c.ends (all_names files clock words before facts asks c came) came.outcome.links (λ other low high. absurd (omega (arith, low, high))) (λ some. some) is
 
   -- where nothing is reported, all links came whole
-  none_from : (link : ℕ) (names : List (List ℕ)) (ends : List LinkEnd) → AreNamesFrom files clock words before Where asks c came link names → AreLoaded files clock words before Where asks c came link names ends → Earlier link
+  none_from : (link : ℕ) (names : List (List ℕ)) (ends : List LinkEnd) → AreNamesFrom files clock words before facts asks c came link names → AreLoaded files clock words before facts asks c came link names ends → Earlier link
       → reported_of link ends c.others ≡ None → Earlier (words.link + length words.dumps)
   none_from link [] [] are loaded earlier is = let last = are.last in λ other low high. earlier other low (omega (arith, high, last))
   none_from link [] (end ∷ ends) are loaded earlier is = absurd loaded
   none_from link (name ∷ names) [] are loaded earlier is = absurd loaded
   none_from link (name ∷ names) (Whole summary ∷ ends) are loaded earlier is =
-      let comes = first_name files clock words before Where asks c came link name names are in
-      none_from (suc link) names ends (later_names files clock words before Where asks c came link name names are) loaded.1
-      (later link earlier (came_whole files clock words before Where asks c came link name comes summary loaded.0)) is
+      let comes = first_name files clock words before facts asks c came link name names are in
+      none_from (suc link) names ends (later_names files clock words before facts asks c came link name names are) loaded.1
+      (later link earlier (came_whole files clock words before facts asks c came link name comes summary loaded.0)) is
   none_from link (name ∷ names) (Rest place kind ∷ ends) are loaded earlier is = absurd (cc (is))
   none_from link (name ∷ names) (Unread None ∷ ends) are loaded earlier is = absurd (cc (is))
   none_from link (name ∷ names) (Unread (Some refusal) ∷ ends) are loaded earlier is = absurd (cc (is))
@@ -163,4 +164,4 @@ module _ (files : Files) (clock : Option ℤ) (words : LoadWords) (before : Fill
   none_from link (name ∷ names) (Refused refusal ∷ ends) are loaded earlier is = absurd (cc (is))
 
   pub none_reported : reported_of words.link c.ends c.others ≡ None → Earlier (words.link + length words.dumps)
-  none_reported is = none_from words.link words.dumps c.ends (all_names files clock words before Where asks c came) came.outcome.links (λ other low high. absurd (omega (arith, low, high))) is
+  none_reported is = none_from words.link words.dumps c.ends (all_names files clock words before facts asks c came) came.outcome.links (λ other low high. absurd (omega (arith, low, high))) is

@@ -15,6 +15,7 @@ use Rattle.history_items.specs.declared.items.Item.{Item}
 use Rattle.history_items.specs.Items.{items_of}
 use Rattle.archive_store.specs.Entries.{FilledArchive}
 use Rattle.archive_store.specs.Stands.{StandsFor}
+use Rattle.live_asks.specs.LiveAsks.{DiskFacts}
 use Rattle.load_session.specs.During.{with_history}
 use Rattle.live_session.specs.declared.reported.ReportedRefusal.{ReportedRefusal}
 use Rattle.live_session.specs.Outcome.{JobsOutcome}
@@ -34,16 +35,16 @@ use Rattle.command_laws.proofs.JobsLoaded.{CameToJobs, grown, in_hand, moment}
 use Rattle.command_laws.proofs.OnTheWay.{IsDiskLoaded, extended_disk, failed_disk, unfilled_disk}
 use Rattle.command_laws.proofs.Reported.{IsReportedEnd}
 
-module _ (files : Files) (clock : Option ℤ) (words : LoadWords) (before : FilledArchive) (Where : Type 0 → Type 0) (asks : List Ask) (c : JobsOutcome) (came : CameToJobs files clock words before Where asks c)
+module _ (files : Files) (clock : Option ℤ) (words : LoadWords) (before : FilledArchive) (facts : DiskFacts) (asks : List Ask) (c : JobsOutcome) (came : CameToJobs files clock words before facts asks c)
     {D : Type 0} (device : Device D) (e : Call D) (known : IsTrue device.is_transparent) where
   abbrev now : ℤ
-  now = moment files clock words before Where asks c came
+  now = moment files clock words before facts asks c came
 
   abbrev IsLoadedDisk : Type 0
   IsLoadedDisk = IsDiskLoaded files now words before c.reached device e
 
   has_grown : IsGrown files now words before c.reached
-  has_grown = grown files clock words before Where asks c came
+  has_grown = grown files clock words before facts asks c came
 
   -- the disk that is handed back stands for what was reached
   abbrev Exact : Type 0
@@ -59,20 +60,20 @@ module _ (files : Files) (clock : Option ℤ) (words : LoadWords) (before : Fill
       let two = length-append before.plain.history (items_of has_grown.more) in omega (arith, all, two)
 
   -- a log that is near its limit has passed it with the rows that came
-  pub near_passed : (more : ℕ) → more + length before.plain.history ≤ length c.reached → IsLogNear device e.disk e.disk' (Some more) → AreRecordsPassed device e before c.reached
-  near_passed more few near once =
-      let log = near once known in
+  pub near_passed : (more : ℕ) → more + length before.plain.history ≤ length c.reached → IsLogNear device e.disk' (Some more) → AreRecordsPassed device e before c.reached
+  near_passed more few near =
+      let log = near known in
       let most = log.2 in (log.0, log.1, omega (arith, most, few))
 
   pub kept_stands : IsExtended device e.disk e.disk' before c.reached → Exact
   kept_stands x = plain_stands (device.reads e.disk') (filled_at before c.reached x.kept.fillings) x.kept.durable.reads
 
   module _ (dumps : ℕ) (t : ReportedRefusal) where
-    by_log : IsLogNear device e.disk e.disk' (log_behind t.refusal (length c.reached - length before.plain.history)) → (number : ℕ) → t.refusal ≡ Limit Records number → AreRecordsPassed device e before c.reached
+    by_log : IsLogNear device e.disk' (log_behind t.refusal (length c.reached - length before.plain.history)) → (number : ℕ) → t.refusal ≡ Limit Records number → AreRecordsPassed device e before c.reached
     by_log log number is =
         let more = length c.reached - length before.plain.history in
         let fewer = no_fewer in
-        near_passed more (omega (arith, fewer)) (subst (λ (r : Refusal). IsLogNear device e.disk e.disk' (log_behind r more)) is log)
+        near_passed more (omega (arith, fewer)) (subst (λ (r : Refusal). IsLogNear device e.disk' (log_behind r more)) is log)
 
     -- ---- no write failed
 
@@ -84,7 +85,7 @@ module _ (files : Files) (clock : Option ℤ) (words : LoadWords) (before : Fill
       unfailed some = let never = subst IsSome none some in absurd (cc (never))
 
       reported_end : (s : Progress) → EndedAt device (effects e) s (Some t.refusal) s.failed → IsLoadedDisk → s.report.opened ≡ true → s.report.after ≡ length c.reached → s.report.link ≡ t.link → Exact
-          → ((number : ℕ) → t.refusal ≡ Limit Records number → AreRecordsPassed device e before c.reached) → IsReportedEnd files clock words before Where asks c came device e t
+          → ((number : ℕ) → t.refusal ≡ Limit Records number → AreRecordsPassed device e before c.reached) → IsReportedEnd files clock words before facts asks c came device e t
       reported_end s did disk opened after link exact recorded = record {
         refusal = ap (λ (r : Report). r.refusal) did.report;
         opened = ap (λ (r : Report). r.opened) did.report ∙ opened;
@@ -97,7 +98,7 @@ module _ (files : Files) (clock : Option ℤ) (words : LoadWords) (before : Fill
       }
 
       -- whatever the filling came to
-      pub filled_end : (end : Option Refusal) → EndedAt device (effects e) (behind end) (Some t.refusal) (behind end).failed → IsLoadedDisk × IsReportedEnd files clock words before Where asks c came device e t
+      pub filled_end : (end : Option Refusal) → EndedAt device (effects e) (behind end) (Some t.refusal) (behind end).failed → IsLoadedDisk × IsReportedEnd files clock words before facts asks c came device e t
       filled_end None did =
           let disk = extended_disk files now words before c.reached device e (did.disk.1 known).extended in
           (disk, reported_end (behind None) did disk refl refl refl (kept_stands (did.disk.1 known).extended) (by_log did.log))
@@ -114,7 +115,7 @@ module _ (files : Files) (clock : Option ℤ) (words : LoadWords) (before : Fill
     halted addition = write_failed dumps before c t addition
 
     fault_end : (addition : Addition) → EndedAt device (effects e) (halted addition) (Some t.refusal) (halted addition).failed → IsLoadedDisk → raised (device.fault_count e.disk) ≤ device.fault_count e.disk'
-        → (((rows : List Row) → c.failed ≡ Some (Rows rows) → ⊥) → Exact) → IsReportedEnd files clock words before Where asks c came device e t
+        → (((rows : List Row) → c.failed ≡ Some (Rows rows) → ⊥) → Exact) → IsReportedEnd files clock words before facts asks c came device e t
     fault_end addition did disk rose exact = record {
       refusal = ap (λ (r : Report). r.refusal) did.report;
       opened = ap (λ (r : Report). r.opened) did.report;
@@ -128,9 +129,9 @@ module _ (files : Files) (clock : Option ℤ) (words : LoadWords) (before : Fill
 
     -- it is taken back last
     pub written_end : (addition : Addition) → c.failed ≡ Some addition → EndedAt device (effects e) (halted addition) (Some t.refusal) (halted addition).failed
-        → IsLoadedDisk × IsReportedEnd files clock words before Where asks c came device e t
+        → IsLoadedDisk × IsReportedEnd files clock words before facts asks c came device e t
     written_end (Rows rows) is did =
-        let disk = failed_disk files now words before c.reached device e rows (in_hand files clock words before Where asks c came rows is) (did.disk.1 known) in
+        let disk = failed_disk files now words before c.reached device e rows (in_hand files clock words before facts asks c came rows is) (did.disk.1 known) in
         (disk, fault_end (Rows rows) did disk did.disk.0.faults (λ none. absurd (none rows is)))
     written_end other is did =
         let disk = unfilled_disk files now words before c.reached device e (did.disk.1 known) in

@@ -25,6 +25,7 @@ use Rattle.history_items.proofs.ItemLists.{rows_of_rows}
 use Rattle.archive_store.specs.declared.head.Head.{Head}
 use Rattle.archive_store.specs.Entries.{FilledArchive}
 use Rattle.stream_graph.specs.declared.statement.RouteStatement.{RouteStatement}
+use Rattle.live_asks.specs.LiveAsks.{DiskFacts}
 use Rattle.load_session.specs.declared.session.DumpSummary.{DumpSummary}
 use Rattle.load_session.specs.Batches.{batch_at}
 use Rattle.load_session.specs.Receiving.{Receiving, arrived, receiving, rows_received}
@@ -133,7 +134,7 @@ each_link words n (row ∷ rows) many all =
 -- ---- a load that ran its jobs
 
 -- Jobs of a load were run over an archive, by the route of a text and these asks, at a moment of the clock, and came to this.
-pub record CameToJobs (files : Files) (clock : Option ℤ) (words : LoadWords) (before : FilledArchive) (Where : Type 0 → Type 0) (asks : List Ask) (c : JobsOutcome) : Type 0 where
+pub record CameToJobs (files : Files) (clock : Option ℤ) (words : LoadWords) (before : FilledArchive) (facts : DiskFacts) (asks : List Ask) (c : JobsOutcome) : Type 0 where
   pub text : Option (List ℕ)
   pub named : HasRouteText files words.route text
   pub route : List RouteStatement
@@ -142,9 +143,9 @@ pub record CameToJobs (files : Files) (clock : Option ℤ) (words : LoadWords) (
   pub there : AreThere files words.dumps
   pub g : JobSetting
   pub given : IsSettingOf before.plain clock route asks g
-  pub outcome : IsJobsOutcome Where before.plain.exponent before.plain.history g words.link (dumps_of (Some files) words.dumps) c
+  pub outcome : IsJobsOutcome facts before g words.link (dumps_of (Some files) words.dumps) c
 
-module _ (files : Files) (clock : Option ℤ) (words : LoadWords) (before : FilledArchive) (Where : Type 0 → Type 0) (asks : List Ask) (c : JobsOutcome) (came : CameToJobs files clock words before Where asks c) where
+module _ (files : Files) (clock : Option ℤ) (words : LoadWords) (before : FilledArchive) (facts : DiskFacts) (asks : List Ask) (c : JobsOutcome) (came : CameToJobs files clock words before facts asks c) where
   abbrev pub low : List Item
   low = before.plain.history
 

@@ -22,6 +22,7 @@ use Rattle.space_packet.specs.declared.dump.Why.TheVariants as why
 use Rattle.space_packet.specs.Rest.{why_of}
 use Rattle.archive_store.specs.Entries.{FilledArchive}
 use Rattle.history_items.specs.declared.items.Item.{Item}
+use Rattle.live_asks.specs.LiveAsks.{DiskFacts, disk_facts}
 use Rattle.live_session.specs.Outcome.{JobsOutcome}
 use Rattle.command_plans.specs.Plan.{Requires, Way}
 use Rattle.command_words.specs.Job.{Load, LoadWords}
@@ -29,7 +30,7 @@ use Rattle.command_words.specs.LoadLimits.{load_limit_refusal}
 use Rattle.command_runs.specs.DumpRest.{IsBadRest, bad_kind_of}
 use Rattle.command_runs.proofs.DumpRest.{bad_ending}
 use Rattle.command_runs.specs.Command.{Progress, nothing_done}
-use Rattle.load_command.specs.Load.{WhereSoundOn, after_limits, load_plan, read_load_plan}
+use Rattle.load_command.specs.Load.{after_limits, load_plan, read_load_plan}
 use Rattle.command_laws.specs.Calls.{Call, IsNoArchive, IsRefusedBy, IsRun, Prints, Succeeded, WasInterrupted}
 use Rattle.command_laws.specs.Links.{AreThere, AreWholeBefore, CameWhole, ComesBy, HasDump, HasRead, IsLongDump, IsWholeDump}
 use Rattle.command_laws.specs.Load.{IsAsked, IsBroken, IsLoadedOrNot, IsOverlong, WasHindered, WasOverLimit, WasPending}
@@ -152,12 +153,12 @@ all_there files words whole = from_names files words.dumps (λ place name is.
     let dump = whole (words.link + place) name (record { place = place; number = refl; name_is = is }) in subst IsSome (sym dump.1.file.there) refl)
 
 module _ {D : Type 0} (device : Device D) (e : Call D) (files : Files) (clock : Option ℤ) (words : LoadWords) where
-  abbrev Where : Type 0 → Type 0
-  Where = WhereSoundOn device e.disk
+  abbrev facts : DiskFacts
+  facts = disk_facts device e.disk
 
   -- ---- what the jobs came to
 
-  module _ (before : FilledArchive) (ready : IsAsked device e files words before) (c : JobsOutcome) (came : CameToJobs files clock words before Where ready.asks c) where
+  module _ (before : FilledArchive) (ready : IsAsked device e files words before) (c : JobsOutcome) (came : CameToJobs files clock words before facts ready.asks c) where
     -- the dump of a link that came whole is whole
     came_dump : (moment : ℤ) (reached : List Item) (link : ℕ) (name : List ℕ) → CameWhole files moment words before reached link → ComesBy words link name → IsWholeDump files name
     came_dump moment reached link name whole comes =
@@ -193,7 +194,7 @@ module _ {D : Type 0} (device : Device D) (e : Call D) (files : Files) (clock : 
     -- ---- the dump of a link isn't, and those before it are
 
     module _ (link : ℕ) (name : List ℕ) (comes : ComesBy words link name) (whole : AreWholeBefore files words link) where
-      reported_all : Earlier files clock words before Where ready.asks c came (words.link + length words.dumps) → IsWholeDump files name
+      reported_all : Earlier files clock words before facts ready.asks c came (words.link + length words.dumps) → IsWholeDump files name
       reported_all all = let number = comes_of words link name comes in came_dump _ c.reached link name (all link number.0 number.1) comes
 
       comes_to : (other : ℕ) → other ≡ link → ComesBy words other name
@@ -236,7 +237,7 @@ module _ {D : Type 0} (device : Device D) (e : Call D) (files : Files) (clock : 
           absurd (has_not_long files name is.received.has.read file long)
 
       overlong_so : IsLongDump files name → AreReportedSo device e files clock words before ready.asks c came → OverlongDue
-      overlong_so long (inl none) = absurd (whole_not_long files name (reported_all (none_reported files clock words before Where ready.asks c came none.0)) long)
+      overlong_so long (inl none) = absurd (whole_not_long files name (reported_all (none_reported files clock words before facts ready.asks c came none.0)) long)
       overlong_so long (inr (t, said, cause, cut)) = elim cause [
         | inl broken ↦
             let bad = broken.3 in
@@ -268,7 +269,7 @@ module _ {D : Type 0} (device : Device D) (e : Call D) (files : Files) (clock : 
             (subst (λ (k : BadKind). IsBroken device e files clock words before other place k) ending.1 (subst (λ (n : ℕ). IsBroken device e files clock words before other n how) ending.0 is))
 
         broken_so : AreReportedSo device e files clock words before ready.asks c came → IsBroken device e files clock words before link place kind ⊎ Hindered
-        broken_so (inl none) = absurd (not_whole (reported_all (none_reported files clock words before Where ready.asks c came none.0)))
+        broken_so (inl none) = absurd (not_whole (reported_all (none_reported files clock words before facts ready.asks c came none.0)))
         broken_so (inr (t, said, cause, cut)) = elim cause [
           | inl broken ↦ inl (broken_same broken.0 broken.1 broken.2 broken.3)
           | inr others ↦ elim others [
@@ -308,7 +309,7 @@ module _ {D : Type 0} (device : Device D) (e : Call D) (files : Files) (clock : 
 
   -- by what the jobs came to
   by_session : (P : Type 0) (before : FilledArchive) (ready : IsAsked device e files words before) (there : AreThere files words.dumps) → (WasInterrupted device e → P)
-      → ((c : JobsOutcome) (came : CameToJobs files clock words before (WhereSoundOn device e.disk) ready.asks c) → AreReportedSo device e files clock words before ready.asks c came → P) → P
+      → ((c : JobsOutcome) (came : CameToJobs files clock words before (disk_facts device e.disk) ready.asks c) → AreReportedSo device e files clock words before ready.asks c came → P) → P
   by_session P before ready there cut go = due_read P ready.begun.within cut (λ way at required. elim (session_due device e files clock words way at before ready there run.transparent required) [
     | inl went ↦ go went.0 went.1.0 went.1.1
     | inr off ↦ cut off

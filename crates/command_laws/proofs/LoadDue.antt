@@ -15,6 +15,7 @@ use Rattle.history_items.specs.declared.fills.Addition.{Addition}
 use Rattle.archive_store.specs.Entries.{FilledArchive}
 use Rattle.archive_store.specs.Stands.{StandsFilled}
 use Rattle.stream_graph.specs.declared.statement.RouteStatement.{RouteStatement}
+use Rattle.live_asks.specs.LiveAsks.{DiskFacts, disk_facts}
 use Rattle.live_session.specs.declared.reported.ReportedRefusal.{ReportedRefusal}
 use Rattle.live_session.specs.Outcome.{JobsOutcome, reported_of}
 use Rattle.command_plans.specs.Ledger.{Counted}
@@ -26,7 +27,7 @@ use Rattle.command_runs.specs.ArchiveWork.{opened_plan}
 use Rattle.command_runs.specs.Command.{ArchiveFound, DiskOutcome, EndedAt, HasEffects, NotAsked, Progress, SeekingFailed, failed_at, nothing_done, seeking_failed}
 use Rattle.command_runs.specs.FillingPlan.{after_filling, fill_failed, filled_to}
 use Rattle.ask_answers.specs.Asks.{asked_plan, with_sources}
-use Rattle.load_command.specs.Load.{WhereSoundOn, after_jobs, after_links, after_route, answering_asks_plan, archive_load_plan, history_extended, job_refused, jobs_plan, load_printing_plan, loading_plan, read_load_plan, routed_load_plan, routed_plan, write_failed}
+use Rattle.load_command.specs.Load.{after_jobs, after_links, after_route, answering_asks_plan, archive_load_plan, history_extended, job_refused, jobs_plan, load_printing_plan, loading_plan, read_load_plan, routed_load_plan, routed_plan, write_failed}
 use Rattle.load_command.specs.Loading.{IsRouteAnswer, is_unread}
 use Rattle.command_laws.specs.Answers.{sheet_refusal}
 use Rattle.command_laws.specs.Calls.{Call, IsInterruption, IsNoArchive, IsRefusedBy, Succeeded, WasInterrupted, effects}
@@ -50,15 +51,15 @@ pub record KeepsDone {D : Type 0} (device : Device D) (e : Call D) (f : Progress
 
 -- What jobs came to: nothing is reported of them, and the load succeeded, or was hindered; or something is, and why.
 abbrev pub AreReportedSo : {D : Type 0} (device : Device D) (e : Call D) (files : Files) (clock : Option ℤ) (words : LoadWords) (before : FilledArchive) (asks : List Ask) (c : JobsOutcome)
-    → CameToJobs files clock words before (WhereSoundOn device e.disk) asks c → Type 0
+    → CameToJobs files clock words before (disk_facts device e.disk) asks c → Type 0
 AreReportedSo device e files clock words before asks c came =
     ((reported_of words.link c.ends c.others ≡ None) × (Succeeded e ⊎ WasHindered device e files clock words before))
-    ⊎ ((t : ReportedRefusal) × (e.report.refusal ≡ Some t.refusal) × IsReportedCause files clock words before (WhereSoundOn device e.disk) asks c came device e t
-    × (IsCut files clock words before (WhereSoundOn device e.disk) asks c came device e t.refusal → WasInterrupted device e))
+    ⊎ ((t : ReportedRefusal) × (e.report.refusal ≡ Some t.refusal) × IsReportedCause files clock words before (disk_facts device e.disk) asks c came device e t
+    × (IsCut files clock words before (disk_facts device e.disk) asks c came device e t.refusal → WasInterrupted device e))
 
 module _ {D : Type 0} (device : Device D) (e : Call D) (files : Files) (clock : Option ℤ) (words : LoadWords) (way : Way Progress ⊥) (at : IsEndOf device e way) where
-  abbrev Where : Type 0 → Type 0
-  Where = WhereSoundOn device e.disk
+  abbrev facts : DiskFacts
+  facts = disk_facts device e.disk
 
   abbrev dumps : ℕ
   dumps = length words.dumps
@@ -141,7 +142,7 @@ module _ {D : Type 0} (device : Device D) (e : Call D) (files : Files) (clock : 
 
   module _ (text : Option (List ℕ)) (sheet : Result (List Ask) Refusal) (begun : IsBegun files words text sheet) where
     abbrev opening : CommandPlan Progress ⊥
-    opening = opened_plan dumps device e.disk (λ records. loading_plan Where (Some files) clock words text sheet)
+    opening = opened_plan dumps device e.disk (λ records. loading_plan facts (Some files) clock words text sheet)
 
     -- a dump that isn't there is missing
     pub lacking_due : (refusal : Refusal) → IsFirstMissing files words.dumps refusal → Reads → IsRefusedBy device e refusal
@@ -171,10 +172,10 @@ module _ {D : Type 0} (device : Device D) (e : Call D) (files : Files) (clock : 
       where
         go : (f : Progress → Progress) → KeepsDone device e f → Requires (map_done f opening) way → IsRefusedBy device e refusal
         go f keeps (inl cut) = inr (no_memory e way at _ cut)
-        go f keeps (inr d) = no_archive_due e way at f keeps.disk dumps (loading_plan Where (Some files) clock words text sheet) refusal is d
+        go f keeps (inr d) = no_archive_due e way at f keeps.disk dumps (loading_plan facts (Some files) clock words text sheet) refusal is d
 
     -- one that is
-    to_archive : (before : FilledArchive) → StandsFilled (device.reads e.disk) before → AreThere files words.dumps → Reads → IsDueSo (loading_plan Where (Some files) clock words text sheet before) ⊎ WasInterrupted device e
+    to_archive : (before : FilledArchive) → StandsFilled (device.reads e.disk) before → AreThere files words.dumps → Reads → IsDueSo (loading_plan facts (Some files) clock words text sheet before) ⊎ WasInterrupted device e
     to_archive before stands there d = elim (to_opening there d) [
       | inl went ↦ go went.0 went.1 went.2
       | inr cut ↦ inr cut
@@ -183,7 +184,7 @@ module _ {D : Type 0} (device : Device D) (e : Call D) (files : Files) (clock : 
         sought : ◌≡◌ {A = DiskOutcome} SeekingFailed NotAsked → ⊥
         sought never = cc (never)
 
-        go : (f : Progress → Progress) → KeepsDone device e f → Requires (map_done f opening) way → IsDueSo (loading_plan Where (Some files) clock words text sheet before) ⊎ WasInterrupted device e
+        go : (f : Progress → Progress) → KeepsDone device e f → Requires (map_done f opening) way → IsDueSo (loading_plan facts (Some files) clock words text sheet before) ⊎ WasInterrupted device e
         go f keeps (inl cut) = inr (no_memory e way at _ cut)
         go f keeps (inr (inl cut)) = inr (no_memory e way at _ cut)
         go f keeps (inr (inr (inl cut))) = inr (disk_call e way at (f (seeking_failed dumps)) (λ none. sought (sym (keeps.disk (seeking_failed dumps)) ∙ none)) cut)
@@ -197,18 +198,18 @@ module _ {D : Type 0} (device : Device D) (e : Call D) (files : Files) (clock : 
     ]
       where
         asks_refused : (f : Progress → Progress) (route : List RouteStatement) (sheet : Result (List Ask) Refusal) → sheet_refusal before.plain sheet ≡ Some refusal
-            → Requires (map_done f (after_route Where (Some files) clock words sheet before route)) way → IsRefusedBy device e refusal
+            → Requires (map_done f (after_route facts (Some files) clock words sheet before route)) way → IsRefusedBy device e refusal
         asks_refused f route (Err own) is d = let same : own ≡ refusal = cc (is) in subst (IsRefusedBy device e) same (refused e way at _ own d)
         asks_refused f route (Ok asks) is (inl cut) = inr (no_memory e way at _ cut)
         asks_refused f route (Ok asks) is (inr asked) = refused e way at _ refusal (asked (Some refusal) (sym is))
 
         linked : (f : Progress → Progress) → IsRouteAnswer before.plain text (Err refusal) ⊎ ((route : List RouteStatement) × IsRouteAnswer before.plain text (Ok route) × (sheet_refusal before.plain sheet ≡ Some refusal))
-            → Requires (map_done f (after_links Where (Some files) clock words text sheet before None)) way → IsRefusedBy device e refusal
+            → Requires (map_done f (after_links facts (Some files) clock words text sheet before None)) way → IsRefusedBy device e refusal
         linked f is (inl cut) = inr (no_memory e way at _ cut)
         linked f (inl of_route) (inr answered) = refused e way at _ refusal (answered (Err refusal) of_route)
         linked f (inr (route, routed, of_asks)) (inr answered) = asks_refused f route sheet of_asks (answered (Ok route) routed)
 
-        found : (f : Progress → Progress) → IsLoadRefusal before.plain words text sheet refusal → Requires (map_done f (loading_plan Where (Some files) clock words text sheet before)) way → IsRefusedBy device e refusal
+        found : (f : Progress → Progress) → IsLoadRefusal before.plain words text sheet refusal → Requires (map_done f (loading_plan facts (Some files) clock words text sheet before)) way → IsRefusedBy device e refusal
         found f (inl of_links) d = refused e way at _ refusal (d (Some refusal) (sym of_links))
         found f (inr (none, others)) d = linked f others (d None (sym none))
 
@@ -216,7 +217,7 @@ module _ {D : Type 0} (device : Device D) (e : Call D) (files : Files) (clock : 
 
   module _ (before : FilledArchive) (ready : IsAsked device e files words before) (there : AreThere files words.dumps) where
     abbrev IsJobsDue : Type 0
-    IsJobsDue = IsDueSo (jobs_plan Where (Some files) clock words before ready.route ready.asks) ⊎ WasInterrupted device e
+    IsJobsDue = IsDueSo (jobs_plan facts (Some files) clock words before ready.route ready.asks) ⊎ WasInterrupted device e
 
     to_jobs : Reads → IsJobsDue
     to_jobs d = elim (to_archive ready.text (Ok ready.asks) ready.begun before ready.stands there d) [
@@ -224,23 +225,23 @@ module _ {D : Type 0} (device : Device D) (e : Call D) (files : Files) (clock : 
       | inr cut ↦ inr cut
     ]
       where
-        checked : (f : Progress → Progress) → KeepsDone device e f → Requires (map_done f (after_route Where (Some files) clock words (Ok ready.asks) before ready.route)) way → IsJobsDue
+        checked : (f : Progress → Progress) → KeepsDone device e f → Requires (map_done f (after_route facts (Some files) clock words (Ok ready.asks) before ready.route)) way → IsJobsDue
         checked f keeps (inl cut) = inr (no_memory e way at _ cut)
         checked f keeps (inr asked) = inl (f, keeps, asked None (sym ready.answerable))
 
-        linked : (f : Progress → Progress) → KeepsDone device e f → Requires (map_done f (after_links Where (Some files) clock words ready.text (Ok ready.asks) before None)) way → IsJobsDue
+        linked : (f : Progress → Progress) → KeepsDone device e f → Requires (map_done f (after_links facts (Some files) clock words ready.text (Ok ready.asks) before None)) way → IsJobsDue
         linked f keeps (inl cut) = inr (no_memory e way at _ cut)
         linked f keeps (inr answered) = checked f keeps (answered (Ok ready.route) ready.routed)
 
     abbrev Came : JobsOutcome → Type 0
-    Came c = CameToJobs files clock words before Where ready.asks c
+    Came c = CameToJobs files clock words before facts ready.asks c
 
     abbrev IsSo : (c : JobsOutcome) → Came c → Type 0
     IsSo c came = AreReportedSo device e files clock words before ready.asks c came
 
     module _ (known : IsTrue device.is_transparent) (f : Progress → Progress) (keeps : KeepsDone device e f) (c : JobsOutcome) (came : Came c) where
       abbrev now : ℤ
-      now = moment files clock words before Where ready.asks c came
+      now = moment files clock words before facts ready.asks c came
 
       abbrev Hindered : Type 0
       Hindered = Succeeded e ⊎ WasHindered device e files clock words before
@@ -265,15 +266,15 @@ module _ {D : Type 0} (device : Device D) (e : Call D) (files : Files) (clock : 
           → WasOverLimit device e files clock words before
       full_log did =
           let disk = extended_disk files now words before c.reached device e (did.disk.1 known) in
-          let fewer = no_fewer files clock words before Where ready.asks c came device e known in record {
+          let fewer = no_fewer files clock words before facts ready.asks c came device e known in record {
             moment = now;
             known = came.given.moment;
             reached = c.reached;
-            holds = is_reached files clock words before Where ready.asks c came device e known disk (ap (λ (r : Report). r.after) did.report)
-                (λ one. kept_stands files clock words before Where ready.asks c came device e known (did.disk.1 known));
+            holds = is_reached files clock words before facts ready.asks c came device e known disk (ap (λ (r : Report). r.after) did.report)
+                (λ one. kept_stands files clock words before facts ready.asks c came device e known (did.disk.1 known));
             which = Records;
             limit = ap (λ (r : Report). r.refusal) did.report;
-            passed = inr (refl, near_passed files clock words before Where ready.asks c came device e known 0 (omega (arith, fewer)) did.log);
+            passed = inr (refl, near_passed files clock words before facts ready.asks c came device e known 0 (omega (arith, fewer)) did.log);
           }
 
       filled_due : (full : Bool) → Requires (map_done f (after_filling (history_extended dumps before None c) (load_printing_plan dumps before ready.asks c) full)) way → Hindered
@@ -290,7 +291,7 @@ module _ {D : Type 0} (device : Device D) (e : Call D) (files : Files) (clock : 
       -- ---- something is
 
       cut_reported : (t : ReportedRefusal) (s : Progress) → way ≡ Stopped (f s) (Some t.refusal) → s.failed OfInputs ≡ list_any is_unread c.ends → e.report.refusal ≡ Some t.refusal
-          → IsCut files clock words before Where ready.asks c came device e t.refusal → WasInterrupted device e
+          → IsCut files clock words before facts ready.asks c came device e t.refusal → WasInterrupted device e
       cut_reported t s is reads said cut = cut_off device e t.refusal said (go t.refusal cut)
         where
           read : list_any is_unread c.ends ≡ true → IsInterruption device e ReadFault
@@ -298,25 +299,25 @@ module _ {D : Type 0} (device : Device D) (e : Call D) (files : Files) (clock : 
               let failed : failed_at way OfInputs ≡ true = ap (λ (w : Way Progress ⊥). failed_at w OfInputs) is ∙ ap (λ (calls : FailedCalls). calls OfInputs) (keeps.failed s) ∙ reads ∙ any in
               (subst (λ (b : Bool). Counted b e.read_faults e.read_faults') failed at.read).1
 
-          go : (refusal : Refusal) → IsCut files clock words before Where ready.asks c came device e refusal → IsInterruption device e refusal
+          go : (refusal : Refusal) → IsCut files clock words before facts ready.asks c came device e refusal → IsInterruption device e refusal
           go OutOfMemory cut = tt
           go ReadFault cut = read cut
           go DiskFault cut = cut
           go other cut = absurd cut
 
       job_due : (t : ReportedRefusal) (s : Progress) → reported_of words.link c.ends c.others ≡ Some t → way ≡ Stopped (f s) (Some t.refusal) → s.failed OfInputs ≡ list_any is_unread c.ends
-          → IsReportedEnd files clock words before Where ready.asks c came device e t → IsSo c came
+          → IsReportedEnd files clock words before facts ready.asks c came device e t → IsSo c came
       job_due t s is stopped reads end = inr (
         t,
         end.refusal,
-        cause_of files clock words before Where ready.asks c came device e t end is (first_reported files clock words before Where ready.asks c came t is),
+        cause_of files clock words before facts ready.asks c came device e t end is (first_reported files clock words before facts ready.asks c came t is),
         cut_reported t s stopped reads end.refusal,
       )
 
       behind_due : (t : ReportedRefusal) → reported_of words.link c.ends c.others ≡ Some t → c.failed ≡ None → (end : Option Refusal) → way ≡ Stopped (f (filled_to before c.reached (job_refused dumps before c t) end)) (Some t.refusal) → IsSo c came
       behind_due t is none end stopped =
           let s = filled_to before c.reached (job_refused dumps before c t) end in
-          job_due t s is stopped (reads end) (filled_end files clock words before Where ready.asks c came device e known dumps t none end (did_at s (Some t.refusal) stopped)).1
+          job_due t s is stopped (reads end) (filled_end files clock words before facts ready.asks c came device e known dumps t none end (did_at s (Some t.refusal) stopped)).1
         where
           reads : (end : Option Refusal) → (filled_to before c.reached (job_refused dumps before c t) end).failed OfInputs ≡ list_any is_unread c.ends
           reads None = refl
@@ -328,7 +329,7 @@ module _ {D : Type 0} (device : Device D) (e : Call D) (files : Files) (clock : 
       jobs_due (Some t) is None has d = behind_due t is has d.0 d.2
       jobs_due (Some t) is (Some addition) has stopped =
           let s = write_failed dumps before c t addition in
-          job_due t s is stopped refl (written_end files clock words before Where ready.asks c came device e known dumps t addition has (did_at s (Some t.refusal) stopped)).1
+          job_due t s is stopped refl (written_end files clock words before facts ready.asks c came device e known dumps t addition has (did_at s (Some t.refusal) stopped)).1
 
     -- jobs came to something, of which that holds; or memory was wanting, or a call failed, before them
     pub session_due : IsTrue device.is_transparent → Reads → ((c : JobsOutcome) × ((came : Came c) × IsSo c came)) ⊎ WasInterrupted device e
@@ -337,7 +338,7 @@ module _ {D : Type 0} (device : Device D) (e : Call D) (files : Files) (clock : 
       | inr cut ↦ inr cut
     ]
       where
-        go : (f : Progress → Progress) → KeepsDone device e f → Requires (map_done f (jobs_plan Where (Some files) clock words before ready.route ready.asks)) way → (c : JobsOutcome) × ((came : Came c) × IsSo c came)
+        go : (f : Progress → Progress) → KeepsDone device e f → Requires (map_done f (jobs_plan facts (Some files) clock words before ready.route ready.asks)) way → (c : JobsOutcome) × ((came : Came c) × IsSo c came)
         go f keeps d =
             let c = d.2.0 in
             let came : Came c = record {

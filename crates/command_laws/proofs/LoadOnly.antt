@@ -21,6 +21,7 @@ use Rattle.script_answers.specs.Scripts.{after_answer}
 use Rattle.script_answers.specs.Statements.{packet_names}
 use Rattle.ssql_types.specs.declared.place.ScriptPlace.TheVariants as ScriptPlace
 use Rattle.stream_graph.specs.declared.statement.RouteStatement.{RouteStatement}
+use Rattle.live_asks.specs.LiveAsks.{DiskFacts, disk_facts}
 use Rattle.live_session.specs.declared.reported.ReportedRefusal.{ReportedRefusal}
 use Rattle.live_session.specs.Outcome.{JobsOutcome, reported_of}
 use Rattle.command_plans.specs.Plan.{CommandPlan, EachEnd, May, OfOutput, Stop, Way, and_then, is_interruption, map_done}
@@ -33,7 +34,7 @@ use Rattle.command_runs.specs.Causes.{IsCountedSince}
 use Rattle.command_runs.specs.Command.{ArchiveFound, DamageFound, HasEffects, NoneFound, OpeningResult, Progress, after_opening, archive_opened, opening_plan}
 use Rattle.command_runs.specs.FillingPlan.{after_filling, filled_to}
 use Rattle.ask_answers.specs.Asks.{after_asks_check, archive_asks_refusal, asked_plan, with_sources}
-use Rattle.load_command.specs.Load.{WhereSoundOn, after_jobs, after_limits, after_links, after_route, answering_asks_plan, archive_load_plan, history_extended, job_refused, jobs_plan, load_plan, load_printing_plan, loading_plan, read_load_plan, routed_load_plan, routed_plan}
+use Rattle.load_command.specs.Load.{after_jobs, after_limits, after_links, after_route, answering_asks_plan, archive_load_plan, history_extended, job_refused, jobs_plan, load_plan, load_printing_plan, loading_plan, read_load_plan, routed_load_plan, routed_plan}
 use Rattle.load_command.specs.Loading.{IsRouteAnswer}
 use Rattle.command_laws.specs.Calls.{Call, HeldArchive, IsRun, effects}
 use Rattle.command_laws.specs.Links.{AreThere, ComesBy, HasAsks, HasRouteText, IsFirstMissing, IsLoadUnread, dump_files, load_files}
@@ -143,8 +144,8 @@ module _ {D : Type 0} (device : Device D) (e : Call D) (files : Files) (clock : 
   abbrev Leaves : Way Progress ⊥ → Type 0
   Leaves way = HasEffects device (effects e) way → IsOnlyReported
 
-  abbrev Where : Type 0 → Type 0
-  Where = WhereSoundOn device e.disk
+  abbrev facts : DiskFacts
+  facts = disk_facts device e.disk
 
   abbrev dumps : ℕ
   dumps = length words.dumps
@@ -152,19 +153,19 @@ module _ {D : Type 0} (device : Device D) (e : Call D) (files : Files) (clock : 
   -- ---- behind jobs
 
   module _ (known : IsTrue device.is_transparent) where
-    module _ (before : FilledArchive) (asks : List Ask) (c : JobsOutcome) (came : CameToJobs files clock words before Where asks c) where
+    module _ (before : FilledArchive) (asks : List Ask) (c : JobsOutcome) (came : CameToJobs files clock words before facts asks c) where
       -- where the dump of a link is too long, and those before it aren't, it is the first that isn't read
-      first_unread : (link : ℕ) (names : List (List ℕ)) → AreNamesFrom files clock words before Where asks c came link names → (place : ℕ) (name : List ℕ) → slice_get names place ≡ Some name
+      first_unread : (link : ℕ) (names : List (List ℕ)) → AreNamesFrom files clock words before facts asks c came link names → (place : ℕ) (name : List ℕ) → slice_get names place ≡ Some name
           → ((other : ℕ) (n : List ℕ) → ComesBy words other n → link ≤ other → other < link + place → (dump : List ℕ) × HasFile files DumpOctets n dump) → (refusal : Refusal) → IsUnreadFor files DumpOctets name refusal
           → IsFirstUnread files (dump_files names) refusal
       first_unread link [] are place name is earlier refusal unread = absurd (cc (is))
       first_unread link (n ∷ names) are zero name is earlier refusal unread =
           let same : n ≡ name = cc (is) in inl (subst (λ (m : List ℕ). IsUnreadFor files DumpOctets m refusal) (sym same) unread)
       first_unread link (n ∷ names) are (suc place) name is earlier refusal unread =
-          let read = earlier link n (first_name files clock words before Where asks c came link n names are) (omega arith) (omega arith) in inr (
+          let read = earlier link n (first_name files clock words before facts asks c came link n names are) (omega arith) (omega arith) in inr (
             read.0,
             read.1,
-            first_unread (suc link) names (later_names files clock words before Where asks c came link n names are) place name is
+            first_unread (suc link) names (later_names files clock words before facts asks c came link n names are) place name is
                 (λ other m comes low high. earlier other m comes (omega (arith, low)) (omega (arith, high))) refusal unread,
           )
 
@@ -174,7 +175,7 @@ module _ {D : Type 0} (device : Device D) (e : Call D) (files : Files) (clock : 
             have_read files words came.text (Ok asks) came.named came.sheet,
             inr (
               came.there,
-              first_unread words.link words.dumps (all_names files clock words before Where asks c came) long.received.comes.place long.received.name long.received.comes.name_is
+              first_unread words.link words.dumps (all_names files clock words before facts asks c came) long.received.comes.place long.received.name long.received.comes.name_is
                   (λ other n comes low high.
                   let whole = long.reported.earlier other low (omega (arith, high, number)) in
                   (whole.1.1.dump, subst (λ (m : List ℕ). HasFile files DumpOctets m whole.1.1.dump) (comes_once words other whole.1.0.name n whole.1.0.comes comes) whole.1.1.file))
@@ -222,15 +223,15 @@ module _ {D : Type 0} (device : Device D) (e : Call D) (files : Files) (clock : 
           apart (inl rows) tells = no_rows rows.limit (limit_of over.which) (subst (λ (w : Which). TellsOfOutside (Limit w (limit_of over.which))) rows.which_is tells)
           apart (inr log) tells = subst (λ (w : Which). TellsOfOutside (Limit w (limit_of over.which))) log.0 tells
 
-      cut_is : (refusal : Refusal) → IsCut files clock words before Where asks c came device e refusal → is_interruption refusal ≡ true
+      cut_is : (refusal : Refusal) → IsCut files clock words before facts asks c came device e refusal → is_interruption refusal ≡ true
       cut_is OutOfMemory cut = refl
       cut_is ReadFault cut = refl
       cut_is DiskFault cut = refl
       cut_is other cut = absurd cut
 
       -- what is reported of a job is so
-      reported_of_job : (t : ReportedRefusal) → reported_of words.link c.ends c.others ≡ Some t → StandsFilled (device.reads e.disk) before → IsReportedEnd files clock words before Where asks c came device e t → IsOnlyReported
-      reported_of_job t is stands end = elim (cause_of files clock words before Where asks c came device e t end is (first_reported files clock words before Where asks c came t is)) [
+      reported_of_job : (t : ReportedRefusal) → reported_of words.link c.ends c.others ≡ Some t → StandsFilled (device.reads e.disk) before → IsReportedEnd files clock words before facts asks c came device e t → IsOnlyReported
+      reported_of_job t is stands end = elim (cause_of files clock words before facts asks c came device e t end is (first_reported files clock words before facts asks c came t is)) [
         | inl broken ↦ reported_broken stands broken.0 broken.1 broken.2 broken.3
         | inr others ↦ elim others [
           | inl overlong ↦ reported_overlong stands overlong.0 overlong.1
@@ -258,7 +259,7 @@ module _ {D : Type 0} (device : Device D) (e : Call D) (files : Files) (clock : 
       behind_only : (t : ReportedRefusal) → reported_of words.link c.ends c.others ≡ Some t → c.failed ≡ None → (end : Option Refusal)
           → EachEnd {X = ⊥} Leaves (Stop (filled_to before c.reached (job_refused dumps before c t) end) (Some t.refusal))
       behind_only t is none end = λ did.
-          let ended = filled_end files clock words before Where asks c came device e known dumps t none end did in reported_of_job t is ended.0.stands ended.1
+          let ended = filled_end files clock words before facts asks c came device e known dumps t none end did in reported_of_job t is ended.0.stands ended.1
 
       jobs_only : (said : Option ReportedRefusal) → reported_of words.link c.ends c.others ≡ said → (failed : Option Addition) → c.failed ≡ failed → EachEnd Leaves (after_jobs dumps before asks c said failed)
       jobs_only None is failed has = (
@@ -267,19 +268,19 @@ module _ {D : Type 0} (device : Device D) (e : Call D) (files : Files) (clock : 
       )
       jobs_only (Some t) is None has = λ end ends. behind_only t is has end
       jobs_only (Some t) is (Some addition) has = λ did.
-          let ended = written_end files clock words before Where asks c came device e known dumps t addition has did in reported_of_job t is ended.0.stands ended.1
+          let ended = written_end files clock words before facts asks c came device e known dumps t addition has did in reported_of_job t is ended.0.stands ended.1
 
     -- ---- before them
 
     module _ (text : Option (List ℕ)) (named : HasRouteText files words.route text) (there : AreThere files words.dumps) (filled : FilledArchive) where
       module _ (route : List RouteStatement) (routed : IsRouteAnswer filled.plain text (Ok route)) where
-        run_only : (asks : List Ask) → HasAsks files words.asks (Ok asks) → EachEnd Leaves (jobs_plan Where (Some files) clock words filled route asks)
+        run_only : (asks : List Ask) → HasAsks files words.asks (Ok asks) → EachEnd Leaves (jobs_plan facts (Some files) clock words filled route asks)
         run_only asks has = λ g given c outcome.
             jobs_only filled asks c (record { text = text; named = named; route = route; routed = routed; sheet = has; there = there; g = g; given = given; outcome = outcome })
             (reported_of words.link c.ends c.others) refl c.failed refl
 
         check_only : (asks : List Ask) → HasAsks files words.asks (Ok asks) → (found : Option Refusal) → found ≡ archive_asks_refusal filled.plain asks
-            → EachEnd Leaves (and_then (after_asks_check (archive_opened dumps filled) asks found) (jobs_plan Where (Some files) clock words filled route))
+            → EachEnd Leaves (and_then (after_asks_check (archive_opened dumps filled) asks found) (jobs_plan facts (Some files) clock words filled route))
         check_only asks has None is = run_only asks has
         check_only asks has (Some refusal) is = λ did. reported_other refusal (ap (λ (r : Report). r.refusal) did.report) (no_asks filled.plain asks refusal (sym is))
 
@@ -287,17 +288,17 @@ module _ {D : Type 0} (device : Device D) (e : Call D) (files : Files) (clock : 
         sheet_only None refusal has = absurd (cc (has))
         sheet_only (Some name) refusal has = λ did. reported_other refusal (ap (λ (r : Report). r.refusal) did.report) (no_asks_sheet has.octets refusal (sym has.sheet_is))
 
-        asks_only : (sheet : Result (List Ask) Refusal) → HasAsks files words.asks sheet → EachEnd Leaves (after_route Where (Some files) clock words sheet filled route)
+        asks_only : (sheet : Result (List Ask) Refusal) → HasAsks files words.asks sheet → EachEnd Leaves (after_route facts (Some files) clock words sheet filled route)
         asks_only (Ok asks) has = (λ did. reported_cut OutOfMemory (ap (λ (r : Report). r.refusal) did.report) refl, λ found is. check_only asks has found is)
         asks_only (Err refusal) has = sheet_only words.asks refusal has
 
       module _ (sheet : Result (List Ask) Refusal) (has : HasAsks files words.asks sheet) where
         route_only : (answer : Result (List RouteStatement) Refusal) → IsRouteAnswer filled.plain text answer
-            → EachEnd Leaves (and_then (after_answer (archive_opened dumps filled) answer) (after_route Where (Some files) clock words sheet filled))
+            → EachEnd Leaves (and_then (after_answer (archive_opened dumps filled) answer) (after_route facts (Some files) clock words sheet filled))
         route_only (Ok route) routed = asks_only route routed sheet has
         route_only (Err refusal) answer = λ did. reported_other refusal (ap (λ (r : Report). r.refusal) did.report) (no_route files words.route text filled refusal named answer)
 
-        links_only : (found : Option Refusal) → found ≡ links_refusal words → EachEnd Leaves (after_links Where (Some files) clock words text sheet filled found)
+        links_only : (found : Option Refusal) → found ≡ links_refusal words → EachEnd Leaves (after_links facts (Some files) clock words text sheet filled found)
         links_only None is = (λ did. reported_cut OutOfMemory (ap (λ (r : Report). r.refusal) did.report) refl, λ answer routed. route_only answer routed)
         links_only (Some refusal) is = λ did. reported_other refusal (ap (λ (r : Report). r.refusal) did.report) (no_links words refusal (sym is))
 
@@ -307,10 +308,10 @@ module _ {D : Type 0} (device : Device D) (e : Call D) (files : Files) (clock : 
     opening_only (ArchiveFound filled) = tt
 
     module _ (text : Option (List ℕ)) (named : HasRouteText files words.route text) (sheet : Result (List Ask) Refusal) (has : HasAsks files words.asks sheet) where
-      opened_only : AreThere files words.dumps → EachEnd Leaves (opened_plan dumps device e.disk (λ records. loading_plan Where (Some files) clock words text sheet))
+      opened_only : AreThere files words.dumps → EachEnd Leaves (opened_plan dumps device e.disk (λ records. loading_plan facts (Some files) clock words text sheet))
       opened_only there = (
         λ did. reported_cut OutOfMemory (ap (λ (r : Report). r.refusal) did.report) refl,
-        each_end Leaves (opening_plan dumps device e.disk) (loading_plan Where (Some files) clock words text sheet) (
+        each_end Leaves (opening_plan dumps device e.disk) (loading_plan facts (Some files) clock words text sheet) (
           λ did. reported_cut OutOfMemory (ap (λ (r : Report). r.refusal) did.report) refl,
           (λ did. reported_cut DiskFault (ap (λ (r : Report). r.refusal) did.report) refl, λ held h. opening_only held),
         ) (λ filled found is. links_only text named there filled sheet has found is),
@@ -322,7 +323,7 @@ module _ {D : Type 0} (device : Device D) (e : Call D) (files : Files) (clock : 
       unopened_only refusal is (inr off) = reported_cut refusal (ap (λ (r : Report). r.refusal) is.report) off
 
       archive_only : EachEnd Leaves (archive_load_plan device e.disk (Some files) clock words text sheet)
-      archive_only = each_opened device e IsOnlyReported files words.dumps 0 (λ done. opened_plan dumps device e.disk (λ records. loading_plan Where (Some files) clock words text sheet)) unopened_only opened_only
+      archive_only = each_opened device e IsOnlyReported files words.dumps 0 (λ done. opened_plan dumps device e.disk (λ records. loading_plan facts (Some files) clock words text sheet)) unopened_only opened_only
 
     -- the files that are read first
     abbrev AmongFirst : List (Which × List ℕ) → Type 0

@@ -1,12 +1,14 @@
 -- The text of a load whose jobs were not refused: what it says of the history.
-use Rattle.std.proofs.Common.{◌≡◌, ◌∙◌, ◌-◌, ℕ, ℤ, suc, List, [], ◌∷◌, ◌++◌, length, Option, Some, None, refl, sym, ap, subst, append_assoc}
+use Rattle.std.proofs.Common.{◌≡◌, ◌∙◌, ◌-◌, ℕ, ℤ, suc, List, [], ◌∷◌, ◌++◌, length, Option, Some, None, inl, refl, sym, ap, subst, append_assoc}
 use Rattle.std.specs.Prelude.{IsTrue, unwrap_or}
 use mathlib.Core.List.{IsPrefix}
 use Rattle.arch_disk.specs.Disk.{Device}
+use Rattle.arch_types.specs.declared.cell.Cell.{Cell}
 use Rattle.arch_types.specs.declared.row.Row.{Row}
 use Rattle.asks.specs.declared.ask.Ask.{Ask}
 use Rattle.asks.specs.declared.ask.Ask.TheVariants as asked
 use Rattle.asks.specs.declared.ask.Answer.{Answer}
+use Rattle.asks.specs.declared.ask.ReplayRequest.{ReplayRequest}
 use Rattle.asks.specs.declared.ask.Request.{Request}
 use Rattle.asks.specs.Names.{parameter_number}
 use Rattle.container_extract.specs.Answer.{answer_of}
@@ -21,18 +23,18 @@ use Rattle.archive_store.specs.Entries.{FilledArchive}
 use Rattle.archive_store.specs.Stands.{IsSoundImage}
 use Rattle.live_asks.specs.declared.answered.AskAnswer.{AskAnswer}
 use Rattle.live_asks.specs.declared.answered.AskAnswer.TheVariants as kept
-use Rattle.live_asks.specs.LiveAsks.{AnswersOver, HasCellsOf, IsAnsweredInTurn}
+use Rattle.live_asks.specs.declared.answered.ReplayedRows.{ReplayedRows}
+use Rattle.live_asks.specs.LiveAsks.{AnswersOver, DiskFacts, HasCellsOf, HasReplayOf, IsAnsweredInTurn, disk_facts}
 use Rattle.live_session.specs.Outcome.{JobsOutcome, counts_of, reported_of}
 use Rattle.retrieval.specs.AnswerText.{answer_lines}
 use Rattle.retrieval.specs.declared.found_asks.FoundAsk.{FoundAsk}
 use Rattle.retrieval.specs.declared.found_asks.FoundAsk.TheVariants as looked_up
 use Rattle.retrieval.specs.FoundAsks.{ask_found, asks_found}
 use Rattle.ask_answers.specs.Collected.{AreAnsweredInTurns, collected_answer_text, collected_answers_text}
-use Rattle.ask_answers.proofs.CollectedTexts.{collected_replay, each_answered}
+use Rattle.ask_answers.proofs.CollectedTexts.{collected_replay, collected_values, each_answered}
 use Rattle.command_words.specs.Job.{LoadWords}
-use Rattle.load_command.specs.Load.{WhereSoundOn}
 use Rattle.load_command.specs.LoadLine.{line_of_load, load_line, load_text}
-use Rattle.command_laws.specs.Answers.{AreAnswersBetween, IsAnswerOver}
+use Rattle.command_laws.specs.Answers.{AreAnswersBetween, IsAnswerBetween}
 use Rattle.command_laws.specs.Calls.{Call}
 use Rattle.command_laws.specs.Links.{arrived_of, packets_of}
 use Rattle.command_laws.specs.Load.{IsLoadText, line_of_dumps}
@@ -71,30 +73,49 @@ module _ {D : Type 0} (device : Device D) (e : Call D) (known : IsTrue device.is
   abbrev low : List Item
   low = before.plain.history
 
-  abbrev Where : Type 0 → Type 0
-  Where = WhereSoundOn device e.disk
+  abbrev facts : DiskFacts
+  facts = disk_facts device e.disk
 
   abbrev Sound : Type 0
   Sound = IsSoundImage (device.reads e.disk)
 
   -- cells, by the database that was in force at the opening and is so still
-  cells_over : (over : List Item) (k : ℕ) (request : Request) (answer : Answer) → database_in head.mdb over ≡ database_in head.mdb low → HasCellsOf Where head over request answer
-      → IsAnswerOver Sound head over k (asked.Values request) (collected_answer_text before.plain k (asked.Values request) (kept.Values answer))
-  cells_over over k request answer same is =
+  cells_between : (over : List Item) (k : ℕ) (request : Request) (answer : Answer) → IsPrefix low over → IsPrefix over reached → database_in head.mdb over ≡ database_in head.mdb low → HasCellsOf facts before over request answer
+      → IsAnswerBetween Sound before reached k (asked.Values request) (collected_answer_text before.plain k (asked.Values request) (kept.Values answer))
+  cells_between over k request answer later begins same is =
       let db = database_in head.mdb over in
-      let number = unwrap_or (parameter_number db request.parameter) 0 in (
-        answer.cells,
-        ap (λ (d : Database). answer_lines k answer.front d (unwrap_or (parameter_number d request.parameter) 0) answer.cells) (sym same) ∙ ap (λ (n : ℕ). answer_lines k n db number answer.cells) is.front,
-        λ sound. given (is.cells known sound),
-      )
+      let number = unwrap_or (parameter_number db request.parameter) 0 in record {
+        history = over;
+        later = later;
+        begins = begins;
+        fillings = is.fillings;
+        since = is.since known;
+        text_is = collected_values before over is.fillings k request answer same is.filled;
+        over_rows = λ sound.
+            ap (λ (d : Database). answer_lines k answer.front d (unwrap_or (parameter_number d request.parameter) 0) answer.cells) (sym same)
+            ∙ ap (λ (n : ℕ). answer_lines k n db number answer.cells) is.filled.front ∙ ap (λ (cells : List Cell). answer_lines k (length over) db number cells) (given (is.cells known sound));
+      }
     where
       given : ((number : ℕ) × (parameter_number (database_in head.mdb over) request.parameter ≡ Some number) × (answer.cells ≡ answer_of (database_in head.mdb over) number request (rows_in over)))
           → answer.cells ≡ answer_of (database_in head.mdb over) (unwrap_or (parameter_number (database_in head.mdb over) request.parameter) 0) request (rows_in over)
       given of_number =
           of_number.2 ∙ ap (λ (o : Option ℕ). answer_of (database_in head.mdb over) (unwrap_or o 0) request (rows_in over)) (sym of_number.1)
 
-  over_text : (k : ℕ) (ask : FoundAsk) (answer : AskAnswer) (turn : IsAnsweredInTurn Where head low reached ask answer) → IsAnswerOver Sound head turn.over k (ask_found ask) (collected_answer_text before.plain k (ask_found ask) answer)
-  over_text k ask answer turn = go ask answer turn.answers
+  -- rows, by the packet names that there were
+  rows_between : (over : List Item) (k : ℕ) (request : ReplayRequest) (replayed : ReplayedRows) → IsPrefix low over → IsPrefix over reached → names_in head.mdb over ≡ names_in head.mdb low → HasReplayOf head over request replayed
+      → IsAnswerBetween Sound before reached k (asked.Replay request) (collected_answer_text before.plain k (asked.Replay request) (kept.Replay replayed))
+  rows_between over k request replayed later begins same is = record {
+    history = over;
+    later = later;
+    begins = begins;
+    fillings = before.fillings;
+    since = λ interval. inl refl;
+    text_is = collected_replay before.plain over k request replayed same is;
+    over_rows = λ sound. collected_replay before.plain over k request replayed same is;
+  }
+
+  between_text : (k : ℕ) (ask : FoundAsk) (answer : AskAnswer) → IsAnsweredInTurn facts before low reached ask answer → IsAnswerBetween Sound before reached k (ask_found ask) (collected_answer_text before.plain k (ask_found ask) answer)
+  between_text k ask answer turn = go ask answer turn.answers
     where
       own : (own : List Row) × (turn.over ≡ low ++ items_of own)
       own = between low turn.over reached rows turn.later turn.begins grown
@@ -105,35 +126,33 @@ module _ {D : Type 0} (device : Device D) (e : Call D) (known : IsTrue device.is
       names : names_in head.mdb turn.over ≡ names_in head.mdb low
       names = ap (names_in head.mdb) own.1 ∙ rows_keep_names head.mdb low own.0
 
-      go : (ask' : FoundAsk) (answer' : AskAnswer) → AnswersOver Where head turn.over ask' answer'
-          → IsAnswerOver Sound head turn.over k (ask_found ask') (collected_answer_text before.plain k (ask_found ask') answer')
-      go (looked_up.Values found) (kept.Values cells) is = cells_over turn.over k found.request cells database is
-      go (looked_up.Replay found) (kept.Replay replayed) is = collected_replay before.plain turn.over k found.request replayed names is
+      go : (ask' : FoundAsk) (answer' : AskAnswer) → AnswersOver facts before turn.over ask' answer'
+          → IsAnswerBetween Sound before reached k (ask_found ask') (collected_answer_text before.plain k (ask_found ask') answer')
+      go (looked_up.Values found) (kept.Values cells) is = cells_between turn.over k found.request cells turn.later turn.begins database is
+      go (looked_up.Replay found) (kept.Replay replayed) is = rows_between turn.over k found.request replayed turn.later turn.begins names is
       go (looked_up.Values found) (kept.Replay replayed) is = absurd is
       go (looked_up.Replay found) (kept.Values cells) is = absurd is
 
-  pub answers_between : (k : ℕ) (asks : List FoundAsk) (answers : List AskAnswer) → AreAnsweredInTurns Where head low reached asks answers
-      → AreAnswersBetween Sound head low reached k (asks_found asks) (collected_answers_text before.plain k (asks_found asks) answers)
+  pub answers_between : (k : ℕ) (asks : List FoundAsk) (answers : List AskAnswer) → AreAnsweredInTurns facts before low reached asks answers
+      → AreAnswersBetween Sound before reached k (asks_found asks) (collected_answers_text before.plain k (asks_found asks) answers)
   answers_between k [] [] each = refl
   answers_between k [] (answer ∷ answers) each = absurd each
   answers_between k (ask ∷ asks) [] each = absurd each
-  answers_between k (ask ∷ asks) (answer ∷ answers) each =
-      let turn = each.0 in (
-        collected_answer_text before.plain k (ask_found ask) answer,
-        collected_answers_text before.plain (suc k) (asks_found asks) answers,
-        refl,
-        record { history = turn.over; later = turn.later; begins = turn.begins; text_is = over_text k ask answer turn },
-        answers_between (suc k) asks answers each.1,
-      )
+  answers_between k (ask ∷ asks) (answer ∷ answers) each = (
+    collected_answer_text before.plain k (ask_found ask) answer,
+    collected_answers_text before.plain (suc k) (asks_found asks) answers,
+    refl,
+    between_text k ask answer each.0,
+    answers_between (suc k) asks answers each.1,
+  )
 
 -- ---- the whole text
 
 module _ (files : Files) (clock : Option ℤ) (words : LoadWords) (before : FilledArchive) {D : Type 0} (device : Device D) (e : Call D) (known : IsTrue device.is_transparent) (asks : List Ask) (c : JobsOutcome)
-    (came : CameToJobs files clock words before (WhereSoundOn device e.disk) asks c) (none : reported_of words.link c.ends c.others ≡ None)
-    (whole : AreWholeFrom files clock words before (WhereSoundOn device e.disk) asks c came words.link c.ends) where
-  each : AreAnsweredInTurns (WhereSoundOn device e.disk) before.plain.head before.plain.history c.reached came.g.asks c.answers
-  each = subst (λ (h : Head). AreAnsweredInTurns (WhereSoundOn device e.disk) h before.plain.history c.reached came.g.asks c.answers) came.given.head
-      (each_answered (WhereSoundOn device e.disk) came.g.head before.plain.history c.reached came.g.asks c.answers (came.outcome.answered none))
+    (came : CameToJobs files clock words before (disk_facts device e.disk) asks c) (none : reported_of words.link c.ends c.others ≡ None)
+    (whole : AreWholeFrom files clock words before (disk_facts device e.disk) asks c came words.link c.ends) where
+  each : AreAnsweredInTurns (disk_facts device e.disk) before before.plain.history c.reached came.g.asks c.answers
+  each = each_answered (disk_facts device e.disk) before before.plain.history c.reached came.g.asks c.answers (came.outcome.answered none)
 
   line_is : line_of_load (length before.plain.history) c ≡ line_of_dumps before c.reached whole.dumps
   line_is =
@@ -149,7 +168,7 @@ module _ (files : Files) (clock : Option ℤ) (words : LoadWords) (before : Fill
     asks = asks;
     sheet = came.sheet;
     answers = collected_answers_text before.plain 1 asks c.answers;
-    answered = subst (λ (l : List Ask). AreAnswersBetween (IsSoundImage (device.reads e.disk)) before.plain.head before.plain.history c.reached 1 l (collected_answers_text before.plain 1 l c.answers)) came.given.asked
+    answered = subst (λ (l : List Ask). AreAnswersBetween (IsSoundImage (device.reads e.disk)) before c.reached 1 l (collected_answers_text before.plain 1 l c.answers)) came.given.asked
         (answers_between device e known before c.reached came.outcome.more came.outcome.grown 1 came.g.asks c.answers each);
     text_is = ap (λ (l : List ℕ). collected_answers_text before.plain 1 asks c.answers ++ l) line_is;
   }

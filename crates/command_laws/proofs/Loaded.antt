@@ -18,6 +18,7 @@ use Rattle.archive_store.specs.Stands.{StandsFor}
 use Rattle.archive_store.proofs.Exact.{filled_once}
 use Rattle.archive_store.proofs.PendingFaults.{prefix_self}
 use Rattle.stream_graph.specs.declared.statement.RouteStatement.{RouteStatement}
+use Rattle.live_asks.specs.LiveAsks.{DiskFacts, disk_facts}
 use Rattle.live_session.specs.declared.reported.ReportedRefusal.{ReportedRefusal}
 use Rattle.live_session.specs.Outcome.{JobsOutcome, reported_of}
 use Rattle.command_plans.specs.Plan.{CommandPlan, EachEnd, May, OfOutput, Stop, Way, and_then, map_done}
@@ -34,7 +35,7 @@ use Rattle.command_runs.specs.ReadOnly.{IsReadAsBefore, IsReadOnly}
 use Rattle.command_runs.specs.Report.{loaded, read_only, unopened}
 use Rattle.ask_answers.specs.Asks.{after_asks_check, asked_plan, with_sources}
 use Rattle.script_answers.specs.Scripts.{after_answer}
-use Rattle.load_command.specs.Load.{WhereSoundOn, after_jobs, after_limits, after_links, after_route, answering_asks_plan, archive_load_plan, history_extended, job_refused, jobs_plan, load_plan, load_printing_plan, loading_plan, read_load_plan, routed_load_plan, routed_plan}
+use Rattle.load_command.specs.Load.{after_jobs, after_limits, after_links, after_route, answering_asks_plan, archive_load_plan, history_extended, job_refused, jobs_plan, load_plan, load_printing_plan, loading_plan, read_load_plan, routed_load_plan, routed_plan}
 use Rattle.load_command.specs.LoadLine.{load_text, whole_report}
 use Rattle.load_command.specs.Loading.{IsRouteAnswer}
 use Rattle.command_laws.specs.Calls.{Call, HasSameHistory, IsRun, IsUnopened, LeavesDisk, Prints, PrintsSome, Succeeded, effects}
@@ -80,8 +81,8 @@ module _ {D : Type 0} (device : Device D) (e : Call D) (files : Files) (clock : 
   abbrev Leaves : Way Progress ⊥ → Type 0
   Leaves way = HasEffects device (effects e) way → Left
 
-  abbrev Where : Type 0 → Type 0
-  Where = WhereSoundOn device e.disk
+  abbrev facts : DiskFacts
+  facts = disk_facts device e.disk
 
   abbrev dumps : ℕ
   dumps = length words.dumps
@@ -175,15 +176,15 @@ module _ {D : Type 0} (device : Device D) (e : Call D) (files : Files) (clock : 
 
     -- ---- behind jobs
 
-    module _ (before : FilledArchive) (asks : List Ask) (c : JobsOutcome) (came : CameToJobs files clock words before Where asks c) where
+    module _ (before : FilledArchive) (asks : List Ask) (c : JobsOutcome) (came : CameToJobs files clock words before facts asks c) where
       abbrev now : ℤ
-      now = moment files clock words before Where asks c came
+      now = moment files clock words before facts asks c came
 
       abbrev Disk : Type 0
       Disk = IsDiskLoaded files now words before c.reached device e
 
       has_grown : IsGrown files now words before c.reached
-      has_grown = grown files clock words before Where asks c came
+      has_grown = grown files clock words before facts asks c came
 
       all_named : (refusal : Refusal) → IsFirstUnread files (load_files words) refusal → ⊥
       all_named refusal first = named_read files words.route words.asks came.text (Ok asks) refusal came.named came.sheet first
@@ -201,10 +202,10 @@ module _ {D : Type 0} (device : Device D) (e : Call D) (files : Files) (clock : 
 
       module _ (none : reported_of words.link c.ends c.others ≡ None) where
         abbrev AllWhole : Type 0
-        AllWhole = AreWholeFrom files clock words before Where asks c came words.link c.ends
+        AllWhole = AreWholeFrom files clock words before facts asks c came words.link c.ends
 
         all_came : AllWhole
-        all_came = all_whole files clock words before Where asks c came none
+        all_came = all_whole files clock words before facts asks c came none
 
         received_whole : AreReceivedWhole files now words before c.reached all_came.dumps
         received_whole = record {
@@ -213,7 +214,7 @@ module _ {D : Type 0} (device : Device D) (e : Call D) (files : Files) (clock : 
           alone = λ d is.
               let last = (subst (AreReceived files now words before words.link) is all_came.received).1 in
               let one : length words.dumps ≡ 1 = omega (arith, last) in
-              all_came.alone d is came.outcome.more came.outcome.grown (only_rows files clock words before Where asks c came one);
+              all_came.alone d is came.outcome.more came.outcome.grown (only_rows files clock words before facts asks c came one);
         }
 
         abbrev text : List ℕ
@@ -292,41 +293,41 @@ module _ {D : Type 0} (device : Device D) (e : Call D) (files : Files) (clock : 
       of_dump t is some = link_of_dump words.link c.ends c.others t is some
 
       job_left : (t : ReportedRefusal) → reported_of words.link c.ends c.others ≡ Some t → c.failed ≡ None → (end : Option Refusal) → EachEnd {X = ⊥} Leaves (Stop (filled_to before c.reached (job_refused dumps before c t) end) (Some t.refusal))
-      job_left t is none None = λ did. left_quiet t.link t.refusal (of_dump t is) did.report did.printed (filled_end files clock words before Where asks c came device e known dumps t none None did).0
-      job_left t is none (Some DiskFault) = λ did. left_quiet t.link t.refusal (of_dump t is) did.report did.printed (filled_end files clock words before Where asks c came device e known dumps t none (Some DiskFault) did).0
-      job_left t is none (Some other) = λ did. left_quiet t.link t.refusal (of_dump t is) did.report did.printed (filled_end files clock words before Where asks c came device e known dumps t none (Some other) did).0
+      job_left t is none None = λ did. left_quiet t.link t.refusal (of_dump t is) did.report did.printed (filled_end files clock words before facts asks c came device e known dumps t none None did).0
+      job_left t is none (Some DiskFault) = λ did. left_quiet t.link t.refusal (of_dump t is) did.report did.printed (filled_end files clock words before facts asks c came device e known dumps t none (Some DiskFault) did).0
+      job_left t is none (Some other) = λ did. left_quiet t.link t.refusal (of_dump t is) did.report did.printed (filled_end files clock words before facts asks c came device e known dumps t none (Some other) did).0
 
       jobs_left : (said : Option ReportedRefusal) → reported_of words.link c.ends c.others ≡ said → (failed : Option Addition) → c.failed ≡ failed → EachEnd Leaves (after_jobs dumps before asks c said failed)
       jobs_left None is failed has = unrefused_left is failed
       jobs_left (Some t) is None has = λ end ends. job_left t is has end
       jobs_left (Some t) is (Some addition) has =
-          λ did. left_quiet t.link t.refusal (of_dump t is) did.report did.printed (written_end files clock words before Where asks c came device e known dumps t addition has did).0
+          λ did. left_quiet t.link t.refusal (of_dump t is) did.report did.printed (written_end files clock words before facts asks c came device e known dumps t addition has did).0
 
     -- ---- before them
 
     module _ (text : Option (List ℕ)) (named : HasRouteText files words.route text) (there : AreThere files words.dumps) (filled : FilledArchive) where
       module _ (route : List RouteStatement) (routed : IsRouteAnswer filled.plain text (Ok route)) where
-        run_left : (asks : List Ask) → HasAsks files words.asks (Ok asks) → EachEnd Leaves (jobs_plan Where (Some files) clock words filled route asks)
+        run_left : (asks : List Ask) → HasAsks files words.asks (Ok asks) → EachEnd Leaves (jobs_plan facts (Some files) clock words filled route asks)
         run_left asks has = λ g given c outcome.
             jobs_left filled asks c (record { text = text; named = named; route = route; routed = routed; sheet = has; there = there; g = g; given = given; outcome = outcome })
             (reported_of words.link c.ends c.others) refl c.failed refl
 
         check_left : (asks : List Ask) → HasAsks files words.asks (Ok asks) → (found : Option Refusal)
-            → EachEnd Leaves (and_then (after_asks_check (archive_opened dumps filled) asks found) (jobs_plan Where (Some files) clock words filled route))
+            → EachEnd Leaves (and_then (after_asks_check (archive_opened dumps filled) asks found) (jobs_plan facts (Some files) clock words filled route))
         check_left asks has None = run_left asks has
         check_left asks has (Some refusal) = λ did. left_as_was filled (did.disk.1 known) refusal did.report did.printed
 
-        asks_left : (sheet : Result (List Ask) Refusal) → HasAsks files words.asks sheet → EachEnd Leaves (after_route Where (Some files) clock words sheet filled route)
+        asks_left : (sheet : Result (List Ask) Refusal) → HasAsks files words.asks sheet → EachEnd Leaves (after_route facts (Some files) clock words sheet filled route)
         asks_left (Ok asks) has = (λ did. left_as_was filled (did.disk.1 known) OutOfMemory did.report did.printed, λ found is. check_left asks has found)
         asks_left (Err refusal) has = λ did. left_as_was filled (did.disk.1 known) refusal did.report did.printed
 
       module _ (sheet : Result (List Ask) Refusal) (has : HasAsks files words.asks sheet) where
         route_left : (answer : Result (List RouteStatement) Refusal) → IsRouteAnswer filled.plain text answer
-            → EachEnd Leaves (and_then (after_answer (archive_opened dumps filled) answer) (after_route Where (Some files) clock words sheet filled))
+            → EachEnd Leaves (and_then (after_answer (archive_opened dumps filled) answer) (after_route facts (Some files) clock words sheet filled))
         route_left (Ok route) routed = asks_left route routed sheet has
         route_left (Err refusal) refused = λ did. left_as_was filled (did.disk.1 known) refusal did.report did.printed
 
-        links_left : (found : Option Refusal) → EachEnd Leaves (after_links Where (Some files) clock words text sheet filled found)
+        links_left : (found : Option Refusal) → EachEnd Leaves (after_links facts (Some files) clock words text sheet filled found)
         links_left None = (λ did. left_as_was filled (did.disk.1 known) OutOfMemory did.report did.printed, λ answer is. route_left answer is)
         links_left (Some refusal) = λ did. left_as_was filled (did.disk.1 known) refusal did.report did.printed
 
@@ -336,17 +337,17 @@ module _ {D : Type 0} (device : Device D) (e : Call D) (files : Files) (clock : 
     opening_left (ArchiveFound filled) = tt
 
     module _ (text : Option (List ℕ)) (named : HasRouteText files words.route text) (sheet : Result (List Ask) Refusal) (has : HasAsks files words.asks sheet) where
-      opened_left : AreThere files words.dumps → EachEnd Leaves (opened_plan dumps device e.disk (λ records. loading_plan Where (Some files) clock words text sheet))
+      opened_left : AreThere files words.dumps → EachEnd Leaves (opened_plan dumps device e.disk (λ records. loading_plan facts (Some files) clock words text sheet))
       opened_left there = (
         λ did. left_unopened OutOfMemory did.report did.printed (not_asked device e did.disk),
-        each_end Leaves (opening_plan dumps device e.disk) (loading_plan Where (Some files) clock words text sheet) (
+        each_end Leaves (opening_plan dumps device e.disk) (loading_plan facts (Some files) clock words text sheet) (
           λ did. left_unopened OutOfMemory did.report did.printed (did.disk.1 known),
           (λ did. left_unopened DiskFault did.report did.printed (did.disk.1 known), λ held h. opening_left held),
         ) (λ filled found is. links_left text named there filled sheet has found),
       )
 
       archive_left : EachEnd Leaves (archive_load_plan device e.disk (Some files) clock words text sheet)
-      archive_left = each_opened device e Left files words.dumps 0 (λ done. opened_plan dumps device e.disk (λ records. loading_plan Where (Some files) clock words text sheet))
+      archive_left = each_opened device e Left files words.dumps 0 (λ done. opened_plan dumps device e.disk (λ records. loading_plan facts (Some files) clock words text sheet))
           (λ refusal unread cause. left_unread refusal unread) opened_left
 
     asked_left : (name : Option (List ℕ)) (next : Result (List Ask) Refusal → CommandPlan Progress ⊥) → ((sheet : Result (List Ask) Refusal) → HasAsks files name sheet → EachEnd Leaves (next sheet))

@@ -60,19 +60,19 @@ use Rattle.command_runs.specs.ReadOnly.{IsReadAsBefore}
 use Rattle.command_runs.specs.Report.{loaded, unopened}
 use Rattle.load_command.specs.Load.{after_session, history_extended, job_refused}
 use Rattle.load_command.specs.Loading.{is_unread}
-use Rattle.make_command.specs.Made.{IsFilledBy, IsMadeOutcome, made_archive, made_head}
-use Rattle.make_command.specs.Make.{after_comparing, behind_plan, made_load_plan, made_report, make_plan, summary_plan}
+use Rattle.make_command.specs.Made.{IsFilledBy, IsMadeOutcome, made_archive, made_head, no_facts}
+use Rattle.make_command.specs.Make.{summary_or_mismatch, behind_plan, made_load_plan, made_report, make_plan, summary_plan}
 use Rattle.make_command.specs.Summary.{cell_count, summary_text, whole_request}
 use Rattle.command_laws.specs.Calls.{Call, IsInterruption, IsRefusedBy, IsRun, LeavesDisk, Prints, PrintsSome, Succeeded, WasInterrupted, effects}
 use Rattle.command_laws.specs.Links.{AreReceived, AreReceivedWhole, packets_of}
 use Rattle.command_laws.specs.Load.{IsOnTheWay, IsSilent, IsWholeLoad, TellsOfDump, WasHindered, WasOverLimit, WasPending}
-use Rattle.command_laws.specs.Make.{HoldAllNone, IsMadeAndLoaded, IsMakeDone, IsNoneOrMade, IsNotMade, IsRefusedMake, IsSummaryPrinted, cells_of_rows, made_files, made_words}
+use Rattle.command_laws.specs.Make.{HoldAllNone, IsMadeAndLoaded, IsMakeDone, IsNoneOrMade, IsNotMade, IsRefusedMake, IsSummaryPrinted, cell_count_of_rows, made_files, made_words}
 use Rattle.command_laws.proofs.FirstRefused.{first_reported, link_of_dump}
 use Rattle.command_laws.proofs.JobsEnds.{filled_end, is_reached, kept_stands, near_passed, no_fewer, written_end}
 use Rattle.command_laws.proofs.JobsLoaded.{AreWholeFrom, CameToJobs, all_whole, grown, moment}
 use Rattle.command_laws.proofs.Left.{is_unopened, kept_back, not_asked, opened_once, since_opening, sound_moments, untouched}
 use Rattle.command_laws.proofs.LoadClause.{read_not_bad, whole_not_long}
-use Rattle.command_laws.proofs.MadeDumps.{NoAsk, made_jobs, made_whole}
+use Rattle.command_laws.proofs.MadeDumps.{made_jobs, made_whole}
 use Rattle.command_laws.proofs.OnTheWay.{IsDiskLoaded, extended_disk, unfilled_disk}
 use Rattle.command_laws.proofs.Reported.{IsCut, IsReportedCause, IsReportedEnd, cause_of}
 use Rattle.command_laws.proofs.Runs.{all_is_some, by_job, cut_off, none_or_some, same_refusal}
@@ -109,7 +109,7 @@ right_sound reached fillings adds = record {
 
 -- the values that are counted over them are those that the rows give
 right_cells : (reached : List Item) (fillings : Fillings (List SetRow)) → AddsRightFills made_head format_1_exponent reached no_fillings fillings
-    → (name : List ℕ) → cell_count (filled_at made_archive reached fillings) name ≡ cells_of_rows reached name
+    → (name : List ℕ) → cell_count (filled_at made_archive reached fillings) name ≡ cell_count_of_rows reached name
 right_cells reached fillings adds name =
     let db = database_in made_head.mdb reached in
     ap (λ (cells : List Cell). length cells)
@@ -231,17 +231,14 @@ module _ {D : Type 0} (device : Device D) (e : Call D) (clock : Option ℤ) (see
       holds = record { held = over.holds.held; alone = over.holds.alone; after = over.holds.after; grown = over.holds.grown };
       which = over.which;
       limit = over.limit;
-      passed = elim over.passed [
-        | inl rows ↦ inl rows
-        | inr records ↦ inr (records.0, λ once. records.1 (once_since once))
-      ];
+      passed = over.passed;
     }
 
     -- ---- what became of the jobs
 
-    module _ (c : JobsOutcome) (came : CameToJobs files clock made_words made_archive NoAsk [] c) (read : list_any is_unread c.ends ≡ false) where
+    module _ (c : JobsOutcome) (came : CameToJobs files clock made_words made_archive no_facts [] c) (read : list_any is_unread c.ends ≡ false) where
       abbrev now : ℤ
-      now = moment files clock made_words made_archive NoAsk [] c came
+      now = moment files clock made_words made_archive no_facts [] c came
 
       abbrev Loaded : Type 0
       Loaded = IsDiskLoaded files now made_words made_archive c.reached device behind
@@ -279,7 +276,7 @@ module _ {D : Type 0} (device : Device D) (e : Call D) (clock : Option ℤ) (see
               lengths = (first, last);
               handed_back = disk.now (device.reads e.disk') (device.reads_as_image e.disk' known);
               lasting = disk.now;
-              grown = grown files clock made_words made_archive NoAsk [] c came;
+              grown = grown files clock made_words made_archive no_facts [] c came;
               whole = whole;
               printed = printed;
               crashes = sound_moments device behind known OnTheWay (inr since) made_at_first;
@@ -313,7 +310,7 @@ module _ {D : Type 0} (device : Device D) (e : Call D) (clock : Option ℤ) (see
       -- ---- a job was refused
 
       abbrev IsCutBy : Refusal → Type 0
-      IsCutBy = IsCut files clock made_words made_archive NoAsk [] c came device behind
+      IsCutBy = IsCut files clock made_words made_archive no_facts [] c came device behind
 
       abbrev IsOver : Type 0
       IsOver = WasOverLimit device behind files clock made_words made_archive
@@ -322,7 +319,7 @@ module _ {D : Type 0} (device : Device D) (e : Call D) (clock : Option ℤ) (see
       abbrev IsOfNoDump : Refusal → Type 0
       IsOfNoDump refusal = IsCutBy refusal ⊎ (WasPending device behind ⊎ IsOver)
 
-      of_no_dump : (t : ReportedRefusal) → IsReportedCause files clock made_words made_archive NoAsk [] c came device behind t → IsOfNoDump t.refusal
+      of_no_dump : (t : ReportedRefusal) → IsReportedCause files clock made_words made_archive no_facts [] c came device behind t → IsOfNoDump t.refusal
       of_no_dump t (inl (link, at, kind, broken)) =
           absurd (read_not_bad files broken.received.name broken.d.packets broken.d.rest at kind (made_whole seed link broken.received.name broken.received.comes) broken.received.has broken.to_end broken.bad)
       of_no_dump t (inr (inl (link, long))) = absurd (whole_not_long files long.received.name (made_whole seed link long.received.name long.received.comes) long.long)
@@ -364,9 +361,9 @@ module _ {D : Type 0} (device : Device D) (e : Call D) (clock : Option ℤ) (see
       hinders refusal report (inr (inr over)) = inr (inr (over_since over))
 
       job_left : (t : ReportedRefusal) → reported_of 1 c.ends c.others ≡ Some t → e.report ≡ loaded (Some t.refusal) t.link 0 (length c.reached) 0 0 0 → Prints e []
-          → Loaded × IsReportedEnd files clock made_words made_archive NoAsk [] c came device behind t → IsLeft
+          → Loaded × IsReportedEnd files clock made_words made_archive no_facts [] c came device behind t → IsLeft
       job_left t is report none (disk, end) =
-          let cause = of_no_dump t (cause_of files clock made_words made_archive NoAsk [] c came device behind t end is (first_reported files clock made_words made_archive NoAsk [] c came t is)) in
+          let cause = of_no_dump t (cause_of files clock made_words made_archive no_facts [] c came device behind t end is (first_reported files clock made_words made_archive no_facts [] c came t is)) in
           let no_link = unlinked t.link (λ some. untold t.refusal (ap (λ (r : Report). r.refusal) report) cause (link_of_dump 1 c.ends c.others t is some)) in
           let unnamed = report ∙ ap (λ (link : Option ℕ). loaded (Some t.refusal) link 0 (length c.reached) 0 0 0) no_link in
           left_silent t.refusal unnamed none disk (hinders t.refusal unnamed cause)
@@ -374,8 +371,8 @@ module _ {D : Type 0} (device : Device D) (e : Call D) (clock : Option ℤ) (see
       -- ---- none was
 
       module _ (none : reported_of 1 c.ends c.others ≡ None) where
-        all_came : AreWholeFrom files clock made_words made_archive NoAsk [] c came 1 c.ends
-        all_came = all_whole files clock made_words made_archive NoAsk [] c came none
+        all_came : AreWholeFrom files clock made_words made_archive no_facts [] c came 1 c.ends
+        all_came = all_whole files clock made_words made_archive no_facts [] c came none
 
         received_whole : AreReceivedWhole files now made_words made_archive c.reached all_came.dumps
         received_whole = record {
@@ -388,17 +385,17 @@ module _ {D : Type 0} (device : Device D) (e : Call D) (clock : Option ℤ) (see
         filled_disk x = extended_disk files now made_words made_archive c.reached device behind x.extended
 
         -- the log has no room for the fills
-        full_log : IsExtended device between e.disk' made_archive c.reached → reports (Limit Records (limit_of Records)) → IsLogNear device between e.disk' (Some 0) → WasOverLimit device behind files clock made_words made_archive
+        full_log : IsExtended device between e.disk' made_archive c.reached → reports (Limit Records (limit_of Records)) → IsLogNear device e.disk' (Some 0) → WasOverLimit device behind files clock made_words made_archive
         full_log x report near =
-            let fewer = no_fewer files clock made_words made_archive NoAsk [] c came device behind known in record {
+            let fewer = no_fewer files clock made_words made_archive no_facts [] c came device behind known in record {
               moment = now;
               known = came.given.moment;
               reached = c.reached;
-              holds = is_reached files clock made_words made_archive NoAsk [] c came device behind known (extended_disk files now made_words made_archive c.reached device behind x) (ap (λ (r : Report). r.after) report)
-                  (λ one. kept_stands files clock made_words made_archive NoAsk [] c came device behind known x);
+              holds = is_reached files clock made_words made_archive no_facts [] c came device behind known (extended_disk files now made_words made_archive c.reached device behind x) (ap (λ (r : Report). r.after) report)
+                  (λ one. kept_stands files clock made_words made_archive no_facts [] c came device behind known x);
               which = Records;
               limit = ap (λ (r : Report). r.refusal) report;
-              passed = inr (refl, near_passed files clock made_words made_archive NoAsk [] c came device behind known 0 (omega (arith, fewer)) near);
+              passed = inr (refl, near_passed files clock made_words made_archive no_facts [] c came device behind known 0 (omega (arith, fewer)) near);
             }
 
         -- ---- the summary
@@ -452,7 +449,7 @@ module _ {D : Type 0} (device : Device D) (e : Call D) (clock : Option ℤ) (see
     Behind way = HasEffects device (effects behind) way → IsLeft
 
     module _ (moment' : ℤ) (clocked : IsMomentOf clock moment') (c : JobsOutcome) (outcome : IsMadeOutcome seed moment' c) where
-      abbrev came : CameToJobs files clock made_words made_archive NoAsk [] c
+      abbrev came : CameToJobs files clock made_words made_archive no_facts [] c
       came = made_jobs seed clock moment' clocked c outcome
 
       abbrev next : CommandPlan Progress ⊥
@@ -464,7 +461,7 @@ module _ {D : Type 0} (device : Device D) (e : Call D) (clock : Option ℤ) (see
       module _ (none : reported_of 1 c.ends c.others ≡ None) where
         -- its archive was compared
         compared_left : (fillings : Fillings (List SetRow)) → IsFilledBy device c.reached fillings → (found : Option Refusal) → IsCompared (filled_at made_archive c.reached fillings) found
-            → EachEnd Behind (after_comparing seed c (filled_at made_archive c.reached fillings) found)
+            → EachEnd Behind (summary_or_mismatch seed c (filled_at made_archive c.reached fillings) found)
         compared_left fillings filled None held = (
           λ did. left_part c came outcome.read none fillings filled OutOfMemory did.report tt did.printed (λ out memory. absurd (memory refl)) (did.disk.1 known),
           (
@@ -484,31 +481,31 @@ module _ {D : Type 0} (device : Device D) (e : Call D) (clock : Option ℤ) (see
         filled_left true = λ did.
             let x = did.disk.1 known in
             let limit = Limit Records (limit_of Records) in
-            left_silent c came outcome.read limit did.report did.printed (extended_disk files (moment files clock made_words made_archive NoAsk [] c came) made_words made_archive c.reached device behind x)
+            left_silent c came outcome.read limit did.report did.printed (extended_disk files (moment files clock made_words made_archive no_facts [] c came) made_words made_archive c.reached device behind x)
             (inr (inr (over_since (full_log c came outcome.read none x did.report did.log))))
         filled_left false = summed_left
 
         unrefused_left : (failed : Option Addition) → EachEnd Behind (after_session 0 made_archive c next None failed)
         unrefused_left failed = (
           λ did. left_silent c came outcome.read OutOfMemory did.report did.printed
-              (extended_disk files (moment files clock made_words made_archive NoAsk [] c came) made_words made_archive c.reached device behind (did.disk.1 known)) (cut_made c came outcome.read OutOfMemory did.report tt),
+              (extended_disk files (moment files clock made_words made_archive no_facts [] c came) made_words made_archive c.reached device behind (did.disk.1 known)) (cut_made c came outcome.read OutOfMemory did.report tt),
           (
             λ did. left_silent c came outcome.read DiskFault did.report did.printed
-                (unfilled_disk files (moment files clock made_words made_archive NoAsk [] c came) made_words made_archive c.reached device behind (did.disk.1 known))
+                (unfilled_disk files (moment files clock made_words made_archive no_facts [] c came) made_words made_archive c.reached device behind (did.disk.1 known))
                 (cut_made c came outcome.read DiskFault did.report (interruption DiskFault did.disk.0.faults)),
             λ full is. filled_left full,
           ),
         )
 
       refused_left : (t : ReportedRefusal) → reported_of 1 c.ends c.others ≡ Some t → c.failed ≡ None → (end : Option Refusal) → EachEnd {X = ⊥} Behind (Stop (filled_to made_archive c.reached (job_refused 0 made_archive c t) end) (Some t.refusal))
-      refused_left t is none None = λ did. job_left c came outcome.read t is did.report did.printed (filled_end files clock made_words made_archive NoAsk [] c came device behind known 0 t none None did)
-      refused_left t is none (Some DiskFault) = λ did. job_left c came outcome.read t is did.report did.printed (filled_end files clock made_words made_archive NoAsk [] c came device behind known 0 t none (Some DiskFault) did)
-      refused_left t is none (Some other) = λ did. job_left c came outcome.read t is did.report did.printed (filled_end files clock made_words made_archive NoAsk [] c came device behind known 0 t none (Some other) did)
+      refused_left t is none None = λ did. job_left c came outcome.read t is did.report did.printed (filled_end files clock made_words made_archive no_facts [] c came device behind known 0 t none None did)
+      refused_left t is none (Some DiskFault) = λ did. job_left c came outcome.read t is did.report did.printed (filled_end files clock made_words made_archive no_facts [] c came device behind known 0 t none (Some DiskFault) did)
+      refused_left t is none (Some other) = λ did. job_left c came outcome.read t is did.report did.printed (filled_end files clock made_words made_archive no_facts [] c came device behind known 0 t none (Some other) did)
 
       session_left : (said : Option ReportedRefusal) → reported_of 1 c.ends c.others ≡ said → (failed : Option Addition) → c.failed ≡ failed → EachEnd Behind (after_session 0 made_archive c next said failed)
       session_left None is failed has = unrefused_left is failed
       session_left (Some t) is None has = λ end ends. refused_left t is has end
-      session_left (Some t) is (Some addition) has = λ did. job_left c came outcome.read t is did.report did.printed (written_end files clock made_words made_archive NoAsk [] c came device behind known 0 t addition has did)
+      session_left (Some t) is (Some addition) has = λ did. job_left c came outcome.read t is did.report did.printed (written_end files clock made_words made_archive no_facts [] c came device behind known 0 t addition has did)
 
     load_left : EachEnd Behind (made_load_plan device clock seed)
     load_left = λ moment' clocked c outcome. session_left moment' clocked c outcome (reported_of 1 c.ends c.others) refl c.failed refl
@@ -525,14 +522,10 @@ module _ {D : Type 0} (device : Device D) (e : Call D) (clock : Option ℤ) (see
     printed = did.printed;
     output = did.output;
     disk = did.disk.after;
-    log = near s.log did.log;
+    log = did.log;
     pending = counted s.pending did.pending;
   }
     where
-      near : (told : Option ℕ) → IsLogNear device e.disk e.disk' told → IsLogNear device did.disk.between e.disk' told
-      near None log = tt
-      near (Some more) log = λ once. log (record { most = subst (λ (n : ℕ). device.fault_count e.disk' ≤ n + 1) did.disk.used.faults once.most; below = once.below })
-
       counted : (pending : Option ℕ) → IsCountedSince device e.disk e.disk' pending → IsCountedSince device did.disk.between e.disk' pending
       counted None since = tt
       counted (Some faults) since = subst (λ (n : ℕ). (above n ≤ faults) × (faults ≤ device.fault_count e.disk')) (sym did.disk.used.faults) since

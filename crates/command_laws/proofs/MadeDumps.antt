@@ -7,13 +7,12 @@ use Rattle.std.specs.List.{concat}
 use Rattle.arch_types.specs.Dump.{IsDump}
 use Rattle.dump_maker.specs.Made.{made_packet, made_packets, shift_of}
 use Rattle.dump_maker.proofs.Made.{made_fields, made_is_split, more_octets}
-use Rattle.intervals.specs.Interval.{format_1_exponent}
 use Rattle.live_session.specs.Jobs.{JobSetting, job_setting}
 use Rattle.live_session.specs.Outcome.{IsJobsOutcome, JobsOutcome}
 use Rattle.load_command.specs.Loading.{dumps_of}
 use Rattle.stream_graph.specs.Routes.{every_packet_route}
 use Rattle.command_runs.specs.Moment.{IsMomentOf}
-use Rattle.make_command.specs.Made.{IsMadeOutcome, made_archive, made_contents, made_head, two_dumps}
+use Rattle.make_command.specs.Made.{IsMadeOutcome, made_archive, made_contents, made_head, no_facts, two_dumps}
 use Rattle.command_laws.specs.Links.{AreThere, ComesBy, IsWholeDump}
 use Rattle.command_laws.specs.Make.{made_dump, made_files, made_names, made_words}
 use Rattle.command_laws.proofs.JobsLoaded.{CameToJobs}
@@ -53,10 +52,6 @@ unfolding two_dumps
 second_of_two seed packets fits = packet_dump seed (shift_of packets * 0) packets fits
 
 -- ---- the files
-
--- nothing is said of answers: nothing is asked
-abbrev pub NoAsk : Type 0 → Type 0
-NoAsk P = Unit {0}
 
 module _ (seed : ℕ) where
   abbrev entries : List (List ℕ × List ℕ)
@@ -104,7 +99,7 @@ module _ (seed : ℕ) where
   abbrev setting_at : ℤ → JobSetting
   setting_at moment = job_setting made_head every_packet_route moment []
 
-  pub made_jobs : (clock : Option ℤ) (moment : ℤ) → IsMomentOf clock moment → (c : JobsOutcome) → IsMadeOutcome seed moment c → CameToJobs (made_files seed) clock made_words made_archive NoAsk [] c
+  pub made_jobs : (clock : Option ℤ) (moment : ℤ) → IsMomentOf clock moment → (c : JobsOutcome) → IsMadeOutcome seed moment c → CameToJobs (made_files seed) clock made_words made_archive no_facts [] c
   made_jobs clock moment clocked c came = record {
     text = None;
     named = refl;
@@ -114,5 +109,5 @@ module _ (seed : ℕ) where
     there = dumps_there;
     g = setting_at moment;
     given = record { head = refl; route_is = refl; moment = clocked; found = tt; asked = refl };
-    outcome = subst (λ (l : List (Option (List ℕ))). IsJobsOutcome NoAsk format_1_exponent [] (setting_at moment) 1 l c) (sym contents_are) came.came;
+    outcome = subst (λ (l : List (Option (List ℕ))). IsJobsOutcome no_facts made_archive (setting_at moment) 1 l c) (sym contents_are) came.came;
   }

@@ -25,6 +25,7 @@ use Rattle.space_packet.specs.declared.dump.Why.TheVariants as why
 use Rattle.space_packet.specs.Rest.{why_of}
 use Rattle.archive_store.specs.Entries.{FilledArchive}
 use Rattle.archive_store.specs.Stands.{StandsFor}
+use Rattle.live_asks.specs.LiveAsks.{DiskFacts}
 use Rattle.load_session.specs.During.{with_history}
 use Rattle.archive_store.specs.Limits.{IsLimit}
 use Rattle.load_session.specs.Session.{next_fresh_rows, next_rows}
@@ -75,10 +76,10 @@ rest_is_bad dump (octet ∷ rest) place kind is no_packet =
 
 -- ---- the cause
 
-module _ (files : Files) (clock : Option ℤ) (words : LoadWords) (before : FilledArchive) (Where : Type 0 → Type 0) (asks : List Ask) (c : JobsOutcome) (came : CameToJobs files clock words before Where asks c)
+module _ (files : Files) (clock : Option ℤ) (words : LoadWords) (before : FilledArchive) (facts : DiskFacts) (asks : List Ask) (c : JobsOutcome) (came : CameToJobs files clock words before facts asks c)
     {D : Type 0} (device : Device D) (e : Call D) where
   abbrev now : ℤ
-  now = moment files clock words before Where asks c came
+  now = moment files clock words before facts asks c came
 
   -- A call ended by what is reported of the jobs.
   pub record IsReportedEnd (t : ReportedRefusal) : Type 0 where
@@ -102,7 +103,7 @@ module _ (files : Files) (clock : Option ℤ) (words : LoadWords) (before : Fill
   pub record StopsAt : Type 0 where
     pub upto : ℕ
     pub low : words.link ≤ upto
-    pub earlier : Earlier files clock words before Where asks c came upto
+    pub earlier : Earlier files clock words before facts asks c came upto
 
   abbrev pub IsBrokenSome : Type 0
   IsBrokenSome = (link : ℕ) × (place : ℕ) × (kind : BadKind) × IsBroken device e files clock words before link place kind
@@ -117,7 +118,7 @@ module _ (files : Files) (clock : Option ℤ) (words : LoadWords) (before : Fill
   module _ (t : ReportedRefusal) (end : IsReportedEnd t) (reported_is : reported_of words.link c.ends c.others ≡ Some t) where
     -- where it is no fault of the disk, and there is one dump, no batch of that failed
     reached_so : (t.refusal ≡ DiskFault → ⊥) → IsReached device e files now words before c.reached
-    reached_so apart = end.holds (λ one. end.exact (λ rows failed. apart (fault_of_one files clock words before Where asks c came one rows failed t reported_is)))
+    reached_so apart = end.holds (λ one. end.exact (λ rows failed. apart (fault_of_one files clock words before facts asks c came one rows failed t reported_is)))
 
     -- a limit that is passed by what is known of it
     over_limit : (which : Which) → t.refusal ≡ Limit which (limit_of which) → ArePassed files now words before c.reached which ⊎ ((which ≡ Records) × AreRecordsPassed device e before c.reached)
@@ -132,9 +133,9 @@ module _ (files : Files) (clock : Option ℤ) (words : LoadWords) (before : Fill
       passed = passed;
     }
 
-    module _ (first : IsFirstRefused files clock words before Where asks c came t) where
+    module _ (first : IsFirstRefused files clock words before facts asks c came t) where
       abbrev Sent : Type 0
-      Sent = IsSentInto before.plain.exponent c.failed c.reached (to files clock words before Where asks c came first.link) (get files first.name) first.loads.put first.end
+      Sent = IsSentInto before.plain.exponent c.failed c.reached (to files clock words before facts asks c came first.link) (get files first.name) first.loads.put first.end
 
       abbrev reported_of_dump : is_of_dump first.end ≡ true → (t.refusal ≡ DiskFault → ⊥) → IsReportedOf device e files clock words before first.link
       reported_of_dump of_dump apart = record {
@@ -160,15 +161,15 @@ module _ (files : Files) (clock : Option ℤ) (words : LoadWords) (before : Fill
           let number = first.comes.number in
           let same : words.link ≡ first.link = omega (arith, number, within, one) in
           (sent.alone came.outcome.more came.outcome.grown
-          (subst (λ (n : ℕ). AllByRecursion (λ (row : Row). row.link ≡ n) came.outcome.more) same (only_rows files clock words before Where asks c came one))).0
+          (subst (λ (n : ℕ). AllByRecursion (λ (row : Row). row.link ≡ n) came.outcome.more) same (only_rows files clock words before facts asks c came one))).0
 
       -- the next batch of a link passes a limit
       batch_passes : (sent : Sent) (which : Which) (number records : ℕ) → Limit which number ≡ t.refusal
-          → IsLimit before.plain.exponent which records (after_rows sent.came_to.reached (next_rows (to files clock words before Where asks c came first.link) sent.came_to))
+          → IsLimit before.plain.exponent which records (after_rows sent.came_to.reached (next_rows (to files clock words before facts asks c came first.link) sent.came_to))
           → ArePassed files now words before c.reached which ⊎ ((which ≡ Records) × AreRecordsPassed device e before c.reached)
       batch_passes sent which number records same (inl of_rows) =
           let s = sent.came_to in
-          let r = to files clock words before Where asks c came first.link in inl (record {
+          let r = to files clock words before facts asks c came first.link in inl (record {
             history = s.reached;
             no_fewer = sent.since;
             within = sent.reached;
@@ -176,8 +177,8 @@ module _ (files : Files) (clock : Option ℤ) (words : LoadWords) (before : Fill
             rows = next_fresh_rows r s;
             batch = record {
               link = first.link;
-              d = sent_dump files clock words before Where asks c came first.link first.name first.comes first.loads.put first.end sent;
-              received = sent_received files clock words before Where asks c came first.link first.name first.comes first.loads.put first.end sent;
+              d = sent_dump files clock words before facts asks c came first.link first.name first.comes first.loads.put first.end sent;
+              received = sent_received files clock words before facts asks c came first.link first.name first.comes first.loads.put first.end sent;
               place = s.place;
               rows_are = refl;
             };
@@ -189,7 +190,7 @@ module _ (files : Files) (clock : Option ℤ) (words : LoadWords) (before : Fill
           inr (of_records.0, end.recorded number (sym same ∙ ap (λ (w : Which). Limit w number) of_records.0))
 
       -- a link's sending was refused
-      sending_refused : (sent : Sent) (refusal : Refusal) → refusal ≡ t.refusal → IsSentCause before.plain.exponent c.failed (to files clock words before Where asks c came first.link) sent.came_to (Some refusal)
+      sending_refused : (sent : Sent) (refusal : Refusal) → refusal ≡ t.refusal → IsSentCause before.plain.exponent c.failed (to files clock words before facts asks c came first.link) sent.came_to (Some refusal)
           → IsReportedCause t
       sending_refused sent OutOfMemory same cause = inr (inr (inl (subst IsCut same tt)))
       sending_refused sent DiskFault same cause = inr (inr (inl (subst IsCut same (end.faulted (subst IsSome (sym cause) refl)))))
@@ -203,13 +204,13 @@ module _ (files : Files) (clock : Option ℤ) (words : LoadWords) (before : Fill
       sending_refused sent other same cause = absurd cause
 
     -- by how the first link that was refused ended
-    by_end : (first : IsFirstRefused files clock words before Where asks c came t) (x : LinkEnd) → first.end ≡ x → IsReportedCause t
+    by_end : (first : IsFirstRefused files clock words before facts asks c came t) (x : LinkEnd) → first.end ≡ x → IsReportedCause t
     by_end first (Whole summary) is = let never : ◌≡◌ {A = Option Refusal} None (Some t.refusal) = sym (ap refusal_of_end is) ∙ first.refusal in absurd (cc (never))
     by_end first (Unread (Some refusal)) is =
         let said : ◌≡◌ {A = Option Refusal} (Some refusal) (Some t.refusal) = sym (ap refusal_of_end is) ∙ first.refusal in
         let same : refusal ≡ t.refusal = cc (said) in
         let sent = first.loads.sent in
-        let r = to files clock words before Where asks c came first.link in
+        let r = to files clock words before facts asks c came first.link in
         let why_not = subst (IsSentTo sent.read r sent.came_to) is sent.sent_to in
         sending_refused first sent refusal same (subst (IsSentCause before.plain.exponent c.failed r sent.came_to) why_not sent.cause)
     by_end first (Unread None) is =
@@ -223,17 +224,17 @@ module _ (files : Files) (clock : Option ℤ) (words : LoadWords) (before : Fill
         go : Sent first → IsReportedCause t
         go sent =
             let s = sent.came_to in
-            let sent_to = subst (IsSentTo sent.read (to files clock words before Where asks c came first.link) s) is sent.sent_to in
+            let sent_to = subst (IsSentTo sent.read (to files clock words before facts asks c came first.link) s) is sent.sent_to in
             let same : BadPacket place kind ≡ t.refusal = cc (said) in inl (
               first.link,
               place,
               kind,
               record {
                 reported = reported_of_dump first (ap is_of_dump is) (λ fault. let never : BadPacket place kind ≡ DiskFault = same ∙ fault in absurd (cc (never)));
-                d = sent_dump files clock words before Where asks c came first.link first.name first.comes first.loads.put first.end sent;
-                received = sent_received files clock words before Where asks c came first.link first.name first.comes first.loads.put first.end sent;
-                to_end = λ truncated. some_left (get files first.name) sent.read (dump_there files clock words before Where asks c came first.link first.name first.comes) (to_its_end (get files first.name) sent.read place kind truncated (subst (IsReadTo (get files first.name) sent.read) is sent.read_to));
-                there = sent_there files clock words before Where asks c came first.link first.name first.comes first.loads.put first.end sent sent_to.0;
+                d = sent_dump files clock words before facts asks c came first.link first.name first.comes first.loads.put first.end sent;
+                received = sent_received files clock words before facts asks c came first.link first.name first.comes first.loads.put first.end sent;
+                to_end = λ truncated. some_left (get files first.name) sent.read (dump_there files clock words before facts asks c came first.link first.name first.comes) (to_its_end (get files first.name) sent.read place kind truncated (subst (IsReadTo (get files first.name) sent.read) is sent.read_to));
+                there = sent_there files clock words before facts asks c came first.link first.name first.comes first.loads.put first.end sent sent_to.0;
                 bad = rest_is_bad sent.read s.rest place kind sent_to.1 sent_to.2;
                 refusal = end.refusal ∙ ap Some (sym same);
               },
@@ -245,19 +246,19 @@ module _ (files : Files) (clock : Option ℤ) (words : LoadWords) (before : Fill
 
         go : Sent first → IsReportedCause t
         go sent =
-            let all = subst (IsSentTo sent.read (to files clock words before Where asks c came first.link) sent.came_to) is sent.sent_to in
+            let all = subst (IsSentTo sent.read (to files clock words before facts asks c came first.link) sent.came_to) is sent.sent_to in
             let over = subst (IsReadTo (get files first.name) sent.read) is sent.read_to in
-            let long = some_long (get files first.name) sent.read (dump_there files clock words before Where asks c came first.link first.name first.comes) over in
+            let long = some_long (get files first.name) sent.read (dump_there files clock words before facts asks c came first.link first.name first.comes) over in
             let same : Limit DumpOctets (limit_of DumpOctets) ≡ t.refusal = cc (said) in inr (inl (
               first.link,
               record {
                 reported = reported_of_dump first (ap is_of_dump is) (λ fault. let never : Limit DumpOctets (limit_of DumpOctets) ≡ DiskFault = same ∙ fault in absurd (cc (never)));
-                d = sent_dump files clock words before Where asks c came first.link first.name first.comes first.loads.put first.end sent;
-                received = sent_received files clock words before Where asks c came first.link first.name first.comes first.loads.put first.end sent;
+                d = sent_dump files clock words before facts asks c came first.link first.name first.comes first.loads.put first.end sent;
+                received = sent_received files clock words before facts asks c came first.link first.name first.comes first.loads.put first.end sent;
                 long = long.0;
                 to_limit = long.1;
                 no_version = all.1;
-                there = sent_there files clock words before Where asks c came first.link first.name first.comes first.loads.put first.end sent all.0;
+                there = sent_there files clock words before facts asks c came first.link first.name first.comes first.loads.put first.end sent all.0;
                 refusal = end.refusal ∙ ap Some (sym same);
               },
             ))
@@ -272,12 +273,12 @@ module _ (files : Files) (clock : Option ℤ) (words : LoadWords) (before : Fill
         go : Sent first → IsReportedCause t
         go sent =
             let s = sent.came_to in
-            let r = to files clock words before Where asks c came first.link in
+            let r = to files clock words before facts asks c came first.link in
             let why_not = subst (IsSentTo sent.read r s) is sent.sent_to in
             sending_refused first sent refusal same (subst (IsSentCause before.plain.exponent c.failed r s) why_not sent.cause)
 
     -- a reader or a filler was refused
-    module _ (all : Earlier files clock words before Where asks c came (words.link + length words.dumps)) where
+    module _ (all : Earlier files clock words before facts asks c came (words.link + length words.dumps)) where
       stops_behind : StopsAt
       stops_behind = record {
         upto = words.link + length words.dumps;
@@ -295,6 +296,6 @@ module _ (files : Files) (clock : Option ℤ) (words : LoadWords) (before : Fill
           inr (inr (inr (stops_behind, inr (over_limit Records (records ∙ ap (λ (n : ℕ). Limit Records n) cause.1) (inr (refl, end.recorded number records))))))
       other_refused other same cause = absurd cause
 
-    pub cause_of : IsFirstRefused files clock words before Where asks c came t ⊎ IsOtherRefused files clock words before Where asks c came t → IsReportedCause t
+    pub cause_of : IsFirstRefused files clock words before facts asks c came t ⊎ IsOtherRefused files clock words before facts asks c came t → IsReportedCause t
     cause_of (inl first) = by_end first first.end refl
     cause_of (inr others) = other_refused others.all t.refusal refl others.cause

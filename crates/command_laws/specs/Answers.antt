@@ -1,7 +1,6 @@
 -- The answers to asks over the rows of a history, whatever its fills.
 use Rattle.std.specs.Prelude.{◌≡◌, ℕ, suc, List, [], ◌∷◌, ◌++◌, length, unwrap_or, Option, Some, Result, Ok, Err}
 use mathlib.Core.List.{IsPrefix}
-use Rattle.arch_types.specs.declared.cell.Cell.{Cell}
 use Rattle.asks.specs.declared.ask.Ask.{Ask}
 use Rattle.asks.specs.declared.ask.Ask.TheVariants.{Values, Replay}
 use Rattle.asks.specs.declared.ask.Request.{Request}
@@ -12,9 +11,13 @@ use Rattle.container_extract.specs.Answer.{answer_of}
 use Rattle.history_items.specs.declared.items.Item.{Item}
 use Rattle.history_items.specs.Databases.{database_in}
 use Rattle.history_items.specs.Items.{rows_in}
+use Rattle.param_segments.specs.Rows.{SetRow}
+use Rattle.store_fills.specs.Sound.{Fillings}
 use Rattle.archive_store.specs.declared.head.Head.{Head}
-use Rattle.archive_store.specs.Entries.{Archive}
+use Rattle.archive_store.specs.Entries.{Archive, FilledArchive}
+use Rattle.live_asks.specs.LiveAsks.{AreFillsSince}
 use Rattle.retrieval.specs.AnswerText.{answer_lines}
+use Rattle.retrieval.specs.AskText.{ask_text}
 use Rattle.retrieval.specs.ReplayText.{replay_text}
 use Rattle.ask_answers.specs.Asks.{archive_asks_refusal}
 
@@ -42,27 +45,22 @@ sheet_refusal archive (Err refusal) = Some refusal
 
 -- ---- while the history grows
 
--- The text of an answer to the ask with a number, over a history. Its front is the length of that: cells of the
--- parameter, which are those that extracting the packets of its range gives, where `Sound` holds; or the replay.
-abbrev pub IsAnswerOver : Type 0 → Head → List Item → ℕ → Ask → List ℕ → Type 0
-IsAnswerOver Sound head history k (Values request) text =
-    let db = database_in head.mdb history in
-    let number = unwrap_or (parameter_number db request.parameter) 0 in
-    (cells : List Cell) × (text ≡ answer_lines k (length history) db number cells)
-    × (Sound → cells ≡ answer_of db number request (rows_in history))
-IsAnswerOver Sound head history k (Replay request) text = text ≡ replay_text head history k request
-
--- It is over a history that goes on from a first one, and with which a last one begins.
-pub record IsAnswerBetween (Sound : Type 0) (head : Head) (first last : List Item) (k : ℕ) (ask : Ask) (text : List ℕ)
-    : Type 0 where
+-- The text of the answer to the ask with a number, over a history that goes on from that of an archive, and with which
+-- a last one begins: as a query gives it over that history with fills, each of which is the archive's or a right one
+-- since. Where `Sound` holds it is that of the history's rows.
+pub record IsAnswerBetween (Sound : Type 0) (before : FilledArchive) (last : List Item) (k : ℕ) (ask : Ask)
+    (text : List ℕ) : Type 0 where
   pub history : List Item
-  pub later : IsPrefix first history
+  pub later : IsPrefix before.plain.history history
   pub begins : IsPrefix history last
-  pub text_is : IsAnswerOver Sound head history k ask text
+  pub fillings : Fillings (List SetRow)
+  pub since : AreFillsSince before history fillings
+  pub text_is : text ≡ ask_text before.plain.head before.plain.exponent history fillings k ask
+  pub over_rows : Sound → text ≡ ask_answer before.plain.head history k ask
 
 -- a text is those of the answers to asks, numbered from k on, each over such a history
-abbrev pub AreAnswersBetween : Type 0 → Head → List Item → List Item → ℕ → List Ask → List ℕ → Type 0
-AreAnswersBetween Sound head first last k [] text = text ≡ []
-AreAnswersBetween Sound head first last k (ask ∷ asks) text =
+abbrev pub AreAnswersBetween : Type 0 → FilledArchive → List Item → ℕ → List Ask → List ℕ → Type 0
+AreAnswersBetween Sound before last k [] text = text ≡ []
+AreAnswersBetween Sound before last k (ask ∷ asks) text =
     (answer : List ℕ) × (rest : List ℕ) × (text ≡ answer ++ rest)
-    × IsAnswerBetween Sound head first last k ask answer × AreAnswersBetween Sound head first last (suc k) asks rest
+    × IsAnswerBetween Sound before last k ask answer × AreAnswersBetween Sound before last (suc k) asks rest

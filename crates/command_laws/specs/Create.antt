@@ -28,8 +28,8 @@ create_files words =
     (SheetOctets, words.parameters) ∷ (SheetOctets, words.calibrations) ∷ (SheetOctets, words.containers)
     ∷ named_file ScriptOctets words.script
 
--- the three sheets and the script give this head (the table `tm`, the tables that the script creates, and the database),
--- or are refused
+-- the three sheets and the script give this head (the table `tm`, the tables that the script creates, and the
+-- database), or are refused
 pub record GivesHead (files : Files) (words : CreateWords) (answer : Result Head Refusal) : Type 0 where
   pub raw : RawMdb
   pub text : List ℕ

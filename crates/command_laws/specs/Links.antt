@@ -104,8 +104,8 @@ AreWholeBefore files words link =
 
 -- ---- what is received
 
--- what a link receives: the moment, the route and the archive by which it does, the packets of what it read of its dump,
--- and the rest of that
+-- what a link receives: the moment, the route and the archive by which it does, the packets of what it read of its
+-- dump, and the rest of that
 pub record ReceivedDump : Type 0 where
   pub by : Receiving
   pub packets : List (List ℕ)

@@ -50,14 +50,13 @@ line_of_dumps before reached dumps =
     load_line (packets_of dumps) new (arrived_of dumps - new) (idle_of dumps) (length (rows_in reached))
 
 -- The text of a load of dumps that are whole: the answers to the asks of the sheet, each over a prefix of the history
--- that was reached, no shorter than the one handed in, and the line.
+-- that was reached, no shorter than the one handed in, by the fills that were there or right ones since, and the line.
 pub record IsLoadText {D : Type 0} (device : Device D) (e : Call D) (files : Files) (words : LoadWords)
     (before : FilledArchive) (reached : List Item) (dumps : List ReceivedDump) (text : List ℕ) : Type 0 where
   pub asks : List Ask
   pub sheet : HasAsks files words.asks (Ok asks)
   pub answers : List ℕ
-  pub answered : AreAnswersBetween (IsSoundImage (device.reads e.disk)) before.plain.head before.plain.history reached
-      1 asks answers
+  pub answered : AreAnswersBetween (IsSoundImage (device.reads e.disk)) before reached 1 asks answers
   pub text_is : text ≡ answers ++ line_of_dumps before reached dumps
 
 -- Some of the text of a load of dumps that are whole was printed, and all of it at status 0.
@@ -127,11 +126,9 @@ pub record ArePassed (files : Files) (moment : ℤ) (words : LoadWords) (before 
   pub which_is : which ≡ limit_of_history limit
   pub passes : PassesFirst before.plain.exponent limit (rows_in (history ++ items_of rows))
 
--- where the disk failed at most once, the log that is handed back, with a record for each row that came, reaches the
--- limit
+-- the log that is handed back, with a record for each row that came, reaches the limit
 abbrev pub AreRecordsPassed : {D : Type 0} → Device D → Call D → FilledArchive → List Item → Type 0
 AreRecordsPassed device e before reached =
-    FailedAtMostOnce device e.disk e.disk' →
     (records : ℕ) × HasRecordCount (device.reads e.disk') records
     × (limit_of Records + length before.plain.history ≤ records + length reached)
 

@@ -73,8 +73,8 @@ pub record IsNotMade {D : Type 0} (device : Device D) (e : Call D) : Type 0 wher
 -- ---- the summary
 
 -- how many values of a parameter the rows of a history give
-abbrev pub cells_of_rows : List Item → List ℕ → ℕ
-cells_of_rows history name =
+abbrev pub cell_count_of_rows : List Item → List ℕ → ℕ
+cell_count_of_rows history name =
     let db = database_in made_head.mdb history in
     length (answer_of db (unwrap_or (parameter_number db name) 0) (whole_request name) (rows_in history))
 
@@ -87,7 +87,8 @@ pub record IsSummaryPrinted {D : Type 0} (e : Call D) (seed : ℕ) (moment : ℤ
   pub fillings : Fillings (List SetRow)
   pub right : AddsRightFills made_head format_1_exponent reached no_fillings fillings
   pub none_late : late_in_archive (filled_at made_archive reached fillings) ≡ []
-  pub cells : (name : List ℕ) → cell_count (filled_at made_archive reached fillings) name ≡ cells_of_rows reached name
+  pub cells : (name : List ℕ) →
+      cell_count (filled_at made_archive reached fillings) name ≡ cell_count_of_rows reached name
   pub text : List ℕ
   pub text_is : text ≡ summary_text seed (packets_of dumps) (arrived_of dumps - length reached)
       (filled_at made_archive reached fillings)
