@@ -4,7 +4,7 @@
 use crate::ends::none_other;
 use clap::ArgMatches;
 use command_words::job::{Job, job_of};
-use command_words::words::{Argument, given_word, read_arguments};
+use command_words::words::{Argument, given_word, is_given, read_arguments};
 use refusals::{Refusal, Which};
 use std::alloc::{AllocError, Global};
 use std::test::Fail;
@@ -21,9 +21,13 @@ fn words_of(alloc: Global, line: &str) -> Result<Vec<String>, AllocError> {
     Ok(words)
 }
 
-/// What is found behind a command that takes a sheet, and a script or none.
+/// What is found behind a command that takes a sheet, a script or none, and an option without a value.
 fn script_of<'a>(alloc: Global, words: &'a [String]) -> Result<ArgMatches<'a>, Refusal> {
-    let arguments = [Argument::Word("sheet"), Argument::Optional("script")];
+    let arguments = [
+        Argument::Word("sheet"),
+        Argument::Optional("script"),
+        Argument::Flag("dry"),
+    ];
     read_arguments(alloc, "create", &arguments, words)
 }
 
@@ -36,8 +40,8 @@ enum Read {
     Sql(&'static str),
     Ask(&'static str),
     NoQuery,
-    /// The script, where there is one.
-    Script(Option<&'static str>),
+    /// The script, where there is one, and whether the option was given.
+    Script(Option<&'static str>, bool),
     NoScript,
     Seed(u32),
     NoSeed,
@@ -77,7 +81,8 @@ fn is_script(alloc: Global, words: &[String], want: &Read) -> bool {
     match script_of(alloc, words) {
         Ok(found) => {
             let given = given_word(&found, "script");
-            matches!(want, Read::Script(name) if given == *name)
+            let is_dry = is_given(&found, "dry");
+            matches!(want, Read::Script(name, dry) if given == *name && is_dry == *dry)
         }
         Err(Refusal::Usage) => matches!(want, Read::NoScript),
         Err(_) => false,
@@ -88,7 +93,7 @@ fn are_read(alloc: Global, words: &[String], want: &Read) -> bool {
     match want {
         Read::Load(..) | Read::NoLoad => is_load(alloc, words, want),
         Read::Sql(_) | Read::Ask(_) | Read::NoQuery => is_query(alloc, words, want),
-        Read::Script(_) | Read::NoScript => is_script(alloc, words, want),
+        Read::Script(..) | Read::NoScript => is_script(alloc, words, want),
         Read::Seed(_) | Read::NoSeed => is_seed(alloc, words, want),
     }
 }
@@ -246,9 +251,15 @@ fn reads_one_of_two(rt: HostRuntime) -> Result<(), Fail> {
 }
 
 const SCRIPTS: &[Line] = &[
-    ("a", Read::Script(None)),
-    ("a b", Read::Script(Some("b"))),
-    ("a -- -b", Read::Script(Some("-b"))),
+    ("a", Read::Script(None, false)),
+    ("a b", Read::Script(Some("b"), false)),
+    ("a -- -b", Read::Script(Some("-b"), false)),
+    ("--dry a", Read::Script(None, true)),
+    ("a b --dry", Read::Script(Some("b"), true)),
+    ("a -- --dry", Read::Script(Some("--dry"), false)),
+    ("a --dry b --dry", Read::NoScript),
+    ("a --dry=true", Read::NoScript),
+    ("--dry", Read::NoScript),
     ("", Read::NoScript),
     ("a b c", Read::NoScript),
     ("a --script b", Read::NoScript),

@@ -1,11 +1,13 @@
 //! Worked octets of a head and of rows, both ways, and each octet of them left out or changed.
 
-ghost use Rattle.field_codec.specs.Entries.{IsArchiveEntry, IsStored};
+ghost use Rattle.row_codec.specs.Rows.{IsStored};
+ghost use Rattle.field_codec.specs.Entries.{IsArchiveEntry};
 
 use crate::given::none_other;
 use arch_types::octets::Octets;
 use arch_types::row::Row;
-use field_codec::{Entry, NotAnEntry, put_row, read_entry, read_row, read_shared, write_entry};
+use field_codec::{Entry, NotAnEntry, read_entry, read_shared, write_entry};
+use row_codec::{put_row, read_row, row_len};
 use std::alloc::{AllocError, Global};
 use std::test::*;
 
@@ -108,7 +110,7 @@ fn is_row_written(alloc: Global, row: &Row, octets: &[u8]) -> bool
 {
     let mut out = Vec::new(alloc);
     match put_row(&mut out, row) {
-        Ok(()) => out.as_slice() == octets,
+        Ok(()) => out.as_slice() == octets && row_len(row) == octets.len(),
         Err(_) => false,
     }
 }
