@@ -3,6 +3,7 @@ use Rattle.std.specs.Prelude.{Bool, true, false, length, Option, Some, None}
 use Rattle.command_words.specs.Job.{Job, Load, Make}
 use Rattle.load_progress.specs.declared.watched.WatchedJobs.{WatchedJobs}
 
+-- a load without a sheet of asks answers none
 abbrev pub asks_nothing : {X : Type 0} → Option X → Bool
 asks_nothing None = true
 asks_nothing (Some sheet) = false
