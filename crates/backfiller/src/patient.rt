@@ -3,18 +3,19 @@
 ghost use Rattle.std.specs.Prelude.{◌≡◌};
 
 use crate::target::FillTarget;
-use crate::woken::{await_wakes, take_waiting};
+use crate::woken::await_wakes;
 use arch_types::inserted::Installed;
 use crossbeam_channel::Receiver;
 use refusals::Refusal;
 use std::sync::Wait;
 
-/// The most wake-ups that a begin waits for.
-const MOST: u64 = 64;
+/// How many wake-ups a begin waits for behind the first stale install: those of some intervals' batches, so that most
+/// of what is late by then grows no more.
+const FIRST: u64 = 256;
 
-/// A target whose begins wait once an install was stale: for 1, 2, 4 .. 64 wake-ups, twice as many after each stale
-/// install, until one is there. So an interval that grows while it is filled is begun about as often as its length has
-/// binary digits, and not once for each batch that comes to it.
+/// A target whose begins wait once an install was stale: for 256 wake-ups, and for four times as many after each
+/// further stale install, until one is there. Wake-ups that came while a fill was built count. So an interval that
+/// grows is begun once or twice while it does, and not once for each batch that comes to it.
 pub struct Patient<'a, T: FillTarget, R: Wait> {
     pub target: T,
     rt: &'a R,
@@ -52,7 +53,7 @@ impl<'a, T: FillTarget, R: Wait> Patient<'a, T, R> {
 /// How many wake-ups to wait for after an install that was answered so.
 fn patience_after(patience: u64, answer: &Result<Installed, Refusal>) -> u64 {
     match answer {
-        Ok(Installed::Stale { .. }) => patience.saturating_mul(2).max(1).min(MOST),
+        Ok(Installed::Stale { .. }) => patience.saturating_mul(4).max(FIRST),
         Ok(Installed::Done) | Err(_) => 0,
     }
 }
@@ -70,8 +71,6 @@ impl<'a, T: FillTarget, R: Wait> FillTarget for Patient<'a, T, R> {
 
     fn begin(&mut self) -> Result<Option<T::Task>, Refusal> {
         if self.patience > 0 {
-            // Those that have gathered tell of batches that the last fill may have seen.
-            take_waiting(self.rt, self.wakes);
             await_wakes(self.rt, self.wakes, self.patience);
         }
         self.target.begin()

@@ -36,7 +36,7 @@ pub fn work_when_woken<R: Wait, T: FillTarget, G: Gate>(
 }
 
 /// Takes the wake-ups that have gathered.
-pub(crate) fn take_waiting<R: Wait>(rt: &R, wakes: &Receiver<()>) {
+fn take_waiting<R: Wait>(rt: &R, wakes: &Receiver<()>) {
     for _ in rt.forever() {
         if wakes.try_recv(rt).is_err() {
             return;
