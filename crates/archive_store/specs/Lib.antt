@@ -22,3 +22,4 @@ pub mod Unacknowledged
 pub mod AddedFills
 pub mod Keeping
 pub mod LateFills
+pub mod Marks
