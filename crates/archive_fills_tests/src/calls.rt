@@ -44,6 +44,8 @@ pub enum Call {
     Set(i64, u16, &'static [i128]),
     /// An interval for which no set stands.
     NoSet(i64),
+    /// The intervals that have rows, each with the greatest position of its rows and the base of its last fill.
+    Marks(&'static [(i64, u64, Option<u64>)]),
     /// The front, and what a plan over a range has of each interval that the range meets.
     Plan(i64, i64, u64, &'static [Over]),
 }
@@ -90,6 +92,23 @@ fn is_reopened<D: Disk>(store: &mut Store<D>) -> bool
     ensures { GoesOnFrom store.old store.new }
 {
     store.reopen().is_ok()
+}
+
+/// Whether the intervals that have rows have these marks.
+fn has_marks<D: Disk>(
+    alloc: Global,
+    store: &Store<D>,
+    expected: &[(i64, u64, Option<u64>)],
+) -> bool {
+    let Ok(marks) = store.marks(alloc) else {
+        return false;
+    };
+    for (mark, (interval, last, base)) in marks.as_slice().iter().zip(expected) {
+        if mark.interval.0 != *interval || mark.last != *last || mark.base != *base {
+            return false;
+        }
+    }
+    marks.len() == expected.len()
 }
 
 /// Whether rows are the packets of these numbers.
@@ -253,6 +272,7 @@ fn is_answered<D: Disk>(alloc: Global, store: &mut Store<D>, call: &Call) -> boo
             has_values(alloc, store, *interval, *parameter, raws)
         }
         Call::NoSet(interval) => has_none(store, *interval),
+        Call::Marks(expected) => has_marks(alloc, store, expected),
         Call::Plan(from, to, front, parts) => shows(alloc, store, *from, *to, *front, parts),
     }
 }

@@ -246,6 +246,7 @@ const FILLED: &[Step] = &[Step::Calls(&[
     Call::Fill((0, 2, &[0]), Ok(Installed::Done)),
     Call::Fill((1, 2, &[7]), Ok(Installed::Done)),
     Call::Plan(0, 9_000_000, 2, &[Over::Set(0), Over::Set(1)]),
+    Call::Marks(&[(0, 0, Some(2)), (1, 1, Some(2))]),
 ])];
 
 /// Opened again it has the fills, until a late packet comes to one of the intervals.
@@ -292,6 +293,7 @@ const KEPT: &[Step] = &[Step::Calls(&[
     Call::Late(2, true),
     Call::Late(1, false),
     Call::Plan(9_000_000, 10_000_000, 4, &[Over::Rows(2, &[9])]),
+    Call::Marks(&[(0, 2, Some(3)), (1, 1, Some(2)), (2, 3, None)]),
 ])];
 
 /// What is done with the new archive. A function, as that of the openings.
