@@ -88,6 +88,7 @@ pub(crate) fn open_block<K: Ord + Copy, V: Copy>(
     blocks: &mut Vec<Block<K, V>>,
     spare: &mut Vec<Block<K, V>>,
     key: K,
+    near: usize,
     keep: usize,
 ) -> usize
     requires blocks { AreRisingBlocks K.cmp blocks.old.items }
@@ -97,11 +98,11 @@ pub(crate) fn open_block<K: Ord + Copy, V: Copy>(
     requires spares { HasSpares keep (excess_of keep blocks.old.items) (vec_len spare.old) }
     ensures { IsOpenFor K.cmp key keep blocks.old spare.old blocks.new spare.new result }
 {
-    let mut b = block_for(blocks.as_slice(), key);
+    let mut b = block_for(blocks.as_slice(), key, near);
     while blocks[b].len() >= CAPACITY {
         let at = split_place(blocks[b].as_slice(), key, keep);
         split(blocks, spare, b, at);
-        b = block_for(blocks.as_slice(), key);
+        b = block_for(blocks.as_slice(), key, near);
     }
     b
 }

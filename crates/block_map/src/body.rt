@@ -31,6 +31,8 @@ pub(crate) struct Body<K: Ord + Copy, V: Copy, P: SplitPolicy> {
     paid: usize,
     /// How many more entries go in without memory.
     room: usize,
+    /// The block of the last entry that went in, or any: keys that come in order beside others mostly stay near it.
+    near: usize,
     policy: PhantomData<P>,
 }
 
@@ -88,6 +90,7 @@ impl<K: Ord + Copy, V: Copy, P: SplitPolicy> Body<K, V, P> {
             len: 0,
             paid: 0,
             room: 0,
+            near: 0,
             policy: PhantomData,
         })
     }
@@ -143,7 +146,7 @@ impl<K: Ord + Copy, V: Copy, P: SplitPolicy> Body<K, V, P> {
         ensures rising { IsRising K.cmp self.new.entries }
     {
         let spares = self.spare.len();
-        let b = open_block(&mut self.blocks, &mut self.spare, key, P::KEEP);
+        let b = open_block(&mut self.blocks, &mut self.spare, key, self.near, P::KEEP);
         self.paid -= (spares - self.spare.len()) * (CAPACITY - P::KEEP);
         let block = self.blocks[b].as_slice();
         match place_in(block, key) {
@@ -153,6 +156,7 @@ impl<K: Ord + Copy, V: Copy, P: SplitPolicy> Body<K, V, P> {
                 put(&mut self.blocks, b, at, key, value);
                 self.len += 1;
                 self.room -= 1;
+                self.near = b;
                 None
             }
         }
@@ -162,7 +166,7 @@ impl<K: Ord + Copy, V: Copy, P: SplitPolicy> Body<K, V, P> {
     pub(crate) fn get(&self, key: K) -> Option<V>
         ensures { result ≡ lookup (is_at (K.cmp key)) self.now.entries }
     {
-        value_of(self.blocks.as_slice(), key)
+        value_of(self.blocks.as_slice(), key, self.near)
     }
 
     /// Gives a key that is there another value, and answers the old one. A key that isn't there stays away.
@@ -175,7 +179,7 @@ impl<K: Ord + Copy, V: Copy, P: SplitPolicy> Body<K, V, P> {
         ensures absent { IfNone result (self.new ≡ self.old) }
         ensures rising { IsRising K.cmp self.new.entries }
     {
-        replace_value(&mut self.blocks, key, value)
+        replace_value(&mut self.blocks, key, value, self.near)
     }
 
     /// All entries, in the order of their keys.
@@ -191,7 +195,7 @@ impl<K: Ord + Copy, V: Copy, P: SplitPolicy> Body<K, V, P> {
         ensures entries { result ≡ entries_from (K.cmp key) self.now.entries }
         ensures rising { IsRising K.cmp result }
     {
-        entries_from_key(self.blocks.as_slice(), key)
+        entries_from_key(self.blocks.as_slice(), key, self.near)
     }
 }
 
@@ -207,7 +211,7 @@ impl<K: Ord + Copy, V: Copy> Body<K, V, Removable> {
         ensures absent { IfNone result (self.new ≡ self.old) }
         ensures rising { IsRising K.cmp self.new.entries }
     {
-        let b = block_for(self.blocks.as_slice(), key);
+        let b = block_for(self.blocks.as_slice(), key, self.near);
         let block = self.blocks[b].as_slice();
         match place_in(block, key) {
             Ok(at) => {
@@ -235,7 +239,7 @@ impl<K: Ord + Copy, P: SplitPolicy> Body<K, u64, P> {
         ensures rising { IsRising K.cmp self.new.entries }
     {
         let spares = self.spare.len();
-        let b = open_block(&mut self.blocks, &mut self.spare, key, P::KEEP);
+        let b = open_block(&mut self.blocks, &mut self.spare, key, self.near, P::KEEP);
         self.paid -= (spares - self.spare.len()) * (CAPACITY - P::KEEP);
         let entries = self.blocks[b].as_slice();
         match place_in(entries, key) {
@@ -249,6 +253,7 @@ impl<K: Ord + Copy, P: SplitPolicy> Body<K, u64, P> {
                 put(&mut self.blocks, b, at, key, 1);
                 self.len += 1;
                 self.room -= 1;
+                self.near = b;
                 1
             }
         }

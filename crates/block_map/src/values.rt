@@ -12,11 +12,15 @@ use crate::entries::Entries;
 use crate::search::{block_for, place_in};
 
 /// The value of a key.
-pub(crate) fn value_of<K: Ord + Copy, V: Copy>(blocks: &[Block<K, V>], key: K) -> Option<V>
+pub(crate) fn value_of<K: Ord + Copy, V: Copy>(
+    blocks: &[Block<K, V>],
+    key: K,
+    near: usize,
+) -> Option<V>
     requires { AreRisingBlocks K.cmp blocks.now }
     ensures { result ≡ lookup (is_at (K.cmp key)) (entries_of blocks.now) }
 {
-    let b = block_for(blocks, key);
+    let b = block_for(blocks, key, near);
     let block = blocks[b].as_slice();
     match place_in(block, key) {
         Ok(at) => Some(block[at].1),
@@ -29,6 +33,7 @@ pub(crate) fn replace_value<K: Ord + Copy, V: Copy>(
     blocks: &mut Vec<Block<K, V>>,
     key: K,
     value: V,
+    near: usize,
 ) -> Option<V>
     requires { AreRisingBlocks K.cmp blocks.old.items }
     ensures blocks { AreRisingBlocks K.cmp blocks.new.items }
@@ -42,7 +47,7 @@ pub(crate) fn replace_value<K: Ord + Copy, V: Copy>(
     ensures len { vec_len blocks.new ≡ vec_len blocks.old }
     ensures capacity { vec_capacity blocks.new ≡ vec_capacity blocks.old }
 {
-    let b = block_for(blocks.as_slice(), key);
+    let b = block_for(blocks.as_slice(), key, near);
     let block = blocks[b].as_slice();
     match place_in(block, key) {
         Ok(at) => {
@@ -58,12 +63,13 @@ pub(crate) fn replace_value<K: Ord + Copy, V: Copy>(
 pub(crate) fn entries_from_key<K: Ord + Copy, V: Copy>(
     blocks: &[Block<K, V>],
     key: K,
+    near: usize,
 ) -> Entries<'_, K, V>
     requires { AreRisingBlocks K.cmp blocks.now }
     ensures entries { result ≡ entries_from (K.cmp key) (entries_of blocks.now) }
     ensures rising { IsRising K.cmp result }
 {
-    let b = block_for(blocks, key);
+    let b = block_for(blocks, key, near);
     let block = blocks[b].as_slice();
     let (_, rest) = blocks.split_at(b + 1);
     match place_in(block, key) {
