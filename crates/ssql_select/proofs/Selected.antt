@@ -1,5 +1,5 @@
 -- What is selected of the rows in the bounds of a condition is all that is selected.
-use Rattle.std.proofs.Common.{◌≡◌, ◌↔◌, ℕ, ℤ, ◌+◌, ◌≤◌, List, [], ◌∷◌, ◌++◌, length, reverse, Option, Some, None, Bool, true, false, cond, refl, sym, ap, ◌∙◌, subst, arith}
+use Rattle.std.proofs.Common.{◌≡◌, ◌↔◌, ℕ, ℤ, ◌+◌, ◌≤◌, List, [], ◌∷◌, ◌++◌, length, reverse, Option, Some, None, Bool, true, false, cond, refl, sym, ap, ◌∙◌, arith}
 use Rattle.std.specs.Prelude.{filter, flat_map, Result, Ok, Err, IfOk, IfSome, Contains, int_lt}
 use Rattle.std.specs.List.{AllByRecursion}
 use Rattle.std.proofs.lemmas.Int.{ints}
@@ -21,13 +21,14 @@ use Rattle.partitions.specs.Bounds.{IsInBounds}
 use Rattle.partitions.specs.Rows.{is_of_partition, is_of_parts}
 use Rattle.partitions.proofs.Filters.{filter_swap}
 use Rattle.replay_merge.specs.Replay.{has_listed_name}
-use Rattle.replay_merge.specs.Laws.{HoldsPruned, ListedIsAmong, PrunedIsEnough}
+use Rattle.replay_merge.specs.Laws.{HoldsPruned}
+use Rattle.replay_merge.proofs.Bounds.{listed_is_among, pruned_is_enough}
 use Rattle.replay_merge.proofs.Reading.{all_both, all_pass}
 use Rattle.arch_types.specs.declared.direction.Direction.{Direction}
 use Rattle.arch_types.specs.declared.direction.Direction.TheVariants.{Ascending, Descending}
 use Rattle.ssql_conditions.specs.Formulas.{Formula}
 use Rattle.ssql_conditions.specs.ConditionBounds.{bounds_of}
-use Rattle.ssql_conditions.specs.Laws.{BoundsHold}
+use Rattle.ssql_conditions.proofs.InBounds.{in_bounds}
 use Rattle.ssql_types.specs.declared.query.TypedSelect.{TypedSelect}
 use Rattle.arch_types.specs.Directions.{in_direction, truncated}
 use Rattle.ssql_select.specs.Selection.{is_selected, selected_of, selected_rows, selection_of, IsHeld, HoldsSelected, rows_between_of, rows_looked_at, merged_between, selected_between}
@@ -83,7 +84,7 @@ module _ (bounds : Bounds) (row : Row) (is : IsInBounds bounds row.key.time row.
       let b : int_lt row.key.time bounds.to ≡ true = grind (arith, ints) in
       rw (a, b) refl
 
-module _ (hold : BoundsHold) (condition : Formula) (parts : List Partition) where
+module _ (condition : Formula) (parts : List Partition) where
   each_in_range : (rows : List Row) → AllByRecursion (IsHeld parts) (filter (is_selected condition) rows) →
       AllByRecursion (λ row. is_in_time_range (bounds_of condition).from (bounds_of condition).to row ≡ true) (filter (is_selected condition) rows)
   each_in_range [] all = tt
@@ -94,7 +95,7 @@ module _ (hold : BoundsHold) (condition : Formula) (parts : List Partition) wher
           AllByRecursion (λ row. is_in_time_range (bounds_of condition).from (bounds_of condition).to row ≡ true) (filter (is_selected condition) (row ∷ rows))
       by true e later =
           let each = rw e at all in
-          rw e (in_range (bounds_of condition) row (hold condition row each.0.clock e), later each.1)
+          rw e (in_range (bounds_of condition) row (in_bounds condition row each.0.clock e), later each.1)
       by false e later = let each = rw e at all in rw e (later each)
 
   each_in_parts : (rows : List Row) → AllByRecursion (IsHeld parts) rows → AllByRecursion (λ row. is_of_parts parts row ≡ true) rows
@@ -125,9 +126,9 @@ module _ (hold : BoundsHold) (condition : Formula) (parts : List Partition) wher
 -- ---- all tables
 
 -- what is selected in the bounds is all that is selected
-pub all_selected : BoundsHold → (statement : TypedSelect) (parts : List Partition) (history : List Row) → HoldsSelected statement parts history →
+pub all_selected : (statement : TypedSelect) (parts : List Partition) (history : List Row) → HoldsSelected statement parts history →
     truncated statement.limit (selected_between statement parts (bounds_of statement.condition).from (bounds_of statement.condition).to history) ≡ selection_of statement history
-all_selected hold statement parts history held =
+all_selected statement parts history held =
     let q = is_selected statement.condition in
     let p = is_of_parts parts in
     let from = (bounds_of statement.condition).from in
@@ -140,7 +141,7 @@ all_selected hold statement parts history held =
     ∙ filter-order rows_rank q (filter p ranges)
     ∙ ap sorted (ap (filter q) (filter_flat p (λ table. range_of table from to history) statement.sources)
     ∙ filter_flat q (λ table. filter p (range_of table from to history)) statement.sources
-    ∙ tables_selected hold statement.condition parts statement.sources history held)))
+    ∙ tables_selected statement.condition parts statement.sources history held)))
 
 -- ---- partitions in another order
 
@@ -171,13 +172,13 @@ module _ (given rising : List Partition) (same : (partition : Partition) → Con
   held_by_these (row ∷ rows) all = (record { in_parts = same_parts row ∙ all.0.in_parts; clock = all.0.clock }, held_by_these rows all.1)
 
   -- what is told of a selection over the partitions in their order
-  pub selected_told : BoundsHold → (told : Option (ℕ → List Row)) (statement : TypedSelect) (front : ℕ) (bounds : Bounds) (rows : List Row) → bounds ≡ bounds_of statement.condition →
+  pub selected_told : (told : Option (ℕ → List Row)) (statement : TypedSelect) (front : ℕ) (bounds : Bounds) (rows : List Row) → bounds ≡ bounds_of statement.condition →
       IfSome told (λ history. rows ≡ truncated statement.limit (selected_between statement rising bounds.from bounds.to (history front))) →
       IfSome told (λ history. HoldsSelected statement given (history front) → rows ≡ selection_of statement (history front))
-  selected_told hold None statement front bounds rows is got = tt
-  selected_told hold (Some history) statement front bounds rows is got = λ held.
+  selected_told None statement front bounds rows is got = tt
+  selected_told (Some history) statement front bounds rows is got = λ held.
       got ∙ ap (λ (b : Bounds). truncated statement.limit (selected_between statement rising b.from b.to (history front))) is
-      ∙ all_selected hold statement rising (history front) (held_by_these (selected_rows statement.condition statement.sources (history front)) held)
+      ∙ all_selected statement rising (history front) (held_by_these (selected_rows statement.condition statement.sources (history front)) held)
 
   same_of_tables : (from to : ℤ) (tables : List ℕ) (history : List Row) → flat_map (λ table. filter (is_of_parts rising) (range_of table from to history)) tables ≡ rows_between_of tables given from to history
   same_of_tables from to [] history = refl
@@ -216,7 +217,7 @@ module _ (r n : Row → Bool) (P : Row → Type 0) (row : Row) (rows : List Row)
   first_kept : r row ≡ true → n row ≡ true → AllByRecursion P (filter n (filter r (row ∷ rows))) → P row
   first_kept ea eb each = let two = rw (ea, eb) at each in two.0
 
-module _ (hold : BoundsHold) (listed : ListedIsAmong) (enough : PrunedIsEnough) (condition : Formula) (parts : List Partition) where
+module _ (condition : Formula) (parts : List Partition) where
   kept_held : (rows : List Row) → AllByRecursion (λ row. IsClockTime row.key.time) rows →
       AllByRecursion (λ row. is_of_parts parts row ≡ true) (filter (has_listed_name (bounds_of condition).names) (filter (is_in_time_range (bounds_of condition).from (bounds_of condition).to) rows)) →
       AllByRecursion (IsHeld parts) (filter (is_selected condition) rows)
@@ -230,9 +231,9 @@ module _ (hold : BoundsHold) (listed : ListedIsAmong) (enough : PrunedIsEnough) 
           let r = is_in_time_range (bounds_of condition).from (bounds_of condition).to in
           let n = has_listed_name (bounds_of condition).names in
           let P : Row → Type 0 = λ x. is_of_parts parts x ≡ true in
-          let is = hold condition row clocks.0 e in
+          let is = in_bounds condition row clocks.0 e in
           let a = in_range (bounds_of condition) row is in
-          let b = (listed (bounds_of condition).names row.pname).1 is.name in
+          let b = (listed_is_among (bounds_of condition).names row.pname).1 is.name in
           rw e (record { in_parts = first_kept r n P row rows a b all; clock = clocks.0 }, later (later_kept r n P row rows true true a b all))
       by false e later =
           let r = is_in_time_range (bounds_of condition).from (bounds_of condition).to in
@@ -247,7 +248,7 @@ module _ (hold : BoundsHold) (listed : ListedIsAmong) (enough : PrunedIsEnough) 
       let P : Row → Type 0 = λ row. IsClockTime row.key.time in
       let times : AllByRecursion P (table_of table history) =
       recursion_from_All P (table_of table history) (All-permutation P those (table_of table history) (order_same is_before those) (All-filter (is_in_table table) P history (All-from_recursion P history clocks))) in
-      kept_held (table_of table history) times (enough (bounds_of condition) table parts history history pruned ([], append-nil history))
+      kept_held (table_of table history) times (pruned_is_enough (bounds_of condition) table parts history history pruned ([], append-nil history))
 
   pub tables_held : (tables : List ℕ) (history : List Row) → AllByRecursion (λ row. IsClockTime row.key.time) history →
       AllByRecursion (λ table. HoldsPruned (bounds_of condition) (filter (is_in_table table) history) parts) tables → AllByRecursion (IsHeld parts) (selected_rows condition tables history)

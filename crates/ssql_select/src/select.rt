@@ -24,7 +24,6 @@ use partitions::partition::Partition;
 use replay_merge::row_source::RowSource;
 use ssql_conditions::bounds::bounds;
 use ssql_conditions::condition::Condition;
-use ssql_conditions::laws::bounds_hold;
 use ssql_conditions::truth::holds;
 use ssql_types::query::TypedSelect;
 use std::alloc::{AllocError, Global};
@@ -157,7 +156,6 @@ fn select_rows<R: RowSource, L: Ledger>(
     ensures refused { IfErr result (IsRowFault (R.state source.old) (R.state source.new)) }
     ensures source { UsedRowSource (R.state source.old) (R.state source.new) }
 {
-    bounds_hold();
     let bounds = bounds(alloc, &statement.condition)?;
     let parts = rising_once(alloc, parts)?;
     select_days(

@@ -5,7 +5,7 @@ pub returns-clause-rows : goal.returns-clause-rows
 returns-clause-rows g c =
     let told = (g.R.RowSource.state c.args.source.now).history in
     if_ok c.select_days.result _ _
-    (λ rows got. selected_told c.args.parts.now c.in_ok-parts.parts.items c.in_ok-parts.ensures.same c.bounds_hold.ensures told c.args.statement.now c.args.front c.in_ok-bounds.bounds rows.items c.in_ok-bounds.ensures got)
+    (λ rows got. selected_told c.args.parts.now c.in_ok-parts.parts.items c.in_ok-parts.ensures.same told c.args.statement.now c.args.front c.in_ok-bounds.bounds rows.items c.in_ok-bounds.ensures got)
     (rw c.as_slice.ensures.value at c.select_days.ensures.rows)
 
 pub returns-clause-steps : goal.returns-clause-steps
