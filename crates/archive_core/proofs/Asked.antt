@@ -1,18 +1,17 @@
 -- Names are texts, and the cell of a raw value that was found.
-use Rattle.std.proofs.Common.{◌≡◌, ℕ, ◌<◌, List, [], ◌∷◌, length, get_or, Bool, true, false, Option, Some, None, option_map, nat_lt, refl, sym, ◌∙◌, ap, arith}
-use Rattle.std.specs.Prelude.{◌&&◌, nat_le, position}
+use Rattle.std.proofs.Common.{◌≡◌, ℕ, ◌<◌, List, [], ◌∷◌, length, Bool, true, false, Option, option_map, sym, ◌∙◌, ap, arith}
+use Rattle.std.specs.Prelude.{◌&&◌, nat_le}
 use Rattle.std.specs.List.{list_all}
 use Rattle.std.specs.Str.{IsAscii, IsUtf8}
 use Rattle.std.proofs.lemmas.Bool.Decides.{nat_tests}
 use Rattle.std.proofs.lemmas.Str.{IsUtf8-from_ascii}
 use Rattle.std.proofs.lemmas.Str.Ascii.{IsAscii-nil, IsAscii-cons}
-use Rattle.std.proofs.lemmas.List.Sums.{position_or_len_is}
 use Rattle.text_forms.specs.Names.{is_name, is_name_octet}
 use Rattle.arch_types.specs.declared.row.Row.{Row}
 use Rattle.container_extract.specs.declared.values.RawValue.{RawValue}
 use Rattle.container_extract.specs.Extraction.{cell_at, cell_of, raw_extraction}
-use Rattle.container_extract.specs.Laws.{ValueIsCalibrated}
 use Rattle.container_extract.specs.Values.{calibrated_value, raw_among}
+use Rattle.container_extract.proofs.Extracting.{value_is_calibrated}
 use Rattle.mdb_items.specs.Database.{Database}
 
 and_both : (a b : Bool) → (a && b) ≡ true → (a ≡ true) × (b ≡ true)
@@ -40,8 +39,8 @@ name_utf8 octets h = IsUtf8-from_ascii octets (octets_ascii octets (third (nat_l
 -- ---- cells
 
 -- the cell of a row is that of the raw value, calibrated
-pub cell_is : (db : Database) (q : ℕ) (row : Row) (values : List RawValue) (o : Option RawValue) → ValueIsCalibrated → values ≡ raw_extraction db row.packet → o ≡ raw_among q values
+pub cell_is : (db : Database) (q : ℕ) (row : Row) (values : List RawValue) (o : Option RawValue) → values ≡ raw_extraction db row.packet → o ≡ raw_among q values
     → option_map (cell_at row.key) (option_map (calibrated_value db) o) ≡ cell_of db q row
-cell_is db q row values o calibrated all is =
+cell_is db q row values o all is =
     ap (λ (found : Option RawValue). option_map (cell_at row.key) (option_map (calibrated_value db) found)) (is ∙ ap (raw_among q) all)
-    ∙ ap (option_map (cell_at row.key)) (sym (calibrated db row.packet q))
+    ∙ ap (option_map (cell_at row.key)) (sym (value_is_calibrated db row.packet q))

@@ -1,5 +1,5 @@
 -- States that are alike have the same replies.
-use Rattle.std.proofs.Common.{◌≡◌, ℕ, ◌≤◌, List, [], ◌∷◌, ◌++◌, Bool, true, false, true≢false, Option, refl, sym, ◌∙◌, ap, subst}
+use Rattle.std.proofs.Common.{◌≡◌, ℕ, List, [], ◌∷◌, ◌++◌, Bool, true, false, true≢false, Option, refl, sym, ◌∙◌, ap, subst}
 use Rattle.std.specs.Prelude.{MatchOption, ⊤, if◌then◌else◌}
 use Rattle.std.specs.Option.{is_some}
 use Rattle.arch_types.specs.declared.inserted.Installed.TheVariants as became

@@ -14,7 +14,6 @@ use arch_types::direction::Direction;
 use arch_types::row::Row;
 use arch_types::steps::Steps;
 use asks::{Answer, AskRefusal, Request, range_refusal};
-use container_extract::laws::{raw_value_is_sound, value_is_calibrated};
 use container_extract::{Extractor, eng_of};
 use mdb_model::Mdb;
 use std::alloc::{AllocError, Global};
@@ -32,8 +31,6 @@ fn cell_of<L: Ledger>(
     ensures { result ≡ cell_of mdb.now number row.now }
 {
     mdb.is_sound();
-    raw_value_is_sound();
-    value_is_calibrated();
     let extracted = extractor.extract(mdb, row.packet.as_slice(), steps);
     match extracted.value(number) {
         None => None,

@@ -3,7 +3,6 @@ use Rattle.std.specs.Prelude.{take}
 use Rattle.std.proofs.Math.Seq.{take-append_seam}
 use mathlib.Core.List.{IsPrefix}
 use Rattle.arch_types.specs.declared.row.Row.{Row}
-use Rattle.mdb_items.specs.Database.{Database}
 use Rattle.history_items.specs.declared.fills.Fill.{Fill}
 use Rattle.history_items.specs.declared.items.Item.{Item}
 use Rattle.history_items.specs.Items.{items_of}
