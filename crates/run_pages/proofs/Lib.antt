@@ -1,0 +1,14 @@
+pub mod Beside
+pub mod PageSpelling
+pub mod IndexSpelling
+pub mod Joins
+pub mod OrderedRows
+pub mod Ends
+pub mod FoundPages
+pub mod RunIndex
+pub mod RunOnce
+pub mod DamageOnce
+pub mod WholePages
+pub mod Lengths
+pub mod TakenPages
+pub mod EachFile
