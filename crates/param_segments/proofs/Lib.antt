@@ -22,6 +22,7 @@ pub mod Extracted
 pub mod Known
 pub mod Decoded
 pub mod Placed
+pub mod KeyPlaces
 pub mod Asked
 pub mod SegmentValues
 pub mod ListSteps
@@ -33,3 +34,4 @@ pub mod SetRuns
 pub mod Passed
 pub mod SegmentsOfSet
 pub mod RunsComplete
+pub mod Insides

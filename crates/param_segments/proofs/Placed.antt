@@ -20,7 +20,7 @@ use Rattle.segment_codec.specs.Segment.{IsSegment}
 use Rattle.segment_codec.specs.declared.segment.Segment.{Segment}
 use Rattle.mdb_items.specs.Database.{Database}
 use Rattle.container_extract.specs.declared.values.RawValue.{RawValue}
-use Rattle.param_segments.specs.declared.row_place.RowPlace.{RowPlace}
+use Rattle.param_segments.specs.RowPlaces.{RowPlace}
 use Rattle.param_segments.specs.Cells.{AreValuesOf}
 use Rattle.param_segments.specs.Extracted.{IsSetOf}
 use Rattle.param_segments.specs.Groups.{segment_of, set_of}
@@ -37,28 +37,6 @@ next_dropped {X} xs i x lt is = drop-cons xs i x lt ∙ ap (λ (y : X). y ∷ dr
 
 pub next_taken : {X : Type 0} (xs : List X) (i : ℕ) (x : X) → i < length xs → x ≡ get_or xs i x → take (i + 1) xs ≡ take i xs ++ x ∷ []
 next_taken {X} xs i x lt is = ap (λ (k : ℕ). take k xs) (add-one i) ∙ take-suc xs i x lt ∙ ap (λ (y : X). take i xs ++ y ∷ []) (sym is)
-
--- the places of one segment more
-pub segment_more : (old new total : List RowPlace) (i : ℕ) (segments : List Segment) (s : Segment) (keys : List Key) → i < length segments → s ≡ get_or segments i s → keys ≡ s.keys → new ≡ old ++ places_in_segment i 0 keys →
-    old ++ places_from i (drop i segments) ≡ total → new ++ places_from (i + 1) (drop (i + 1) segments) ≡ total
-segment_more old new total i segments s keys lt is own more so_far =
-    let rest = places_from (i + 1) (drop (i + 1) segments) in
-    ap (λ (xs : List RowPlace). xs ++ rest) (more ∙ ap (λ (ks : List Key). old ++ places_in_segment i 0 ks) own)
-    ∙ append_assoc old (places_in_segment i 0 s.keys) rest
-    ∙ ap (λ (ss : List Segment). old ++ places_from i ss) (sym (next_dropped segments i s lt is)) ∙ so_far
-
-pub segments_end : (old total : List RowPlace) (i : ℕ) (segments : List Segment) → length segments ≤ i → old ++ places_from i (drop i segments) ≡ total → old ≡ total
-segments_end old total i segments le so_far =
-    sym (append-nil old) ∙ ap (λ (ss : List Segment). old ++ places_from i ss) (sym (drop_all i segments le)) ∙ so_far
-
--- one place more of a segment
-pub place_more : (old new total : List RowPlace) (number i : ℕ) (keys : List Key) (k : Key) → i < length keys → k ≡ get_or keys i k → (let p : RowPlace = record { key = k; segment = number; row = i } in new ≡ old ++ p ∷ []) →
-    old ++ places_in_segment number i (drop i keys) ≡ total → new ++ places_in_segment number (i + 1) (drop (i + 1) keys) ≡ total
-place_more old new total number i keys k lt is more so_far =
-    let p : RowPlace = record { key = k; segment = number; row = i } in
-    let rest = places_in_segment number (i + 1) (drop (i + 1) keys) in
-    ap (λ (xs : List RowPlace). xs ++ rest) more ∙ append_assoc old (p ∷ []) rest
-    ∙ ap (λ (ks : List Key). old ++ places_in_segment number i ks) (sym (next_dropped keys i k lt is)) ∙ so_far
 
 -- ---- the rows at the places of a segment
 
@@ -189,14 +167,6 @@ placed_keys segments places = map-map (λ (t : SetRow). t.key) (placed_row segme
 pub rise_as_rows : (segments : List Segment) (places : List RowPlace) (ts : List SetRow) → map (placed_row segments) places ≡ ts → IsStrictlySortedBy key_cmp (map (λ (t : SetRow). t.key) ts) → IsStrictlySortedBy key_cmp (map (λ (p : RowPlace). p.key) places)
 rise_as_rows segments places ts are up = subst (IsStrictlySortedBy key_cmp) (ap (map (λ (t : SetRow). t.key)) (sym are) ∙ placed_keys segments places) up
 
-pub inside_as_rows : (segments : List Segment) (e : ℕ) (n : ℤ) (places : List RowPlace) → AllByRecursion (λ (t : SetRow). interval_of e t.key.time ≡ n) (map (placed_row segments) places) → AllByRecursion (λ (p : RowPlace). interval_of e p.key.time ≡ n) places
-inside_as_rows segments e n [] all = tt
-inside_as_rows segments e n (p ∷ ps) all = (all.0, inside_as_rows segments e n ps all.1)
-
-pub inside_as_places : (segments : List Segment) (e : ℕ) (n : ℤ) (places : List RowPlace) → AllByRecursion (λ (p : RowPlace). interval_of e p.key.time ≡ n) places → AllByRecursion (λ (t : SetRow). interval_of e t.key.time ≡ n) (map (placed_row segments) places)
-inside_as_places segments e n [] all = tt
-inside_as_places segments e n (p ∷ ps) all = (all.0, inside_as_places segments e n ps all.1)
-
 -- ---- a row at a place is one of a set
 
 pub parameters_again : (ps : List ℕ) (raws : List ℤ) → length raws ≡ length ps → map (λ (v : RawValue). v.parameter) (values_from ps raws) ≡ ps
@@ -244,10 +214,3 @@ placed_is_row segments p all is =
     }
 
 -- ---- the set
-
-pub set_is : (db : Database) (e : ℕ) (n : ℤ) (segments : List Segment) (places : List RowPlace) (set : List SetRow) → set ≡ map (placed_row segments) places → AreSetRows set → AllByRecursion (λ (p : RowPlace). interval_of e p.key.time ≡ n) places → AreValuesOf db set → IsSetOf db e n set
-set_is db e n segments places set is rows inside values = record {
-  rows = rows;
-  inside = subst (AllByRecursion (λ (t : SetRow). interval_of e t.key.time ≡ n)) (sym is) (inside_as_places segments e n places inside);
-  values = values;
-}

@@ -18,10 +18,11 @@ use Rattle.arch_types.proofs.Ranks.{key_cmp_total}
 use Rattle.mdb_items.proofs.Places.{absent}
 use Rattle.segment_codec.specs.Segment.{IsSegment, most_rows}
 use Rattle.segment_codec.specs.declared.segment.Segment.{Segment}
-use Rattle.param_segments.specs.declared.row_place.RowPlace.{RowPlace}
+use Rattle.param_segments.specs.RowPlaces.{RowPlace}
+use Rattle.param_segments.specs.declared.key_place.KeyPlace.{KeyPlace}
 use Rattle.param_segments.specs.declared.runs.Runs.{Runs}
 use Rattle.param_segments.specs.RowPlaces.{IsRowPlace}
-use Rattle.param_segments.specs.Runs.{AreRuns, AreRunsOf, AreRunsSoFar, EndWith, IsLast, IsRunOf, Run, count_in_order, numbered_group, place_group, run_segments, segment_keys}
+use Rattle.param_segments.specs.Runs.{AreRuns, AreRunsOf, AreRunsSoFar, EndWith, IsLast, IsRunOf, Run, count_in_order, key_group, numbered_group, run_segments, segment_keys}
 use Rattle.param_segments.proofs.Known.{put_last}
 use Rattle.param_segments.proofs.Placed.{next_dropped}
 
@@ -205,8 +206,8 @@ runs_are segments r are = record { distinct = are.distinct; runs = (are.runs.0, 
 
 -- ---- places, one after the other
 
-abbrev numbers_at : List ℕ → List RowPlace → List ℕ
-numbers_at numbers places = map (place_group numbers) places
+abbrev numbers_at : List ℕ → List KeyPlace → List ℕ
+numbers_at numbers places = map (key_group numbers) places
 
 one_number : (seen n : ℕ) (ns : List ℕ) → n ≤ seen → count_in_order (if n == seen then seen + 1 else seen) ns ≡ count_in_order seen (n ∷ ns)
 one_number seen n ns le =
@@ -233,23 +234,10 @@ too_high seen n ns lt =
     let not_less : nat_lt n seen ≡ false = le-ltb n seen (omega (arith, lt)) in
     ap (λ (b : Bool). if b then count_in_order seen ns else (if n == seen then count_in_order (seen + 1) ns else None)) not_less ∙ ap (λ (b : Bool). if b then count_in_order (seen + 1) ns else None) (not_same n seen lt)
 
-pub next_number : (numbers : List ℕ) (places : List RowPlace) (i seen : ℕ) (p : RowPlace) → i < length places → p ≡ get_or places i p → place_group numbers p ≤ seen →
-    count_in_order (if place_group numbers p == seen then seen + 1 else seen) (numbers_at numbers (drop (i + 1) places)) ≡ count_in_order seen (numbers_at numbers (drop i places))
+pub next_number : (numbers : List ℕ) (places : List KeyPlace) (i seen : ℕ) (p : KeyPlace) → i < length places → p ≡ get_or places i p → key_group numbers p ≤ seen →
+    count_in_order (if key_group numbers p == seen then seen + 1 else seen) (numbers_at numbers (drop (i + 1) places)) ≡ count_in_order seen (numbers_at numbers (drop i places))
 next_number numbers places i seen p lt is le =
-    one_number seen (place_group numbers p) (numbers_at numbers (drop (i + 1) places)) le ∙ ap (λ (ps : List RowPlace). count_in_order seen (numbers_at numbers ps)) (sym (next_dropped places i p lt is))
-
--- ---- the first and the last of keys
-
-pub first_at : (ks : List Key) (d : Key) → 1 ≤ length ks → (rest : List Key) × (ks ≡ get_or ks 0 d ∷ rest)
-first_at [] d some = absurd (omega (arith, some))
-first_at (k ∷ ks) d some = (ks, refl)
-
-pub last_at : (ks : List Key) (n : ℕ) (d : Key) → suc n ≡ length ks → IsLast ks (get_or ks n d)
-last_at [] n d len = absurd (omega (arith, len))
-last_at (k ∷ []) zero d len = ([], refl)
-last_at (k ∷ []) (suc n) d len = absurd (omega (arith, len))
-last_at (k ∷ j ∷ ks) zero d len = absurd (omega (arith, len))
-last_at (k ∷ j ∷ ks) (suc n) d len = let rest = last_at (j ∷ ks) n d (omega (arith, len)) in (k ∷ rest.0, ap (λ (xs : List Key). k ∷ xs) rest.1)
+    one_number seen (key_group numbers p) (numbers_at numbers (drop (i + 1) places)) le ∙ ap (λ (ps : List KeyPlace). count_in_order seen (numbers_at numbers ps)) (sym (next_dropped places i p lt is))
 
 pub places_numbered : (segments : List Segment) (numbers : List ℕ) (places : List RowPlace) → length numbers ≡ length segments → AllByRecursion (IsRowPlace segments) places → AllByRecursion (λ p. p.segment < length numbers) places
 places_numbered segments numbers [] len all = tt

@@ -19,7 +19,7 @@ use Rattle.arch_types.specs.Order.{key_cmp}
 use Rattle.arch_types.proofs.InOrder.{order_same}
 use Rattle.segment_codec.specs.Segment.{IsSegment, most_rows}
 use Rattle.segment_codec.specs.declared.segment.Segment.{Segment}
-use Rattle.param_segments.specs.declared.row_place.RowPlace.{RowPlace}
+use Rattle.param_segments.specs.RowPlaces.{RowPlace}
 use Rattle.param_segments.specs.declared.runs.Runs.{Runs}
 use Rattle.param_segments.specs.Groups.{groups_of, with_group}
 use Rattle.param_segments.specs.RowPlaces.{IsRowPlace, placed_row, places_from}

@@ -7,7 +7,7 @@ use Rattle.segment_codec.specs.declared.segment.Segment.{Segment}
 use Rattle.mdb_items.specs.Database.{Database}
 use Rattle.container_extract.specs.declared.values.RawValue.{RawValue}
 use Rattle.container_extract.specs.Values.{IsRawValue}
-use Rattle.param_segments.specs.declared.row_place.RowPlace.{RowPlace}
+use Rattle.param_segments.specs.RowPlaces.{RowPlace}
 use Rattle.param_segments.specs.Cells.{AreValuesOf}
 use Rattle.param_segments.specs.Groups.{group_segments, groups_of, is_of_group, raw_columns, row_pieces, segment_of, set_of, with_raws}
 use Rattle.param_segments.specs.RowPlaces.{AreColumnsOf, IsRowPlace, IsSegmentOf, numbered_segment, placed_row, values_in_row}

@@ -21,7 +21,7 @@ use Rattle.arch_types.specs.Order.{key_cmp}
 use Rattle.octet_fields.specs.Spelling.{counted}
 use Rattle.segment_codec.specs.Segment.{IsSegment, most_rows, segment_octets}
 use Rattle.segment_codec.specs.declared.segment.Segment.{Segment}
-use Rattle.param_segments.specs.declared.row_place.RowPlace.{RowPlace}
+use Rattle.param_segments.specs.RowPlaces.{RowPlace}
 use Rattle.param_segments.specs.Groups.{Pieces, group_segments, groups_of, is_of_group, raw_columns, row_pieces, segment_of, set_of, with_group, with_next_row, with_raws}
 use Rattle.param_segments.specs.Octets.{IsSpelledSet, rows_in_octets, set_octets, starts_from}
 use Rattle.param_segments.specs.RowPlaces.{IsRowPlace, numbered_segment, placed_row, places_from, raw_in_row}
@@ -382,13 +382,3 @@ each_placed segments (p ∷ ps) sound are = (placed_is_row segments p sound are.
 
 pub placed_rows_are : (segments : List Segment) (places : List RowPlace) → AllByRecursion IsSegment segments → AllByRecursion (IsRowPlace segments) places → IsStrictlySortedBy key_cmp (map (λ (p : RowPlace). p.key) places) → AreSetRows (map (placed_row segments) places)
 placed_rows_are segments places sound placed up = record { each = each_placed segments places sound placed; rising = subst (IsStrictlySortedBy key_cmp) (sym (placed_keys segments places)) up }
-
--- the octets of segments that are those of a set spell it
-pub spelled_again : (segments : List Segment) (places : List RowPlace) (octets starts : List ℕ) → AllByRecursion IsSegment segments → AllByRecursion (IsRowPlace segments) places → IsStrictlySortedBy key_cmp (map (λ (p : RowPlace). p.key) places) →
-    set_of (map (placed_row segments) places) ≡ segments → length segments < 2 ^ 32 → octets ≡ counted w32 segment_octets segments → starts ≡ starts_from 4 segments → IsSpelledSet octets starts × (rows_in_octets octets ≡ map (placed_row segments) places)
-spelled_again segments places octets starts sound placed up again few whole begins =
-    let rows = map (placed_row segments) places in
-    let are = placed_rows_are segments places sound placed up in
-    let short : length (set_of rows) < 2 ^ 32 = subst (λ (ss : List Segment). length ss < 2 ^ 32) (sym again) few in
-    let spelled : octets ≡ set_octets rows = whole ∙ ap (counted w32 segment_octets) (sym again) ∙ sym (spelled_as_counted rows) in
-    (spelled_set rows octets starts are short spelled (begins ∙ ap (starts_from 4) (sym again)), ap rows_in_octets spelled ∙ read_again rows are short)

@@ -2,6 +2,7 @@
 use Rattle.std.specs.Prelude.{⊤, ◌≡◌, ℕ, ℤ, pos, ◌+◌, ◌<◌, Bool, true, nat_lt, List, [], ◌∷◌, ◌++◌, length, map, slice_index_or}
 use Rattle.std.specs.List.{AllByRecursion, list_all}
 use Rattle.arch_types.specs.declared.key.Key.{Key}
+use Rattle.intervals.specs.Interval.{interval_of}
 use Rattle.container_extract.specs.declared.values.RawValue.{RawValue}
 use Rattle.container_extract.specs.Values.{IsRawValue}
 use Rattle.mdb_items.specs.Database.{Database}
@@ -9,7 +10,7 @@ use Rattle.segment_codec.specs.KeyColumn.{IsKey}
 use Rattle.segment_codec.specs.Segment.{IsSegment}
 use Rattle.segment_codec.specs.declared.column_range.ColumnRange.{ColumnRange}
 use Rattle.segment_codec.specs.declared.segment.Segment.{Segment}
-use Rattle.param_segments.specs.declared.row_place.RowPlace.{RowPlace}
+use Rattle.param_segments.specs.declared.key_place.KeyPlace.{KeyPlace}
 use Rattle.param_segments.specs.Groups.{segment_of}
 use Rattle.param_segments.specs.Rows.{SetRow, set_row}
 use Rattle.param_segments.specs.Segments.{values_from}
@@ -58,6 +59,12 @@ IsSegmentOf db s = AreColumnsOf db s.parameters s.columns
 
 -- ---- places
 
+-- the place of a row in segments, and its key
+pub record RowPlace : Type 0 where
+  pub key : Key
+  pub segment : ℕ
+  pub row : ℕ
+
 -- a column's raw number in a row
 abbrev pub raw_in_row : ℕ → List ℤ → ℤ
 raw_in_row row column = slice_index_or column row (pos 0)
@@ -89,3 +96,24 @@ pub record IsRowPlace (segments : List Segment) (p : RowPlace) : Type 0 where
   pub key : IsKey p.key
   pub segment : p.segment < length segments
   pub row : p.row < length (numbered_segment segments p.segment).keys
+
+-- ---- keys, and the segments of their rows
+
+-- the key at a place
+abbrev pub place_key : KeyPlace → Key
+place_key p = record { time = p.time; seq = p.seq }
+
+-- a key of the segment with a number
+abbrev pub key_in : ℕ → Key → KeyPlace
+key_in number key = record { time = key.time; seq = key.seq; segment = number }
+
+-- the keys of segments, from a number on
+abbrev pub key_places : ℕ → List Segment → List KeyPlace
+key_places number [] = []
+key_places number (s ∷ segments) = map (key_in number) s.keys ++ key_places (number + 1) segments
+
+-- ---- times
+
+-- each row's time lies in an interval
+abbrev pub IsInside : ℕ → ℤ → Segment → Type 0
+IsInside exponent interval s = AllByRecursion (λ key. interval_of exponent key.time ≡ interval) s.keys

@@ -7,7 +7,8 @@ use Rattle.arch_types.specs.declared.key.Key.{Key}
 use Rattle.arch_types.specs.Order.{key_cmp}
 use Rattle.segment_codec.specs.Segment.{most_rows}
 use Rattle.segment_codec.specs.declared.segment.Segment.{Segment}
-use Rattle.param_segments.specs.declared.row_place.RowPlace.{RowPlace}
+use Rattle.param_segments.specs.RowPlaces.{RowPlace}
+use Rattle.param_segments.specs.declared.key_place.KeyPlace.{KeyPlace}
 use Rattle.param_segments.specs.declared.runs.Runs.{Runs}
 
 -- full segments, and the last one
@@ -56,6 +57,10 @@ count_in_order count (number ∷ numbers) =
 -- the number of the group of a place
 abbrev pub place_group : List ℕ → RowPlace → ℕ
 place_group numbers p = slice_index_or numbers p.segment 0
+
+-- the number of the group of a key
+abbrev pub key_group : List ℕ → KeyPlace → ℕ
+key_group numbers p = slice_index_or numbers p.segment 0
 
 -- ---- while segments come one after the other
 

@@ -6,10 +6,11 @@ ghost use Rattle.std.specs.List.Sorted.{IsStrictlySortedBy};
 ghost use Rattle.intervals.specs.Interval.{interval_of};
 ghost use Rattle.arch_types.specs.Order.{key_cmp};
 ghost use Rattle.container_extract.specs.Values.{IsRawValue};
-ghost use Rattle.param_segments.specs.RowPlaces.{AreRangesOf, IsRangeOf, IsSegmentOf, are_known_parameters, is_known_parameter};
+ghost use Rattle.param_segments.specs.RowPlaces.{AreRangesOf, IsInside, IsRangeOf, IsSegmentOf, are_known_parameters, is_known_parameter, place_key};
 ghost use Rattle.segment_codec.specs.Segment.{IsSegment};
 
-use crate::row_place::RowPlace;
+use crate::key_place::KeyPlace;
+use arch_types::key::Key;
 use calibration::is_in_width;
 use container_extract::values::RawValue;
 use intervals::{Exponent, Interval};
@@ -100,30 +101,44 @@ pub(crate) fn are_segments_of(mdb: &Mdb, segments: &[SegmentOutline<'_>]) -> boo
 }
 
 /// The keys rise.
-pub(crate) fn are_rising(places: &[RowPlace]) -> bool
-    ensures { IsTrue result ↔ IsStrictlySortedBy key_cmp (map (λ p. p.key) places.now) }
+pub(crate) fn are_rising(places: &[KeyPlace]) -> bool
+    ensures { IsTrue result ↔ IsStrictlySortedBy key_cmp (map place_key places.now) }
 {
     for i in 1..places.len() {
-        if places[i - 1].key >= places[i].key {
+        if places[i - 1].key() >= places[i].key() {
             return false;
         }
     }
     true
 }
 
-/// The time of a place lies in the interval.
-fn is_inside(interval: Interval, exponent: Exponent, place: &RowPlace) -> bool
-    ensures { IsTrue result ↔ (interval_of exponent place.now.key.time ≡ interval.0) }
+/// The time of a key lies in the interval.
+fn is_time_inside(interval: Interval, exponent: Exponent, key: Key) -> bool
+    ensures { IsTrue result ↔ (interval_of exponent key.time ≡ interval.0) }
 {
-    Interval::at(place.key.time, exponent) == interval
+    Interval::at(key.time, exponent) == interval
+}
+
+/// The times of a segment's rows lie in the interval: where those of its first row and its last do, as others between.
+fn is_inside(interval: Interval, exponent: Exponent, segment: &SegmentOutline<'_>) -> bool
+    requires { IsSegment segment.now }
+    ensures { IsTrue result ↔ IsInside exponent interval.0 segment.now }
+{
+    is_time_inside(interval, exponent, segment.first())
+        && is_time_inside(interval, exponent, segment.last())
 }
 
 /// The times lie in the interval.
-pub(crate) fn are_inside(interval: Interval, exponent: Exponent, places: &[RowPlace]) -> bool
-    ensures { IsTrue result ↔ AllByRecursion (λ p. interval_of exponent p.key.time ≡ interval.0) places.now }
+pub(crate) fn are_inside(
+    interval: Interval,
+    exponent: Exponent,
+    segments: &[SegmentOutline<'_>],
+) -> bool
+    requires { AllByRecursion IsSegment segments.now }
+    ensures { IsTrue result ↔ AllByRecursion (IsInside exponent interval.0) segments.now }
 {
-    for place in places {
-        if !is_inside(interval, exponent, place) {
+    for segment in segments {
+        if !is_inside(interval, exponent, segment) {
             return false;
         }
     }

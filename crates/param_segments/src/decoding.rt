@@ -1,17 +1,17 @@
-//! Reads the segments of a set, and finds their rows.
+//! Reads the segments of a set, and their keys.
 
-ghost use Rattle.std.specs.Prelude.{◌≡◌, ◌+◌, ◌<◌, ◌≤◌, ◌^◌, ◌++◌, List, drop, flat_map, length, true, IfOk, OnOk, MatchResult};
+ghost use Rattle.std.specs.Prelude.{◌≡◌, ◌+◌, ◌<◌, ◌^◌, ◌++◌, List, drop, flat_map, length, map, true, IfOk, OnOk, MatchResult};
 ghost use Rattle.std.specs.Int.{w32};
 ghost use Rattle.std.specs.List.{AllByRecursion};
 ghost use Rattle.octet_fields.specs.Spelling.{counted};
-ghost use Rattle.param_segments.specs.RowPlaces.{IsKnownSegment, are_known_parameters, places_from, places_in_segment};
+ghost use Rattle.param_segments.specs.RowPlaces.{IsKnownSegment, are_known_parameters, key_in, key_places};
 ghost use Rattle.param_segments.specs.Octets.{starts_from};
-ghost use Rattle.segment_codec.specs.Segment.{HasSegmentAt, IsSegment, most_rows, segment_octets};
+ghost use Rattle.segment_codec.specs.Segment.{HasSegmentAt, IsSegment, segment_octets};
 ghost use Rattle.octet_fields.specs.declared.fault.DecodeError.TheVariants.{OutOfMemory};
 ghost use Rattle.segment_codec.specs.declared.segment.Segment.{Segment as ASegment};
 
 use crate::asking::are_known_parameters;
-use crate::row_place::RowPlace;
+use crate::key_place::KeyPlace;
 use arch_types::key::Key;
 use mdb_model::Mdb;
 use octet_fields::{room_for, u32_at};
@@ -115,34 +115,37 @@ pub(crate) fn counted_segments<'a>(
     }
 }
 
-/// Adds the place of each row of a segment.
-fn put_places(places: &mut Vec<RowPlace>, segment: u32, keys: &[Key]) -> Result<(), AllocError>
-    requires { length keys.now ≤ most_rows }
-    ensures { OnOk result (places.new.items ≡ places.old.items ++ places_in_segment segment 0 keys.now) }
+/// Adds the keys of a segment with a number.
+fn put_keys(places: &mut Vec<KeyPlace>, segment: u32, keys: &[Key]) -> Result<(), AllocError>
+    ensures { OnOk result (places.new.items ≡ places.old.items ++ map (key_in segment) keys.now) }
 {
-    places.reserve(keys.len())?;
-    for i in 0..keys.len() {
-        places.push(RowPlace {
-            key: keys[i],
-            segment,
-            row: i as u16,
-        })?;
+    for key in keys {
+        places.push(KeyPlace::new(*key, segment))?;
     }
     Ok(())
 }
 
-/// The place of each row of segments.
-pub(crate) fn places_of(
+/// How many rows segments have.
+fn count_rows(segments: &[SegmentOutline<'_>]) -> usize {
+    let mut count: usize = 0;
+    for segment in segments {
+        count = count.saturating_add(usize::from(segment.rows()));
+    }
+    count
+}
+
+/// The keys of segments: 16 octets each, and those of one segment beside them while they are read.
+pub(crate) fn keys_of(
     alloc: Global,
     segments: &[SegmentOutline<'_>],
-) -> Result<Vec<RowPlace>, AllocError>
-    requires sound { AllByRecursion IsSegment segments.now }
-    requires few { length segments.now < 2 ^ 32 }
-    ensures { IfOk result (λ places. places.items ≡ places_from 0 segments.now) }
+) -> Result<Vec<KeyPlace>, AllocError>
+    requires { length segments.now < 2 ^ 32 }
+    ensures { IfOk result (λ places. places.items ≡ key_places 0 segments.now) }
 {
-    let mut places = Vec::new(alloc);
+    let mut places = Vec::with_capacity(alloc, count_rows(segments))?;
     for i in 0..segments.len() {
-        put_places(&mut places, i as u32, segments[i].keys())?;
+        let keys = segments[i].keys(alloc)?;
+        put_keys(&mut places, i as u32, keys.as_slice())?;
     }
     Ok(places)
 }

@@ -42,12 +42,12 @@ mod decoding;
 mod group;
 mod group_guesses;
 mod group_numbers;
+mod key_place;
 pub mod laws;
 mod plan;
 mod range_cells;
 mod raw_cell;
 mod reading;
-mod row_place;
 mod runs;
 mod set;
 

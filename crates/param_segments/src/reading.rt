@@ -1,85 +1,39 @@
 //! Reads a set back: the segments that octets spell have to be those of the set of their rows. They are asked where
 //! they stand, and nothing is built.
 
-ghost use Rattle.std.specs.Prelude.{◌≡◌, ◌<◌, ◌^◌, List, length, map, true, IfErr, IfOk, MatchResult};
+ghost use Rattle.std.specs.Prelude.{◌≡◌, ◌<◌, ◌^◌, List, length, true, IfErr, IfOk, MatchResult};
 ghost use Rattle.std.specs.List.{AllByRecursion};
 ghost use Rattle.std.specs.Int.{w32};
-ghost use Rattle.std.specs.List.Sorted.{IsPermutation, IsStrictlySortedBy};
-ghost use Rattle.intervals.specs.Interval.{interval_of};
-ghost use Rattle.arch_types.specs.Order.{key_cmp};
 ghost use Rattle.octet_fields.specs.Answers.{ReadsEach, ReadsOnly};
 ghost use Rattle.octet_fields.specs.Spelling.{counted};
 ghost use Rattle.param_segments.specs.Extracted.{IsSetOf};
 ghost use Rattle.param_segments.specs.Groups.{set_of};
 ghost use Rattle.param_segments.specs.Octets.{rows_in_octets, set_octets, starts_from};
-ghost use Rattle.param_segments.specs.RowPlaces.{IsRowPlace, IsSegmentOf, placed_row, places_from};
 ghost use Rattle.param_segments.specs.Rows.{SetRow};
+ghost use Rattle.param_segments.specs.Segments.{rows_of_segments};
 ghost use Rattle.param_segments.specs.SetSegments.{AreSetSegments};
 ghost use Rattle.segment_codec.specs.Segment.{IsSegment, segment_octets};
 ghost use Rattle.octet_fields.specs.declared.fault.DecodeError.TheVariants.{OutOfMemory};
 
-use crate::asking::{are_inside, are_rising, are_segments_of};
-use crate::decoding::{ReadSegments, counted_segments, places_of};
-use crate::row_place::RowPlace;
+use crate::asking::{are_inside, are_segments_of};
+use crate::decoding::{ReadSegments, counted_segments};
 use crate::runs::are_set_segments;
 use crate::set::SegSet;
 use arch_types::octets::Octets;
 use intervals::{Exponent, Interval};
 use mdb_model::Mdb;
-use segment_codec::{NotASegment, SegmentOutline};
-use std::alloc::{AllocError, Global};
+use segment_codec::NotASegment;
+use std::alloc::Global;
 
-/// The places of the rows of segments in the order of their keys, where they're rows of a set of the interval and the
-/// database.
-fn sorted_places(
-    alloc: Global,
-    interval: Interval,
-    exponent: Exponent,
-    segments: &[SegmentOutline<'_>],
-    mdb: &Mdb,
-) -> Result<Vec<RowPlace>, NotASegment>
-    requires sound { AllByRecursion IsSegment segments.now }
-    requires few { length segments.now < 2 ^ 32 }
-    ensures placed { IfOk result (λ places. AllByRecursion (IsRowPlace segments.now) places.items) }
-    ensures whole { IfOk result (λ places. IsPermutation (places_from 0 segments.now) places.items) }
-    ensures rising { IfOk result (λ places. IsStrictlySortedBy key_cmp (map (λ p. p.key) places.items)) }
-    ensures inside { IfOk result (λ places. AllByRecursion
-        (λ p. interval_of exponent p.key.time ≡ interval.0) places.items) }
-    ensures values { IfOk result (λ _. AllByRecursion (IsSegmentOf mdb.now) segments.now) }
-    ensures each { (rows : List SetRow) → IsSetOf mdb.now exponent interval.0 rows → segments.now ≡ set_of rows →
-        MatchResult result (λ places. map (placed_row segments.now) places.items ≡ rows) (λ e. e ≡ OutOfMemory) }
-{
-    // by columns, along which the parameter and its width stay the same
-    if !are_segments_of(mdb, segments) {
-        return Err(NotASegment::Malformed);
-    }
-    let mut places = places_of(alloc, segments)?;
-    places.sort()?;
-    if !are_rising(&places) {
-        return Err(NotASegment::Malformed);
-    }
-    if !are_inside(interval, exponent, &places) {
-        return Err(NotASegment::Malformed);
-    }
-    Ok(places)
-}
-
-/// The set over octets of the rows at places of the segments that were read, which are all of their rows: where
-/// segments are those of a set, and octets end with them (D-164).
-fn set_over(
-    alloc: Global,
-    octets: &Octets,
-    read: ReadSegments<'_>,
-    places: &[RowPlace],
-) -> Result<SegSet, NotASegment>
+/// The set over octets of the rows of the segments that were read: where segments are those of a set, and octets end
+/// with them (D-164).
+fn set_over(alloc: Global, octets: &Octets, read: ReadSegments<'_>) -> Result<SegSet, NotASegment>
     requires sound { AllByRecursion IsSegment read.segments.items }
     requires few { length read.segments.items < 2 ^ 32 }
     requires spelled { read.end ≡ length octets.now → octets.now ≡ counted w32 segment_octets read.segments.items }
     requires starts { read.starts.items ≡ starts_from 4 read.segments.items }
-    requires placed { AllByRecursion (IsRowPlace read.segments.items) places.now }
-    requires whole { IsPermutation (places_from 0 read.segments.items) places.now }
-    requires rising { IsStrictlySortedBy key_cmp (map (λ p. p.key) places.now) }
-    ensures set { IfOk result (λ set. set ≡ map (placed_row read.entry.segments.items) places.now) }
+    ensures set { IfOk result (λ set. set ≡ rows_of_segments read.entry.segments.items) }
+    ensures segments { IfOk result (λ _. AreSetSegments read.entry.segments.items) }
     ensures spelled { IfOk result (λ set. octets.now ≡ set_octets set) }
     ensures each { read.entry.end ≡ length octets.now → AreSetSegments read.entry.segments.items →
         IfErr result (λ e. e ≡ OutOfMemory) }
@@ -92,7 +46,7 @@ fn set_over(
     if end != octets.len() {
         return Err(NotASegment::Malformed);
     }
-    if !are_set_segments(alloc, &segments, places)? {
+    if !are_set_segments(alloc, &segments)? {
         return Err(NotASegment::Malformed);
     }
     let own = octets.copy()?;
@@ -118,9 +72,14 @@ fn set_of_read(
         read.entry.segments.items ≡ set_of rows → read.entry.end ≡ length octets.now →
         MatchResult result (λ set. set ≡ rows) (λ e. e ≡ OutOfMemory) }
 {
-    let places = sorted_places(alloc, interval, exponent, &read.segments, mdb)?;
-    let set = set_over(alloc, octets, read, &places)?;
-    Ok(set)
+    // by columns, along which the parameter and its width stay the same
+    if !are_segments_of(mdb, &read.segments) {
+        return Err(NotASegment::Malformed);
+    }
+    if !are_inside(interval, exponent, &read.segments) {
+        return Err(NotASegment::Malformed);
+    }
+    set_over(alloc, octets, read)
 }
 
 /// A set may have these octets: the places where its segments begin are u32.
@@ -154,7 +113,7 @@ impl SegSet {
     /// The set of an interval and a database that all of the octets spell.
     ///
     /// Any octets may be given: those of rows in the interval whose values are the database's are accepted, and no
-    /// others. Room is made for the keys of rows and their places, and for two values a column; no value is kept. A set
+    /// others. Room is made for 16 octets a row, and for two values a column; no value is kept. A set
     /// of 2^32 octets or more is OutOfMemory.
     pub fn from_bytes(
         alloc: Global,

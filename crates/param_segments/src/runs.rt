@@ -1,21 +1,20 @@
 //! Whether segments stand as those of a set: the rows of each group in full segments but for the last, and groups in the
 //! order of their first rows. Then the set of their rows is spelled as they are, and nothing has to be built again.
 
-ghost use Rattle.std.specs.Prelude.{◌≡◌, ◌+◌, ◌<◌, ◌≤◌, ◌↔◌, ◌++◌, ◌∷◌, [], List, length, map, nat_eq, if◌then◌else◌, ◌==◌, None, Some, false, true, IfOk, IfSome, OnOk};
+ghost use Rattle.std.specs.Prelude.{◌≡◌, ◌+◌, ◌<◌, ◌^◌, ◌↔◌, ◌++◌, ◌∷◌, [], List, length, map, nat_eq, if◌then◌else◌, ◌==◌, None, Some, false, true, IfOk, IfSome, IsTrue, OnOk};
 ghost use Rattle.std.specs.List.{AllByRecursion, position};
-ghost use Rattle.std.specs.List.Sorted.{IsPermutation, IsStrictlySortedBy};
 ghost use Rattle.std.specs.Ordering.{is_lt};
 ghost use lib.Pointwise.{pointwise};
 ghost use Rattle.arch_types.specs.Order.{key_cmp};
 ghost use Rattle.segment_codec.specs.Segment.{IsSegment, most_rows};
 ghost use Rattle.segment_codec.specs.declared.segment.Segment.{Segment as ASegment};
-ghost use Rattle.param_segments.specs.Groups.{set_of};
-ghost use Rattle.param_segments.specs.RowPlaces.{IsRowPlace, placed_row, places_from};
-ghost use Rattle.param_segments.specs.Runs.{AreRunsSoFar, IsLast, count_in_order, place_group};
+ghost use Rattle.param_segments.specs.Runs.{AreRunsSoFar, IsLast, count_in_order, key_group};
 ghost use Rattle.param_segments.specs.SetSegments.{AreSetSegments};
 
+use crate::asking::are_rising;
+use crate::decoding::keys_of;
 use crate::group_numbers::GroupNumbers;
-use crate::row_place::RowPlace;
+use crate::key_place::KeyPlace;
 use arch_types::key::Key;
 use segment_codec::{MOST_ROWS, SegmentOutline};
 use std::alloc::{AllocError, Global};
@@ -35,20 +34,20 @@ pub struct Runs {
     pub last: Key,
 }
 
-/// The last of some keys.
-fn last_key(keys: &[Key]) -> Key
-    requires { 1 ≤ length keys.now }
-    ensures { IsLast keys.now result }
+/// The key of a segment's last row.
+fn last_key(segment: &SegmentOutline<'_>) -> Key
+    requires { IsSegment segment.now }
+    ensures { IsLast segment.now.keys result }
 {
-    keys[keys.len() - 1]
+    segment.last()
 }
 
-/// The first of some keys.
-fn first_key(keys: &[Key]) -> Key
-    requires { 1 ≤ length keys.now }
-    ensures { (rest : List Key) × (keys.now ≡ result ∷ rest) }
+/// The key of a segment's first row.
+fn first_key(segment: &SegmentOutline<'_>) -> Key
+    requires { IsSegment segment.now }
+    ensures { (rest : List Key) × (segment.now.keys ≡ result ∷ rest) }
 {
-    keys[0]
+    segment.first()
 }
 
 /// A segment of the group with a number goes on with the last one: it's of the last group, behind a full segment, and
@@ -84,17 +83,17 @@ impl Runs {
     }
 
     /// Takes a segment of the group with a number.
-    fn take(&mut self, number: usize, keys: &[Key]) -> Result<(), AllocError>
-        requires { 1 ≤ length keys.now }
+    fn take(&mut self, number: usize, segment: &SegmentOutline<'_>) -> Result<(), AllocError>
+        requires { IsSegment segment.now }
         ensures groups { self.new.groups ≡ self.old.groups }
         ensures count { self.new.count ≡ self.old.count }
         ensures numbers { OnOk result (self.new.numbers.items ≡ self.old.numbers.items ++ number ∷ []) }
-        ensures rows { OnOk result (self.new.rows ≡ length keys.now) }
-        ensures last { OnOk result (IsLast keys.now self.new.last) }
+        ensures rows { OnOk result (self.new.rows ≡ length segment.now.keys) }
+        ensures last { OnOk result (IsLast segment.now.keys self.new.last) }
     {
         self.numbers.push(number)?;
-        self.rows = keys.len();
-        self.last = last_key(keys);
+        self.rows = usize::from(segment.rows());
+        self.last = last_key(segment);
         Ok(())
     }
 
@@ -112,7 +111,7 @@ impl Runs {
         let parameters = Vec::from_slice(alloc, segment.parameters())?;
         self.groups.add(parameters)?;
         self.count = count;
-        self.take(number, segment.keys())
+        self.take(number, segment)
     }
 
     /// Takes a segment behind the others, where it may stand there, and tells whether it may.
@@ -129,11 +128,10 @@ impl Runs {
                 Ok(true)
             }
             Some(number) => {
-                let keys = segment.keys();
-                if !goes_on(self, number, first_key(keys)) {
+                if !goes_on(self, number, first_key(segment)) {
                     return Ok(false);
                 }
-                self.take(number, keys)?;
+                self.take(number, segment)?;
                 Ok(true)
             }
         }
@@ -163,11 +161,11 @@ fn seen_with(seen: usize, number: usize) -> usize
     if number == seen { seen + 1 } else { seen }
 }
 
-/// Whether so many groups come in the order of their numbers, where rows stand at places.
-fn come_in_order(numbers: &[usize], count: usize, places: &[RowPlace]) -> bool
+/// Whether so many groups come in the order of their numbers, where keys stand in segments.
+fn come_in_order(numbers: &[usize], count: usize, places: &[KeyPlace]) -> bool
     requires placed { AllByRecursion (λ p. p.segment < length numbers.now) places.now }
     requires within { AllByRecursion (λ number. number < count) numbers.now }
-    ensures { result ≡ true ↔ (count_in_order 0 (map (place_group numbers.now) places.now) ≡ Some count) }
+    ensures { result ≡ true ↔ (count_in_order 0 (map (key_group numbers.now) places.now) ≡ Some count) }
 {
     let mut seen = 0;
     for place in places {
@@ -180,21 +178,22 @@ fn come_in_order(numbers: &[usize], count: usize, places: &[RowPlace]) -> bool
     seen == count
 }
 
-/// Whether segments are those of the set of their rows, which stand at places in the order of their keys.
+/// Whether segments are those of the set of their rows.
 pub(crate) fn are_set_segments(
     alloc: Global,
     segments: &[SegmentOutline<'_>],
-    places: &[RowPlace],
 ) -> Result<bool, AllocError>
     requires sound { AllByRecursion IsSegment segments.now }
-    requires placed { AllByRecursion (IsRowPlace segments.now) places.now }
-    requires whole { IsPermutation (places_from 0 segments.now) places.now }
-    requires rising { IsStrictlySortedBy key_cmp (map (λ p. p.key) places.now) }
-    ensures same { IfOk result (λ are. are ≡ true → set_of (map (placed_row segments.now) places.now) ≡ segments.now) }
-    ensures each { IfOk result (λ are. AreSetSegments segments.now → are ≡ true) }
+    requires few { length segments.now < 2 ^ 32 }
+    ensures { IfOk result (λ are. IsTrue are ↔ AreSetSegments segments.now) }
 {
-    match runs_of(alloc, segments)? {
-        None => Ok(false),
-        Some(runs) => Ok(come_in_order(&runs.numbers, runs.count, places)),
+    let Some(runs) = runs_of(alloc, segments)? else {
+        return Ok(false);
+    };
+    let mut places = keys_of(alloc, segments)?;
+    places.sort_unstable();
+    if !are_rising(&places) {
+        return Ok(false);
     }
+    Ok(come_in_order(&runs.numbers, runs.count, &places))
 }

@@ -1,7 +1,7 @@
 -- The range of a column, and the outline of a segment, are read as the column and the segment are.
-use Rattle.std.proofs.Common.{◌≡◌, ◌∙◌, ℕ, zero, suc, ℤ, pos, ◌+◌, ◌-◌, ◌≤◌, ◌^◌, Bool, true, false, cond, eqb, ◌&&◌, List, [], ◌∷◌, length, drop, Option, Some, None, FitsSigned, inl, refl, sym, ap, subst, arith}
-use Rattle.std.specs.Prelude.{◌+ℤ◌, ◌-ℤ◌, ◌≤ℤ◌, fold, int_lt, map, max, replicate}
-use Rattle.std.specs.Int.{w8, w128, int_max, int_min}
+use Rattle.std.proofs.Common.{◌≡◌, ◌∙◌, ℕ, zero, suc, ℤ, pos, ◌+◌, ◌-◌, ◌<◌, ◌≤◌, ◌^◌, Bool, true, false, cond, eqb, ◌&&◌, List, [], ◌∷◌, ◌++◌, append_assoc, length, drop, Option, Some, None, FitsSigned, inl, refl, sym, ap, subst, arith}
+use Rattle.std.specs.Prelude.{◌+ℤ◌, ◌-ℤ◌, ◌≤ℤ◌, flat_map, fold, int_lt, map, max, replicate}
+use Rattle.std.specs.Int.{w8, w16, w128, int_max, int_min}
 use Rattle.std.specs.Int.RustNames.{unsigned_abs}
 use Rattle.std.specs.List.{list_any}
 use Rattle.std.proofs.lemmas.Bool.{le-leb, lt-ltb}
@@ -10,21 +10,28 @@ use Rattle.octet_fields.specs.declared.fault.DecodeError.{DecodeError}
 use Rattle.octet_fields.specs.declared.fault.DecodeError.TheVariants as errors
 use Rattle.octet_fields.specs.Answers.{Fails}
 use Rattle.octet_fields.specs.Exact.{IsOctets}
-use Rattle.octet_fields.specs.Reading.{Reader, ◌>>=◌, both_at, mapped_at, number_at, signed_at, tested_at, times_at}
+use Rattle.octet_fields.specs.Spelling.{counted, number}
+use Rattle.octet_fields.specs.Reading.{Reader, ◌>>=◌, both_at, counted_at, mapped_at, number_at, signed_at, tested_at, times_at}
 use Rattle.octet_fields.proofs.Exact.{bind_some, some_is}
+use Rattle.octet_fields.proofs.Numbers.{exact16, exact_counted16}
+use Rattle.octet_fields.proofs.Times.{with_front}
 use Rattle.arch_types.specs.declared.key.Key.{Key}
 use Rattle.segment_codec.specs.Bits.{packed_at}
-use Rattle.segment_codec.specs.KeyColumn.{keys_at}
-use Rattle.segment_codec.specs.Outline.{front_segment, outline, outline_at, outline_of, range_at, range_of, scanned, segment_read, value_range, varied_range_at}
-use Rattle.segment_codec.specs.RawColumn.{ColumnParts, bit_len, column_parts_at, greatest, is_tight, is_width, raw_column_at, same_at, unpacked, value_above, values_of_parts}
-use Rattle.segment_codec.specs.Segment.{HasSegmentAt, SegmentParts, parameters_at, row_count_at, segment_at, segment_octets, segment_of_parts}
+use Rattle.segment_codec.specs.KeyColumn.{first_key_at, key_after_at, key_column, keys_after_at, keys_at}
+use Rattle.segment_codec.specs.Outline.{IsOutlineOf, front_segment, key_ends, keys_of, last_of, outline, outline_at, outline_of, range_at, range_of, scanned, segment_read, value_range, varied_range_at}
+use Rattle.segment_codec.specs.RawColumn.{ColumnParts, bit_len, column_parts_at, greatest, is_tight, is_width, raw_column, raw_column_at, same_at, unpacked, value_above, values_of_parts}
+use Rattle.segment_codec.specs.Segment.{HasSegmentAt, IsSegment, SegmentParts, parameters_at, row_count_at, segment_at, segment_octets, segment_of_parts}
 use Rattle.segment_codec.specs.declared.column_range.ColumnRange.{ColumnRange}
 use Rattle.segment_codec.specs.declared.column_range.Scanned.{Scanned}
+use Rattle.segment_codec.specs.declared.key_column.KeyEnds.{KeyEnds}
 use Rattle.segment_codec.specs.declared.outline.OutlineParts.{OutlineParts}
 use Rattle.segment_codec.specs.declared.segment.Segment.{Segment}
 use Rattle.segment_codec.specs.declared.unpack.Unpacked.{Unpacked}
 use Rattle.segment_codec.proofs.Columns.{all_same, and_true, any_among, fits_between, high_of, least_is, raised_above, refl_le, tight_as, value_fits}
+use Rattle.segment_codec.proofs.Keys.{in_order_rise}
+use Rattle.segment_codec.proofs.Looping.{keys_done, keys_ended, keys_more, keys_none, keys_start}
 use Rattle.segment_codec.proofs.Places.{read_at, stands_at}
+use Rattle.segment_codec.proofs.Segments.{keys_exact, row_count_exact, true_rows}
 
 -- ---- what is kept of numbers
 
@@ -186,10 +193,35 @@ segment_by octets r1 r2 r3 r4 parameters rows keys columns a b c d = rw (a, b, c
 ranges_read : (rows n : ℕ) (octets rest : List ℕ) (columns : List (List ℤ)) → times_at (raw_column_at rows) n octets ≡ Some (columns, rest) → times_at (range_at rows) n octets ≡ Some (map range_of columns, rest)
 ranges_read rows n octets rest columns e = ranges_mapped rows n octets ∙ rw e refl
 
-outline_by : (octets r1 r2 r3 r4 : List ℕ) (parameters : List ℕ) (rows : ℕ) (keys : List Key) (ranges : List ColumnRange) → parameters_at octets ≡ Some (parameters, r1) → row_count_at r1 ≡ Some (rows, r2) → keys_at rows r2 ≡ Some (keys, r3) →
-    times_at (range_at rows) (length parameters) r3 ≡ Some (ranges, r4) → outline_at octets ≡ Some (outline parameters keys ranges, r4)
+outline_by : (octets r1 r2 r3 r4 : List ℕ) (parameters : List ℕ) (rows : ℕ) (ends : KeyEnds) (ranges : List ColumnRange) → parameters_at octets ≡ Some (parameters, r1) → row_count_at r1 ≡ Some (rows, r2) → mapped_at key_ends (keys_at rows) r2 ≡ Some (ends, r3) →
+    times_at (range_at rows) (length parameters) r3 ≡ Some (ranges, r4) → outline_at octets ≡ Some (outline parameters rows ends ranges, r4)
 unfolding outline_at
-outline_by octets r1 r2 r3 r4 parameters rows keys ranges a b c d = rw (a, b, c, d) refl
+outline_by octets r1 r2 r3 r4 parameters rows ends ranges a b c d = rw (a, b, c, d) refl
+
+ends_read : (rows : ℕ) (octets rest : List ℕ) (keys : List Key) → keys_at rows octets ≡ Some (keys, rest) → mapped_at key_ends (keys_at rows) octets ≡ Some (key_ends keys, rest)
+ends_read rows octets rest keys e = rw e refl
+
+-- so many keys are read
+keys_after_len : (n : ℕ) (last : Key) (octets : List ℕ) (x : List Key × List ℕ) → keys_after_at n last octets ≡ Some x → length x.0 ≡ n
+keys_after_len zero last octets x e =
+    let made : List Key × List ℕ = ([], octets) in
+    ap (λ (y : List Key × List ℕ). length y.0) (sym (some_is made x e))
+keys_after_len (suc n) last octets x e =
+    let p = bind_some (key_after_at last octets) (λ k. keys_after_at n k.0 k.1 >>= λ more. Some (k.0 ∷ more.0, more.1)) x e in
+    let q = bind_some (keys_after_at n p.0.0 p.0.1) (λ more. Some (p.0.0 ∷ more.0, more.1)) x p.2 in
+    let made : List Key × List ℕ = (p.0.0 ∷ q.0.0, q.0.1) in
+    ap (λ (y : List Key × List ℕ). length y.0) (sym (some_is made x q.2)) ∙ ap suc (keys_after_len n p.0.0 p.0.1 q.0 q.1)
+
+keys_len : (n : ℕ) (octets : List ℕ) (x : List Key × List ℕ) → keys_at n octets ≡ Some x → length x.0 ≡ n
+unfolding keys_at
+keys_len zero octets x e = absurd cc
+keys_len (suc n) octets x e =
+    let m = bind_some (both_at first_key_at (λ key. keys_after_at n key) octets) (λ a. Some (a.0.0 ∷ a.0.1, a.1)) x e in
+    let p = bind_some (first_key_at octets) _ m.0 m.1 in
+    let q = bind_some (keys_after_at n p.0.0 p.0.1) _ m.0 p.2 in
+    let first : (Key × List Key) × List ℕ = ((p.0.0, q.0.0), q.0.1) in
+    let made : List Key × List ℕ = (m.0.0.0 ∷ m.0.0.1, m.0.1) in
+    ap (λ (y : List Key × List ℕ). length y.0) (sym (some_is made x m.2)) ∙ ap (λ (y : (Key × List Key) × List ℕ). suc (length y.0.1)) (sym (some_is first m.0 q.2)) ∙ ap suc (keys_after_len n p.0.0 p.0.1 q.0 q.1)
 
 -- where an outline was read a segment is, and it is the segment's
 pub outlined : (octets rest : List ℕ) (x : OutlineParts) → outline_at octets ≡ Some (x, rest) → (s : Segment) × (segment_at octets ≡ Some (s, rest)) × (x ≡ outline_of s)
@@ -197,17 +229,25 @@ unfolding outline_at
 outlined octets rest x e =
     let p = bind_some (parameters_at octets) _ (x, rest) e in
     let q = bind_some (row_count_at p.0.1) _ (x, rest) p.2 in
-    let r = bind_some (keys_at q.0.0 q.0.1) _ (x, rest) q.2 in
-    let t = bind_some (times_at (range_at q.0.0) (length p.0.0) r.0.1) _ (x, rest) r.2 in
-    let made : OutlineParts × List ℕ = (outline p.0.0 r.0.0 t.0.0, t.0.1) in
+    let ends = bind_some (mapped_at key_ends (keys_at q.0.0) q.0.1) _ (x, rest) q.2 in
+    let t = bind_some (times_at (range_at q.0.0) (length p.0.0) ends.0.1) _ (x, rest) ends.2 in
+    let made : OutlineParts × List ℕ = (outline p.0.0 q.0.0 ends.0.0 t.0.0, t.0.1) in
     let same = some_is made (x, rest) t.2 in
-    let c = bind_some (times_at (raw_column_at q.0.0) (length p.0.0) r.0.1) (λ y. Some (map range_of y.0, y.1)) t.0 (sym (ranges_mapped q.0.0 (length p.0.0) r.0.1) ∙ t.1) in
+    let r = bind_some (keys_at q.0.0 q.0.1) (λ y. Some (key_ends y.0, y.1)) ends.0 ends.1 in
+    let both : KeyEnds × List ℕ = (key_ends r.0.0, r.0.1) in
+    let walked = some_is both ends.0 r.2 in
+    let behind : r.0.1 ≡ ends.0.1 = ap (λ (y : KeyEnds × List ℕ). y.1) walked in
+    let c = bind_some (times_at (raw_column_at q.0.0) (length p.0.0) r.0.1) (λ y. Some (map range_of y.0, y.1)) t.0 (sym (ranges_mapped q.0.0 (length p.0.0) r.0.1) ∙ ap (times_at (range_at q.0.0) (length p.0.0)) behind ∙ t.1) in
     let columns : List ColumnRange × List ℕ = (map range_of c.0.0, c.0.1) in
     let seen = some_is columns t.0 c.2 in
     let s = segment_with p.0.0 r.0.0 c.0.0 in
     let read : segment_at octets ≡ Some (s, c.0.1) = segment_by octets p.0.1 q.0.1 r.0.1 c.0.1 p.0.0 q.0.0 r.0.0 c.0.0 p.1 q.1 r.1 c.1 in
     let end : c.0.1 ≡ rest = ap (λ (y : List ColumnRange × List ℕ). y.1) seen ∙ ap (λ (y : OutlineParts × List ℕ). y.1) same in
-    (s, read ∙ ap (λ (o : List ℕ). Some (s, o)) end, sym (ap (λ (rs : List ColumnRange). outline p.0.0 r.0.0 rs) (ap (λ (y : List ColumnRange × List ℕ). y.0) seen) ∙ ap (λ (y : OutlineParts × List ℕ). y.0) same))
+    let rows : length r.0.0 ≡ q.0.0 = keys_len q.0.0 q.0.1 r.0 r.1 in
+    let whole : outline_of s ≡ outline p.0.0 q.0.0 ends.0.0 t.0.0 =
+    ap (λ (n : ℕ). outline p.0.0 n (key_ends r.0.0) (map range_of c.0.0)) rows ∙ ap (λ (y : KeyEnds × List ℕ). outline p.0.0 q.0.0 y.0 (map range_of c.0.0)) walked
+    ∙ ap (λ (y : List ColumnRange × List ℕ). outline p.0.0 q.0.0 ends.0.0 y.0) seen in
+    (s, read ∙ ap (λ (o : List ℕ). Some (s, o)) end, sym (whole ∙ ap (λ (y : OutlineParts × List ℕ). y.0) same))
 
 -- the outline of a segment is read where the segment is
 pub outline_read : (octets rest : List ℕ) (s : Segment) → segment_at octets ≡ Some (s, rest) → outline_at octets ≡ Some (outline_of s, rest)
@@ -233,19 +273,78 @@ outline_read octets rest s e =
     ∙ ap (λ (y : (ℕ × (List Key × List (List ℤ))) × List ℕ). let z : Segment × List ℕ = (segment_of_parts (p.0.0, y.0), y.1) in z) e2
     ∙ ap (λ (y : SegmentParts × List ℕ). let z : Segment × List ℕ = (segment_of_parts y.0, y.1) in z) e3 ∙ e4 in
     let ranges = ranges_read q.0.0 (length p.0.0) r.0.1 t.0.1 t.0.0 t.1 in
-    let read : outline_at octets ≡ Some (outline p.0.0 r.0.0 (map range_of t.0.0), t.0.1) = outline_by octets p.0.1 q.0.1 r.0.1 t.0.1 p.0.0 q.0.0 r.0.0 (map range_of t.0.0) p.1 q.1 r.1 ranges in
-    read ∙ ap (λ (y : Segment × List ℕ). Some (outline_of y.0, y.1)) whole
+    let rows : q.0.0 ≡ length r.0.0 = sym (keys_len q.0.0 q.0.1 r.0 r.1) in
+    let read : outline_at octets ≡ Some (outline p.0.0 q.0.0 (key_ends r.0.0) (map range_of t.0.0), t.0.1) =
+    outline_by octets p.0.1 q.0.1 r.0.1 t.0.1 p.0.0 q.0.0 (key_ends r.0.0) (map range_of t.0.0) p.1 q.1 (ends_read q.0.0 q.0.1 r.0.1 r.0.0 r.1) ranges in
+    read ∙ ap (λ (n : ℕ). Some (outline p.0.0 n (key_ends r.0.0) (map range_of t.0.0), t.0.1)) rows ∙ ap (λ (y : Segment × List ℕ). Some (outline_of y.0, y.1)) whole
 
 -- ---- at a place
 
 -- the outline that was read is that of the segment at the front, which stands there, and ends where the rest begins
 pub outline_stands : (octets front : List ℕ) (at : ℕ) (x : OutlineParts) (rest : List ℕ) → at ≤ length octets → IsOctets octets → front ≡ drop at octets → outline_at front ≡ Some (x, rest) →
-    (x ≡ outline_of (front_segment front)) × HasSegmentAt octets at (front_segment front) × (length octets - length rest ≡ at + length (segment_octets (front_segment front))) × (length rest ≤ length octets)
+    IsOutlineOf x front × HasSegmentAt octets at (front_segment front) × (length octets - length rest ≡ at + length (segment_octets (front_segment front))) × (length rest ≤ length octets)
 outline_stands octets front at x rest le are is read =
     let o = outlined front rest x read in
     let t = stands_at octets front at o.0 rest le are is o.1 in
-    subst (λ (s : Segment). (x ≡ outline_of s) × HasSegmentAt octets at s × (length octets - length rest ≡ at + length (segment_octets s)) × (length rest ≤ length octets))
-    (sym (ap segment_read o.1)) (o.2, t.0, t.1, t.2)
+    let same : front_segment front ≡ o.0 = ap segment_read o.1 in
+    let there : HasSegmentAt octets at (front_segment front) = subst (HasSegmentAt octets at) (sym same) t.0 in (
+      record { parts = o.2 ∙ ap outline_of (sym same); stands = (there.0, there.1, is ∙ there.2) },
+      there,
+      t.1 ∙ ap (λ (s : Segment). at + length (segment_octets s)) (sym same),
+      t.2,
+    )
+
+-- ---- the keys of a segment
+
+keys_of_segment : (s : Segment) (rest : List ℕ) → IsSegment s → keys_of (segment_octets s ++ rest) ≡ Some s.keys
+unfolding keys_of segment_octets
+keys_of_segment s rest is =
+    let ps = s.parameters in
+    let n = length s.keys in
+    let few = is.few_rows in
+    let columns = flat_map raw_column s.columns in
+    let tail = key_column s.keys ++ columns in
+    let a2 = append_assoc (key_column s.keys) columns rest in
+    let a1 = append_assoc (number w16 n) tail rest in
+    let a0 = append_assoc (counted w16 (number w16) ps) (number w16 n ++ tail) rest in
+    let parameters = (exact_counted16 exact16).again ps ((number w16 n ++ tail) ++ rest) tt (is.few_parameters, is.parameters) in
+    let rows = row_count_exact.again n (tail ++ rest) tt (omega arith, true_rows n is.some_rows is.few_rows) in
+    let keys = (keys_exact n is.some_rows).again s.keys (columns ++ rest) tt (refl, in_order_rise s.keys is.key_fields is.rising) in
+    rw (a0, parameters, a1, rows, a2, keys) refl
+
+-- the keys of the segment that stands at the front are read there
+pub front_keys_are : (octets : List ℕ) (s : Segment) (keys : List Key) → HasSegmentAt octets 0 s → keys_of octets ≡ Some keys → keys ≡ s.keys
+front_keys_are octets s keys has given = some_is keys s.keys (sym given ∙ ap keys_of has.2 ∙ keys_of_segment s has.1 has.0)
+
+-- ---- while keys are gone through
+
+last_put : (x : Key) (xs : List Key) (k : Key) → last_of (x ∷ (xs ++ k ∷ [])) ≡ k
+last_put x [] k = refl
+last_put x (y ∷ xs) k = last_put y xs k
+
+-- the last of so many keys, of which the first is given
+abbrev pub HasWalked : Key → Key → Option (List Key × List ℕ) → Option (List Key × List ℕ) → Type 0
+HasWalked first last total left = (before : List Key) × (total ≡ with_front (first ∷ before) left) × (last_of (first ∷ before) ≡ last)
+
+pub walk_begins : (count : ℕ) (octets rest : List ℕ) (first : Key) → 1 ≤ count → first_key_at octets ≡ Some (first, rest) → HasWalked first first (keys_at count octets) (keys_after_at (count - 1) first rest)
+walk_begins count octets rest first some e = ([], keys_start count octets first rest some e, refl)
+
+pub walk_none : (count : ℕ) (octets : List ℕ) → first_key_at octets ≡ None → mapped_at key_ends (keys_at count) octets ≡ None
+walk_none count octets e = rw (keys_none count octets e) refl
+
+pub walk_more : (count i : ℕ) (first last key : Key) (octets after : List ℕ) (total : Option (List Key × List ℕ)) → i < count → key_after_at last octets ≡ Some (key, after) → HasWalked first last total (keys_after_at (count - i) last octets) →
+    HasWalked first key total (keys_after_at (count - (i + 1)) key after)
+walk_more count i first last key octets after total lt e so_far =
+    (so_far.0 ++ key ∷ [], keys_more count i (first ∷ so_far.0) last key octets after total lt e so_far.1, last_put first so_far.0 key)
+
+pub walk_fails : (count i : ℕ) (first last : Key) (octets whole : List ℕ) → i < count → key_after_at last octets ≡ None → HasWalked first last (keys_at count whole) (keys_after_at (count - i) last octets) → mapped_at key_ends (keys_at count) whole ≡ None
+walk_fails count i first last octets whole lt e so_far = rw (keys_ended count i (first ∷ so_far.0) last octets (keys_at count whole) lt e so_far.1) refl
+
+pub walk_ends : (count i : ℕ) (first last : Key) (octets whole : List ℕ) → count ≤ i → HasWalked first last (keys_at count whole) (keys_after_at (count - i) last octets) →
+    (let ends : KeyEnds = record { first = first; last = last } in mapped_at key_ends (keys_at count) whole ≡ Some (ends, octets))
+walk_ends count i first last octets whole le so_far =
+    let read = keys_done count i (first ∷ so_far.0) last octets (keys_at count whole) le so_far.1 in
+    ends_read count whole octets (first ∷ so_far.0) read ∙ ap (λ (k : Key). let ends : KeyEnds = record { first = first; last = k } in Some (ends, octets)) so_far.2
 
 -- and is the one that stands there
 pub front_is : (octets front : List ℕ) (at : ℕ) (s : Segment) → HasSegmentAt octets at s → front ≡ drop at octets → front_segment front ≡ s

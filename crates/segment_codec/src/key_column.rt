@@ -1,12 +1,14 @@
 //! The key column, both ways.
 
-ghost use Rattle.std.specs.Prelude.{◌≡◌, ◌≤◌, ◌++◌, length, IfSome, OnOk};
+ghost use Rattle.std.specs.Prelude.{◌≡◌, ◌≤◌, ◌++◌, length, true, IfOk, IfSome, OnOk, Some};
 ghost use Rattle.octet_fields.specs.Answers.{Answers, Gives};
-ghost use Rattle.segment_codec.specs.KeyColumn.{first_key_at, key_after_at, key_column, key_gap, key_gaps, keys_at};
+ghost use Rattle.octet_fields.specs.Reading.{mapped_at};
+ghost use Rattle.segment_codec.specs.KeyColumn.{first_key_at, is_gap, key_after, key_after_at, key_column, key_gap, key_gaps, keys_at};
+ghost use Rattle.segment_codec.specs.Outline.{key_ends};
 ghost use Rattle.segment_codec.specs.Varint.{varint};
 
 use crate::segment::KeyList;
-use crate::varint::{put_varint, put_word, varint_at};
+use crate::varint::{put_varint, put_word, varint_at, word_at};
 use arch_types::key::Key;
 use octet_fields::{DecodeError, Short, i64_at, put_i64, put_u32, room_for, u32_at};
 use std::alloc::{AllocError, Global};
@@ -21,9 +23,37 @@ pub(crate) fn first_key_at(octets: &[u8]) -> Result<(Key, &[u8]), Short>
     Ok((Key { time, seq }, rest))
 }
 
-/// The key behind another, and the octets after its gap.
+/// The key that lies so far behind another, where it's found in 64 bits.
+#[tactic(auto, unfolding(crate::specs::KeyColumn::is_gap))]
+fn near_key(last: Key, gap: u64) -> Option<Key>
+    ensures key { IfSome result (λ key. key ≡ key_after last gap) }
+    ensures gap { IfSome result (λ _. is_gap last gap ≡ true) }
+{
+    if gap == 0 {
+        return None;
+    }
+    let sum = u64::from(last.seq).checked_add(gap)?;
+    let time = last.time.checked_add((sum / 0x1_0000_0000) as i64)?;
+    let seq = (sum % 0x1_0000_0000) as u32;
+    Some(Key { time, seq })
+}
+
+/// The key behind another, and the octets after its gap, where it's found in 64 bits.
+#[tactic(auto, unfolding(crate::specs::KeyColumn::key_after_at))]
+fn near_key_at(last: Key, octets: &[u8]) -> Result<(Key, &[u8]), Short>
+    ensures { IfOk result (λ x. key_after_at last octets.now ≡ Some (x.0, x.1.now)) }
+{
+    let (gap, rest) = word_at(octets)?;
+    match near_key(last, gap) {
+        Some(key) => Ok((key, rest)),
+        None => Err(Short),
+    }
+}
+
+/// The same for any gap.
+#[inline(never)]
 #[tactic(auto, unfolding(crate::specs::KeyColumn::key_after_at, crate::specs::KeyColumn::is_gap))]
-pub(crate) fn key_after_at(last: Key, octets: &[u8]) -> Result<(Key, &[u8]), Short>
+fn wide_key_after_at(last: Key, octets: &[u8]) -> Result<(Key, &[u8]), Short>
     ensures { Answers (λ x. (x.0, x.1.now)) result (key_after_at last octets.now) }
 {
     let (gap, rest) = varint_at(octets)?;
@@ -35,6 +65,17 @@ pub(crate) fn key_after_at(last: Key, octets: &[u8]) -> Result<(Key, &[u8]), Sho
     let time = time as i64;
     let seq = (sum % 0x1_0000_0000) as u32;
     Ok((Key { time, seq }, rest))
+}
+
+/// The key behind another, and the octets after its gap: one within weeks is found in 64 bits, where it takes half the
+/// time.
+pub(crate) fn key_after_at(last: Key, octets: &[u8]) -> Result<(Key, &[u8]), Short>
+    ensures { Answers (λ x. (x.0, x.1.now)) result (key_after_at last octets.now) }
+{
+    match near_key_at(last, octets) {
+        Ok(found) => Ok(found),
+        Err(_) => wide_key_after_at(last, octets),
+    }
 }
 
 /// So many keys, and the octets after them.
@@ -61,6 +102,30 @@ pub(crate) fn keys_at(
         rest = after;
     }
     Ok((keys, rest))
+}
+
+/// The first and the last of keys.
+#[derive(Clone, Copy, Debug)]
+pub(crate) struct KeyEnds {
+    pub(crate) first: Key,
+    pub(crate) last: Key,
+}
+
+/// The ends of so many keys, and the octets after them. No key is kept.
+pub(crate) fn key_ends_at(count: u16, octets: &[u8]) -> Result<(KeyEnds, &[u8]), Short>
+    requires { 1 ≤ count }
+    ensures { Answers (λ x. (x.0, x.1.now)) result (mapped_at key_ends (keys_at count) octets.now) }
+{
+    let (first, after_first) = first_key_at(octets)?;
+    let mut last = first;
+    let mut rest = after_first;
+    for _ in 1..count {
+        let (key, after) = key_after_at(last, rest)?;
+        last = key;
+        rest = after;
+    }
+    let ends = KeyEnds { first, last };
+    Ok((ends, rest))
 }
 
 /// How far a key lies behind another.

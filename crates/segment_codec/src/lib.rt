@@ -5,9 +5,9 @@
 //! `segment_octets` what each is spelled as: `write_segment` gives just that, `read_segment` accepts these spellings
 //! and nothing else, from any octets and any place in them, and no spelling begins another (`laws`). `read_column`
 //! decodes the keys and one column alone, `read_column_in_range` of these the rows of a range of times, `read_head` the
-//! parameters and the first key, `read_outline` all but the values, and `read_parameters` the parameters alone. That
-//! times lie in an interval, and values in the width of a database's parameters, isn't asked here: a set of segments
-//! asks it.
+//! parameters and the first key, and `read_parameters` the parameters alone. `read_outline` asks of the octets what
+//! `read_segment` asks, and keeps the parameters, how many rows there are, and how far keys and values reach. That times
+//! lie in an interval, and values in the width of a database's parameters, isn't asked here: a set of segments asks it.
 //!
 //! The one idea of the proof: what is read is a composition of exact readers (octet_fields); the code mirrors it. By
 //! hand are the leaves of this crate: the varint (proofs/Varints.antt), numbers of a width without gaps (Numbers and

@@ -4,20 +4,20 @@ ghost use Rattle.std.specs.Prelude.{◌≡◌, ◌+◌, ◌≤◌, length, map, 
 ghost use Rattle.octet_fields.specs.Answers.{Gives};
 ghost use Rattle.octet_fields.specs.Reading.{times_at};
 ghost use Rattle.octet_fields.specs.declared.fault.DecodeError.TheVariants.{OutOfMemory};
-ghost use Rattle.segment_codec.specs.Outline.{outline_at, range_at, range_of};
+ghost use Rattle.segment_codec.specs.Outline.{first_of, keys_of, last_of, outline_at, range_at, range_of};
 ghost use Rattle.segment_codec.specs.Segment.{HasSegmentAt, most_rows, segment_octets};
 ghost use Rattle.segment_codec.specs.declared.segment.Segment.{Segment as ASegment};
 
 use crate::column_range::{ColumnRange, range_at};
 use crate::fault::NotASegment;
-use crate::key_column::keys_at;
-use crate::parameters::parameters_at;
+use crate::key_column::{KeyEnds, key_ends_at, keys_at};
+use crate::parameters::{counted_parameters_at, parameters_at};
 use crate::reading::row_count_at;
 use crate::segment::{KeyList, ParameterList};
 use arch_types::key::Key;
 use item_list::Items;
 use octet_fields::{DecodeError, room_for};
-use std::alloc::Global;
+use std::alloc::{AllocError, Global};
 use std::marker::Model;
 
 /// The fewest octets of a raw column: its form, and a value.
@@ -26,17 +26,19 @@ const LEAST_COLUMN: usize = 17;
 /// How far each column's values reach.
 pub type RangeList = Items<ColumnRange>;
 
-/// What is kept of a segment but for its values.
+/// What is kept of a segment.
 #[derive(Debug, Drop)]
 struct OutlineParts {
     parameters: ParameterList,
-    /// The key of each row.
-    keys: KeyList,
+    /// How many rows it has.
+    rows: u16,
+    /// The keys of its first row and its last.
+    ends: KeyEnds,
     /// How far the values of each parameter reach.
     ranges: RangeList,
 }
 
-/// A segment whose values stay where they are spelled. Contracts see the segment.
+/// A segment whose keys and values stay where they are spelled. Contracts see the segment.
 #[derive(Debug, Drop)]
 pub struct SegmentOutline<'a> {
     parts: OutlineParts,
@@ -45,15 +47,14 @@ pub struct SegmentOutline<'a> {
 }
 
 impl<'a> Model for SegmentOutline<'a> {
-    ghost use Rattle.std.specs.Prelude.{◌≡◌};
-    ghost use Rattle.segment_codec.specs.Outline.{front_segment, outline_of};
+    ghost use Rattle.segment_codec.specs.Outline.{IsOutlineOf, front_segment};
     ghost use Rattle.segment_codec.specs.declared.segment.Segment.{Segment};
 
     ghost Value = { Segment };
 
     ghost view = { λ o. front_segment o.octets.now };
 
-    ghost invariant = { λ o. o.parts ≡ outline_of (front_segment o.octets.now) };
+    ghost invariant = { λ o. IsOutlineOf o.parts o.octets.now };
 }
 
 impl<'a> SegmentOutline<'a> {
@@ -63,11 +64,36 @@ impl<'a> SegmentOutline<'a> {
         self.parts.parameters.as_slice()
     }
 
-    /// The key of each row.
-    pub fn keys(&self) -> &[Key]
-        ensures { result.now ≡ self.now.keys }
+    /// How many rows it has.
+    pub fn rows(&self) -> u16
+        ensures { result ≡ length self.now.keys }
     {
-        self.parts.keys.as_slice()
+        self.parts.rows
+    }
+
+    /// The key of its first row.
+    pub fn first(&self) -> Key
+        ensures { result ≡ first_of self.now.keys }
+    {
+        self.parts.ends.first
+    }
+
+    /// The key of its last row.
+    pub fn last(&self) -> Key
+        ensures { result ≡ last_of self.now.keys }
+    {
+        self.parts.ends.last
+    }
+
+    /// The key of each row, read where they stand.
+    pub fn keys(&self, alloc: Global) -> Result<KeyList, AllocError>
+        ensures { IfOk result (λ keys. keys ≡ self.now.keys) }
+    {
+        match front_keys(alloc, self.octets) {
+            Ok(keys) => Ok(keys),
+            // a segment stands there, so nothing but memory can have been wanting
+            Err(_) => Err(AllocError),
+        }
     }
 
     /// How far the values of each parameter reach.
@@ -76,6 +102,17 @@ impl<'a> SegmentOutline<'a> {
     {
         self.parts.ranges.as_slice()
     }
+}
+
+/// The keys of the segment that stands at the front.
+#[tactic(auto, unfolding(crate::specs::Outline::keys_of))]
+fn front_keys(alloc: Global, octets: &[u8]) -> Result<KeyList, DecodeError>
+    ensures { Gives (λ x. x) result (keys_of octets.now) }
+{
+    let (_, rest) = counted_parameters_at(alloc, octets)?;
+    let (rows, rest) = row_count_at(rest)?;
+    let (keys, _) = keys_at(alloc, rows, rest)?;
+    Ok(keys)
 }
 
 /// The ranges of so many raw columns, and the octets after them.
@@ -107,11 +144,12 @@ fn outline_at(alloc: Global, octets: &[u8]) -> Result<(OutlineParts, &[u8]), Dec
 {
     let (parameters, rest) = parameters_at(alloc, octets)?;
     let (rows, rest) = row_count_at(rest)?;
-    let (keys, rest) = keys_at(alloc, rows, rest)?;
+    let (ends, rest) = key_ends_at(rows, rest)?;
     let (ranges, rest) = ranges_at(alloc, parameters.len(), rows, rest)?;
     let parts = OutlineParts {
         parameters,
-        keys,
+        rows,
+        ends,
         ranges,
     };
     Ok((parts, rest))
@@ -120,7 +158,7 @@ fn outline_at(alloc: Global, octets: &[u8]) -> Result<(OutlineParts, &[u8]), Dec
 /// The outline of the segment whose spelling stands in octets from a place on, and the place where it ends.
 ///
 /// Any octets may be given, and any place, also past their end: what isn't a spelling to the last bit is Malformed.
-/// Room is made for keys and for two values a column alone, each of which takes octets.
+/// Room is made for its parameters and for two values a column alone, each of which takes octets.
 pub fn read_outline(
     alloc: Global,
     octets: &[u8],

@@ -58,6 +58,7 @@ fn refill(rest: &[u8], pending: Pending, width: u32) -> (Pending, &[u8])
 }
 
 /// The next number, where the bits have it: most numbers are taken so, in a word.
+#[inline(always)]
 fn take_at_hand(pending: Pending, width: u32) -> (u64, Pending)
     requires pending { IsPending pending }
     requires enough { width ≤ pending.count }
@@ -74,6 +75,7 @@ fn take_at_hand(pending: Pending, width: u32) -> (u64, Pending)
 }
 
 /// The next number of up to 64 bits.
+#[inline(always)]
 fn take(rest: &[u8], pending: Pending, width: u32) -> (u64, Pending, &[u8])
     requires pending { IsPending pending }
     requires width { width ≤ 64 }
@@ -97,6 +99,7 @@ fn take(rest: &[u8], pending: Pending, width: u32) -> (u64, Pending, &[u8])
 }
 
 /// The next number of up to 128 bits.
+#[inline(always)]
 pub(crate) fn take_wide(rest: &[u8], pending: Pending, width: u32) -> (u128, Pending, &[u8])
     requires pending { IsPending pending }
     requires width { width ≤ 128 }

@@ -45,7 +45,7 @@ fn octet_at(octets: &[u8]) -> Result<(u8, &[u8]), Short>
 }
 
 /// The number whose varint stands at the front, where it has at most nine octets, and the octets after it.
-fn word_at(octets: &[u8]) -> Result<(u64, &[u8]), Short>
+pub(crate) fn word_at(octets: &[u8]) -> Result<(u64, &[u8]), Short>
     ensures { IfOk result (λ x. short_varint_at octets.now ≡ Some (x.0, x.1.now)) }
 {
     let (first, after_first) = octet_at(octets)?;

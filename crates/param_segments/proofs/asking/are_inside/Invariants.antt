@@ -1,7 +1,7 @@
-use Rattle.std.proofs.Common.{◌≡◌, take}
+use Rattle.std.proofs.Common.{take}
 use Rattle.std.specs.List.{AllByRecursion}
-use Rattle.intervals.specs.Interval.{interval_of}
+use Rattle.param_segments.specs.RowPlaces.{IsInside}
 use Rattle.param_segments.proofs.asking.are_inside.Given as goal
 
-abbrev pub invariant-loop-place : goal.invariant-loop-place
-invariant-loop-place l = AllByRecursion (λ p. interval_of l.exponent p.key.time ≡ l.interval.0) (take l.place-index l.places)
+abbrev pub invariant-loop-segment : goal.invariant-loop-segment
+invariant-loop-segment l = AllByRecursion (IsInside l.exponent l.interval.0) (take l.segment-index l.segments)

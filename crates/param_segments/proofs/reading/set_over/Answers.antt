@@ -1,41 +1,36 @@
-use Rattle.std.proofs.Common.{◌≡◌, ◌∙◌, List, ap, map, subst, sym}
+use Rattle.std.proofs.Common.{◌≡◌, ◌∙◌, List, ap, subst, sym}
 use Rattle.std.specs.Int.{w32}
 use Rattle.octet_fields.specs.Spelling.{counted}
 use Rattle.segment_codec.specs.Segment.{segment_octets}
 use Rattle.segment_codec.specs.declared.segment.Segment.{Segment}
-use Rattle.param_segments.specs.Groups.{set_of}
 use Rattle.param_segments.specs.Octets.{set_octets}
-use Rattle.param_segments.specs.RowPlaces.{placed_row}
 use Rattle.param_segments.specs.SetSegments.{AreSetSegments}
-use Rattle.param_segments.proofs.SetAgain.{spelled_again}
+use Rattle.param_segments.proofs.SegmentsOfSet.{spelled_rows}
 use Rattle.param_segments.proofs.reading.set_over.Goals as goal
 
 pub of_spelling-requires : goal.of_spelling-requires
 of_spelling-requires c =
     let segments = c.args.read.segments.items in
-    let places = c.args.places.now in
-    let own : c.deref.result.now ≡ segments = c.deref.ensures.value in
-    let again : set_of (map (placed_row segments) places) ≡ segments = subst (λ (ss : List Segment). set_of (map (placed_row ss) places) ≡ ss) own (c.in_ok-are_set_segments.ensures.same c.if-not-branch.false) in
-    let whole : c.args.octets.now ≡ counted w32 segment_octets segments = c.requires.spelled (c.if-end-len.false ∙ c.len.ensures.value) in
-    (spelled_again segments places c.in_ok-own.own c.args.read.starts.items c.requires.sound c.requires.placed c.requires.rising again c.requires.few (c.in_ok-own.ensures ∙ whole) c.requires.starts).0
+    let are : AreSetSegments segments = subst AreSetSegments c.deref.ensures.value (c.in_ok-are_set_segments.ensures.0 c.if-not-branch.false) in
+    let whole = c.requires.spelled (c.if-end-len.false ∙ c.len.ensures.value) in
+    (spelled_rows segments c.in_ok-own.own c.args.read.starts.items are c.requires.few (c.in_ok-own.ensures ∙ whole) c.requires.starts).0
 
 pub returns-clause-set : goal.returns-clause-set
 returns-clause-set c =
     let segments = c.args.read.segments.items in
-    let places = c.args.places.now in
-    let own : c.deref.result.now ≡ segments = c.deref.ensures.value in
-    let again : set_of (map (placed_row segments) places) ≡ segments = subst (λ (ss : List Segment). set_of (map (placed_row ss) places) ≡ ss) own (c.in_ok-are_set_segments.ensures.same c.if-not-branch.false) in
-    let whole : c.args.octets.now ≡ counted w32 segment_octets segments = c.requires.spelled (c.if-end-len.false ∙ c.len.ensures.value) in
-    c.of_spelling.ensures ∙ (spelled_again segments places c.in_ok-own.own c.args.read.starts.items c.requires.sound c.requires.placed c.requires.rising again c.requires.few (c.in_ok-own.ensures ∙ whole) c.requires.starts).1
+    let are : AreSetSegments segments = subst AreSetSegments c.deref.ensures.value (c.in_ok-are_set_segments.ensures.0 c.if-not-branch.false) in
+    let whole = c.requires.spelled (c.if-end-len.false ∙ c.len.ensures.value) in
+    c.of_spelling.ensures ∙ (spelled_rows segments c.in_ok-own.own c.args.read.starts.items are c.requires.few (c.in_ok-own.ensures ∙ whole) c.requires.starts).1
+
+pub returns-clause-segments : goal.returns-clause-segments
+returns-clause-segments c = subst AreSetSegments c.deref.ensures.value (c.in_ok-are_set_segments.ensures.0 c.if-not-branch.false)
 
 pub returns-clause-spelled : goal.returns-clause-spelled
 returns-clause-spelled c =
     let segments = c.args.read.segments.items in
-    let places = c.args.places.now in
-    let own : c.deref.result.now ≡ segments = c.deref.ensures.value in
-    let again : set_of (map (placed_row segments) places) ≡ segments = subst (λ (ss : List Segment). set_of (map (placed_row ss) places) ≡ ss) own (c.in_ok-are_set_segments.ensures.same c.if-not-branch.false) in
-    let whole : c.args.octets.now ≡ counted w32 segment_octets segments = c.requires.spelled (c.if-end-len.false ∙ c.len.ensures.value) in
-    let is = (spelled_again segments places c.in_ok-own.own c.args.read.starts.items c.requires.sound c.requires.placed c.requires.rising again c.requires.few (c.in_ok-own.ensures ∙ whole) c.requires.starts).0 in
+    let are : AreSetSegments segments = subst AreSetSegments c.deref.ensures.value (c.in_ok-are_set_segments.ensures.0 c.if-not-branch.false) in
+    let whole = c.requires.spelled (c.if-end-len.false ∙ c.len.ensures.value) in
+    let is = (spelled_rows segments c.in_ok-own.own c.args.read.starts.items are c.requires.few (c.in_ok-own.ensures ∙ whole) c.requires.starts).0 in
     sym c.in_ok-own.ensures ∙ is.spelled ∙ ap set_octets (sym c.of_spelling.ensures)
 
 pub returns-then-end-len-clause-each : goal.returns-then-end-len-clause-each
@@ -43,6 +38,6 @@ returns-then-end-len-clause-each c = λ ends set. absurd (c.if-end-len.true (end
 
 pub returns-then-not-branch-clause-each : goal.returns-then-not-branch-clause-each
 returns-then-not-branch-clause-each c = λ ends set. absurd (
-    let does = c.in_ok-are_set_segments.ensures.each (subst AreSetSegments (sym c.deref.ensures.value) set) in
+    let does = c.in_ok-are_set_segments.ensures.1 (subst AreSetSegments (sym c.deref.ensures.value) set) in
     let not_so = c.if-not-branch.true in
     cc)

@@ -1,44 +1,67 @@
-use Rattle.std.proofs.Common.{◌≡◌, ◌∙◌, ◌<◌, List, ℕ, Option, Some, ap, length, map, subst, sym}
+use Rattle.std.proofs.Common.{◌≡◌, ◌∙◌, ◌+◌, ◌<◌, arith, get_or, List, ℕ, Option, Some, ap, length, map, refl, subst, sym}
 use Rattle.std.specs.Prelude.{IfSome}
 use Rattle.std.specs.List.{AllByRecursion}
+use Rattle.std.specs.List.Sorted.{IsSortedBy, IsStrictlySortedBy}
+use Rattle.arch_types.specs.Order.{key_cmp}
+use Rattle.segment_codec.specs.declared.segment.Segment.{Segment}
+use Rattle.param_segments.specs.declared.key_place.KeyPlace.{KeyPlace}
 use Rattle.param_segments.specs.declared.runs.Runs.{Runs}
-use Rattle.param_segments.specs.Runs.{AreRunsSoFar, count_in_order, place_group}
+use Rattle.param_segments.specs.RowPlaces.{RowPlace, place_key, places_from}
+use Rattle.param_segments.specs.Runs.{AreRunsSoFar, count_in_order, key_group, place_group}
+use Rattle.param_segments.proofs.KeyPlaces.{all_of_places, by_cmp, groups_at_places, keys_at_places, places_back, sorted_places}
+use Rattle.param_segments.proofs.Placed.{is_place_earlier, sorted_inside}
 use Rattle.param_segments.proofs.RunSteps.{numbers_len, places_numbered, runs_are}
 use Rattle.param_segments.proofs.RunsComplete.{order_of_set}
-use Rattle.param_segments.proofs.SetAgain.{set_again}
+use Rattle.param_segments.proofs.SegmentsOfSet.{are_of_set, places_rise}
 use Rattle.param_segments.proofs.runs.are_set_segments.Goals as goal
+
+pub returns-then-not-are_rising : goal.returns-then-not-are_rising
+returns-then-not-are_rising c = (
+  λ e. absurd cc,
+  λ set. absurd (
+      let segments = c.args.segments.now in
+      let sorted = c.sort_unstable.new.self.items in
+      let b = places_back segments c.in_ok-places.places.items sorted c.in_ok-places.ensures c.sort_unstable.ensures.permutation in
+      let up : IsSortedBy is_place_earlier b.0 = sorted_places b.0 sorted b.2 (λ k d high. by_cmp (get_or sorted (k + 1) d) (get_or sorted k d) (c.sort_unstable.ensures.sorted k d (omega arith) high)) in
+      let rises = places_rise segments b.0 set b.1 up in
+      let told = c.are_rising.ensures.1
+      (subst (λ (ps : List KeyPlace). IsStrictlySortedBy key_cmp (map place_key ps)) (sym c.deref.ensures.value) (subst (IsStrictlySortedBy key_cmp) (sym (keys_at_places b.0 sorted b.2)) rises)) in
+      let not_so = c.if-not-are_rising.true in
+      cc),
+)
 
 pub come_in_order-requires-clause-placed : goal.come_in_order-requires-clause-placed
 come_in_order-requires-clause-placed c =
     let segments = c.args.segments.now in
-    let found : AreRunsSoFar segments c.in-Some.runs = subst (λ (o : Option Runs). IfSome o (AreRunsSoFar segments)) c.in-Some.is c.in_ok-runs_of.ensures.found in
-    places_numbered segments c.deref.result.now c.args.places.now (ap length c.deref.ensures.value ∙ numbers_len segments c.in-Some.runs found) c.requires.placed
+    let sorted = c.sort_unstable.new.self.items in
+    let b = places_back segments c.in_ok-places.places.items sorted c.in_ok-places.ensures c.sort_unstable.ensures.permutation in
+    let placed = sorted_inside segments (places_from 0 segments) b.0 c.requires.sound refl b.1 in
+    let numbers = c.deref-2.result.now in
+    let found : AreRunsSoFar segments c.in-Some.runs = subst (λ (o : Option Runs). IfSome o (AreRunsSoFar segments)) c.in-Some.is c.in_ok-runs.ensures.found in
+    let numbered = places_numbered segments numbers b.0 (ap length c.deref-2.ensures.value ∙ numbers_len segments c.in-Some.runs found) placed in
+    subst (AllByRecursion (λ (p : KeyPlace). p.segment < length numbers)) (sym c.deref-3.ensures.value) (all_of_places (λ (p : KeyPlace). p.segment < length numbers) b.0 sorted b.2 numbered)
 
 pub come_in_order-requires-clause-within : goal.come_in_order-requires-clause-within
 come_in_order-requires-clause-within c =
     let segments = c.args.segments.now in
     let runs = c.in-Some.runs in
-    let found : AreRunsSoFar segments runs = subst (λ (o : Option Runs). IfSome o (AreRunsSoFar segments)) c.in-Some.is c.in_ok-runs_of.ensures.found in
-    subst (λ (n : ℕ). AllByRecursion (λ m. m < n) c.deref.result.now) (sym found.count) (subst (AllByRecursion (λ m. m < length runs.groups)) (sym c.deref.ensures.value) found.within)
+    let found : AreRunsSoFar segments runs = subst (λ (o : Option Runs). IfSome o (AreRunsSoFar segments)) c.in-Some.is c.in_ok-runs.ensures.found in
+    subst (λ (n : ℕ). AllByRecursion (λ m. m < n) c.deref-2.result.now) (sym found.count) (subst (AllByRecursion (λ m. m < length runs.groups)) (sym c.deref-2.ensures.value) found.within)
 
-pub returns-in-None-clause-each : goal.returns-in-None-clause-each
-returns-in-None-clause-each c = λ set. absurd (c.in_ok-runs_of.ensures.none c.in-None.is set)
-
-pub returns-in-Some-clause-each : goal.returns-in-Some-clause-each
-returns-in-Some-clause-each c = λ set.
+pub returns : goal.returns
+returns c =
     let segments = c.args.segments.now in
-    let places = c.args.places.now in
+    let sorted = c.sort_unstable.new.self.items in
+    let b = places_back segments c.in_ok-places.places.items sorted c.in_ok-places.ensures c.sort_unstable.ensures.permutation in
+    let placed = sorted_inside segments (places_from 0 segments) b.0 c.requires.sound refl b.1 in
     let runs = c.in-Some.runs in
-    let found : AreRunsSoFar segments runs = subst (λ (o : Option Runs). IfSome o (AreRunsSoFar segments)) c.in-Some.is c.in_ok-runs_of.ensures.found in
-    let order = order_of_set segments places runs.groups runs.numbers.items c.requires.sound c.requires.placed c.requires.whole c.requires.rising (runs_are segments runs found) set in
-    c.come_in_order.ensures.1 (ap (λ (ns : List ℕ). count_in_order 0 (map (place_group ns) places)) c.deref.ensures.value ∙ order ∙ ap (λ (n : ℕ). Some n) (sym found.count))
-
-pub returns-in-Some-clause-same : goal.returns-in-Some-clause-same
-returns-in-Some-clause-same c = λ are.
-    let segments = c.args.segments.now in
-    let places = c.args.places.now in
-    let runs = c.in-Some.runs in
-    let found : AreRunsSoFar segments runs = subst (λ (o : Option Runs). IfSome o (AreRunsSoFar segments)) c.in-Some.is c.in_ok-runs_of.ensures.found in
-    let order : count_in_order 0 (map (place_group runs.numbers.items) places) ≡ Some (length runs.groups) =
-    ap (λ (ns : List ℕ). count_in_order 0 (map (place_group ns) places)) (sym c.deref.ensures.value) ∙ c.come_in_order.ensures.0 are ∙ ap (λ (n : ℕ). Some n) found.count in
-    set_again segments places runs.groups runs.numbers.items c.requires.sound c.requires.placed c.requires.whole c.requires.rising (runs_are segments runs found) order
+    let numbers = runs.numbers.items in
+    let found : AreRunsSoFar segments runs = subst (λ (o : Option Runs). IfSome o (AreRunsSoFar segments)) c.in-Some.is c.in_ok-runs.ensures.found in
+    let of = runs_are segments runs found in
+    let rises : IsStrictlySortedBy key_cmp (map (λ (p : RowPlace). p.key) b.0) =
+    subst (IsStrictlySortedBy key_cmp) (keys_at_places b.0 sorted b.2) (subst (λ (ps : List KeyPlace). IsStrictlySortedBy key_cmp (map place_key ps)) c.deref.ensures.value (c.are_rising.ensures.0 c.if-not-are_rising.false)) in
+    let groups : map (key_group c.deref-2.result.now) c.deref-3.result.now ≡ map (place_group numbers) b.0 =
+    ap (λ (ns : List ℕ). map (key_group ns) c.deref-3.result.now) c.deref-2.ensures.value ∙ ap (map (key_group numbers)) c.deref-3.ensures.value ∙ groups_at_places numbers b.0 sorted b.2 in (
+      λ told. are_of_set segments b.0 runs.groups numbers c.requires.sound b.1 rises of (sym (ap (count_in_order 0) groups) ∙ c.come_in_order.ensures.0 told ∙ ap (λ (n : ℕ). Some n) found.count),
+      λ set. c.come_in_order.ensures.1 (ap (count_in_order 0) groups ∙ order_of_set segments b.0 runs.groups numbers c.requires.sound placed b.1 rises of set ∙ ap (λ (n : ℕ). Some n) (sym found.count)),
+    )

@@ -1,6 +1,9 @@
-use Rattle.std.proofs.Common.{pos}
-use Rattle.param_segments.proofs.RunSteps.{first_at}
+use Rattle.std.proofs.Common.{◌≡◌, ◌∷◌, List, subst, sym}
+use Rattle.arch_types.specs.declared.key.Key.{Key}
+use Rattle.param_segments.proofs.KeyPlaces.{first_is}
 use Rattle.param_segments.proofs.runs.first_key.Goals as goal
 
 pub returns : goal.returns
-returns c = first_at c.args.keys.now (record { time = pos 0; seq = 0 }) c.requires
+returns c =
+    let keys = c.args.segment.now.keys in
+    subst (λ (k : Key). (rest : List Key) × (keys ≡ k ∷ rest)) (sym c.first.ensures) (first_is keys c.requires.some_rows)

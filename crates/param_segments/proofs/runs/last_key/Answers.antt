@@ -1,6 +1,7 @@
-use Rattle.std.proofs.Common.{◌-◌, arith, length, pos}
-use Rattle.param_segments.proofs.RunSteps.{last_at}
+use Rattle.std.proofs.Common.{subst, sym}
+use Rattle.param_segments.specs.Runs.{IsLast}
+use Rattle.param_segments.proofs.KeyPlaces.{last_is}
 use Rattle.param_segments.proofs.runs.last_key.Goals as goal
 
 pub returns : goal.returns
-returns c = last_at c.args.keys.now (length c.args.keys.now - 1) (record { time = pos 0; seq = 0 }) (omega (arith, c.requires))
+returns c = let keys = c.args.segment.now.keys in subst (IsLast keys) (sym c.last.ensures) (last_is keys c.requires.some_rows)

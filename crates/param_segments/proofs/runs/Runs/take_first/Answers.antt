@@ -1,6 +1,5 @@
-use Rattle.std.proofs.Common.{◌≡◌, ◌∙◌, ◌+◌, ◌++◌, ◌∷◌, [], List, ℕ, ap, arith, length, subst}
+use Rattle.std.proofs.Common.{◌≡◌, ◌∙◌, ◌+◌, ◌++◌, ◌∷◌, [], List, ℕ, ap, arith, length}
 use Rattle.std.specs.Prelude.{Err, OnOk, Ok, Result}
-use Rattle.arch_types.specs.declared.key.Key.{Key}
 use Rattle.segment_codec.specs.declared.segment.Segment.{Segment}
 use Rattle.param_segments.specs.Runs.{AreRunsSoFar, IsLast}
 use Rattle.param_segments.proofs.RunSteps.{group_more}
@@ -16,11 +15,10 @@ returns c =
     let old = c.args.self.now in
     let new = c.take.new.self in
     let s = c.args.segment.now in
-    let keys = c.keys.result.now in
+    let keys = s.keys in
     let groups : new.groups ≡ old.groups ++ s.parameters ∷ [] =
     c.take.ensures.groups ∙ c.in_ok-add.ensures.added ∙ ap (λ (g : List ℕ). old.groups ++ g ∷ []) (c.in_ok-parameters.ensures.items ∙ c.parameters.ensures) in
     let more : c.in-Some.count ≡ old.count + 1 = omega (arith, c.in-Some.ensures) in
     let taken : new.numbers.items ≡ old.numbers.items ++ old.count ∷ [] → new.rows ≡ length keys → IsLast keys new.last → (before : List Segment) → AreRunsSoFar before old → AreRunsSoFar (before ++ s ∷ []) new = λ numbers rows last before so_far.
-    group_more before s old new c.requires.segment c.requires.new groups (c.take.ensures.count ∙ more) numbers (rows ∙ ap length c.keys.ensures)
-    (subst (λ (ks : List Key). IsLast ks new.last) c.keys.ensures last) so_far in
+    group_more before s old new c.requires.segment c.requires.new groups (c.take.ensures.count ∙ more) numbers rows last so_far in
     of_three (new.numbers.items ≡ old.numbers.items ++ old.count ∷ []) (new.rows ≡ length keys) (IsLast keys new.last) ((before : List Segment) → AreRunsSoFar before old → AreRunsSoFar (before ++ s ∷ []) new) taken c.take.result c.take.ensures.numbers c.take.ensures.rows c.take.ensures.last
