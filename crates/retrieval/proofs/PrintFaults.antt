@@ -5,7 +5,6 @@ use Rattle.arch_types.specs.declared.row_fault.RowFault.{RowFault}
 use Rattle.arch_types.specs.declared.row_fault.RowFault.TheVariants as unread
 use Rattle.outer_traits.specs.declared.print_fault.PrintFault.{PrintFault}
 use Rattle.outer_traits.specs.declared.print_fault.PrintFault.TheVariants.{Write, DiskFault, Damaged, OutOfMemory}
-use Rattle.refusals.specs.declared.refusal.Refusal.{Refusal}
 use Rattle.refusals.specs.declared.refusal.Refusal.TheVariants as refused
 use Rattle.refusals.specs.Refusal.{refusal_of_print, refusal_of_rows}
 use Rattle.archive_store.specs.UnreadRows.{IsReadFault}

@@ -9,7 +9,6 @@ ghost use Rattle.retrieval.specs.CellText.{HasShortLabels};
 use arch_types::cell::Cell;
 use arch_types::row::Row;
 use arch_types::steps::Steps;
-use container_extract::laws::{raw_value_is_sound, value_is_calibrated};
 use container_extract::{Extractor, eng_of};
 use mdb_model::{Calibration, Mdb};
 use std::alloc::AllocError;
@@ -27,8 +26,6 @@ pub fn cell_of<L: Ledger>(
     ensures step { steps.new ≡ steps.old + 1 }
 {
     mdb.is_sound();
-    raw_value_is_sound();
-    value_is_calibrated();
     let extracted = extractor.extract(mdb, row.packet.as_slice(), steps);
     match extracted.value(number) {
         None => None,

@@ -22,7 +22,6 @@ use outer_traits::fault::Failed;
 use outer_traits::print_fault::PrintFault;
 use outer_traits::sink::Sink;
 use replay_merge::cursor::Cursor;
-use replay_merge::laws::end_has_no_rest;
 use std::alloc::{AllocError, Global};
 
 /// Prints the replay of a request over the whole history of a store in which its table was found, the ask with number
@@ -112,7 +111,6 @@ fn next_rows<D: Disk>(
     ensures refused { IfErr result (IsUnprinted D.device store.old store.new) }
     ensures same { IsLeftByPrint D.device store.old store.new result }
 {
-    end_has_no_rest();
     match store.replay_step(alloc, cursor, u64::MAX) {
         Ok(rows) => Ok(rows),
         Err(fault) => Err(print_fault_of(fault)),

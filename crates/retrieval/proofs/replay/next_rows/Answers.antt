@@ -1,11 +1,12 @@
-use Rattle.std.proofs.Common.{◌∙◌, sym, subst, arith}
+use Rattle.std.proofs.Common.{sym, subst, arith}
 use Rattle.archive_store.specs.Replays.{rows_below}
 use Rattle.archive_store.specs.UnreadRows.{IsLeftByRefusal}
+use Rattle.replay_merge.proofs.Opening.{end_no_rest}
 use Rattle.retrieval.proofs.PrintFaults.{as_refused}
 use Rattle.retrieval.proofs.replay.next_rows.Goals as goal
 
 pub returns-in-Ok-clause-end : goal.returns-in-Ok-clause-end
-returns-in-Ok-clause-end g c = λ none. c.end_has_no_rest.ensures c.replay_step.new.cursor (rows_below c.args.store.now.history) (c.in-Ok.ensures.end.none_is_end none (omega arith))
+returns-in-Ok-clause-end g c = λ none. end_no_rest c.replay_step.new.cursor (rows_below c.args.store.now.history) (c.in-Ok.ensures.end.none_is_end none (omega arith))
 
 pub returns-in-Ok-clause-same : goal.returns-in-Ok-clause-same
 returns-in-Ok-clause-same g c = c.in-Ok.ensures.same
