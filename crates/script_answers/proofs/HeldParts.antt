@@ -1,5 +1,5 @@
 -- Partitions that hold what is selected.
-use Rattle.std.proofs.Common.{◌≡◌, ℕ, ◌+◌, ◌<◌, ◌≤◌, List, [], ◌∷◌, ◌++◌, length, get_or, map, take, zero, suc, refl, sym, ap, ◌∙◌, subst, arith, append-nil, append_assoc}
+use Rattle.std.proofs.Common.{◌≡◌, ℕ, ◌+◌, ◌<◌, List, [], ◌∷◌, ◌++◌, length, get_or, map, take, zero, suc, refl, sym, ap, ◌∙◌, subst, arith, append-nil, append_assoc}
 use Rattle.std.specs.Prelude.{filter, flat_map, Result, Ok, Err, IfOk}
 use Rattle.std.specs.List.{AllByRecursion, range_with_len}
 use Rattle.std.proofs.Math.Seq.{take-suc}
@@ -21,14 +21,14 @@ use Rattle.ssql_select.specs.SelectionText.{selection_text}
 use Rattle.ssql_types.specs.declared.query.TypedSelect.{TypedSelect}
 use Rattle.archive_store.specs.declared.head.Head.{Head}
 use Rattle.archive_store.specs.Entries.{IsArchivedRow}
-use Rattle.archive_store.specs.Laws.{ArchivedRowsHaveClockTimes}
 use Rattle.archive_store.specs.Replays.{ArePartitions, rows_below}
+use Rattle.archive_store.proofs.Times.{archived_time}
 use Rattle.script_answers.specs.Statements.{AreSourceParts, name_spans}
 
 -- each row of an archive has a moment of the clock
-pub all_clocked : (head : Head) (history : List Item) (rows : List Row) → ArchivedRowsHaveClockTimes → AllByRecursion (IsArchivedRow head history) rows → AllByRecursion (λ row. IsClockTime row.key.time) rows
-all_clocked head history [] law all = tt
-all_clocked head history (row ∷ rows) law all = (law head history row all.0, all_clocked head history rows law all.1)
+pub all_clocked : (head : Head) (history : List Item) (rows : List Row) → AllByRecursion (IsArchivedRow head history) rows → AllByRecursion (λ row. IsClockTime row.key.time) rows
+all_clocked head history [] all = tt
+all_clocked head history (row ∷ rows) all = (archived_time head history row all.0, all_clocked head history rows all.1)
 
 -- the rows below the front are all of them
 pub whole_rows : (history : List Item) (front : ℕ) → front ≡ length history → rows_below history front ≡ rows_in history

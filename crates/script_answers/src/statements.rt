@@ -17,7 +17,6 @@ use arch_types::name::Names;
 use arch_types::spans::Span;
 use arch_types::steps::Steps;
 use archive_store::Store;
-use archive_store::laws::archived_rows_have_clock_times;
 use line_buffer::LineBuffer;
 use outer_traits::print_fault::PrintFault;
 use outer_traits::sink::Sink;
@@ -25,7 +24,6 @@ use partitions::bounds::Bounds;
 use partitions::lists::PartList;
 use refusals::Refusal;
 use ssql_conditions::bounds::{all_bounds, bounds};
-use ssql_select::laws::pruned_holds_selected;
 use ssql_select::select::select;
 use ssql_select::selection_text::SelectionText;
 use ssql_select::show::{ShowLine, partition_lines, print_lines, print_show};
@@ -225,8 +223,6 @@ fn held_parts<D: Disk>(
         (spec.AreSourceParts store.now.history (bounds_of query.now.condition) query.now.sources) }
     ensures refused { IfErr result (λ refusal. refusal ≡ Refusal.OutOfMemory) }
 {
-    pruned_holds_selected();
-    archived_rows_have_clock_times();
     store.is_kept();
     let bounds = bounds(alloc, &query.condition)?;
     pruned_parts(alloc, query.sources.as_slice(), store, &bounds)
@@ -263,7 +259,6 @@ fn table_partitions<D: Disk>(
         ≡ spec.table_partitions table store.now.history) }
     ensures refused { IfErr result (λ refusal. refusal ≡ Refusal.OutOfMemory) }
 {
-    archived_rows_have_clock_times();
     store.is_kept();
     let bounds = all_bounds();
     let parts = store.parts(table, &bounds)?;

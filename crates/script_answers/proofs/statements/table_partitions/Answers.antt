@@ -14,7 +14,7 @@ pub returns-clause-lines : goal.returns-clause-lines
 returns-clause-lines g c =
     let store = c.args.store.now in
     let history = rows_in store.history in
-    let clocks = all_clocked store.head store.history history c.archived_rows_have_clock_times.ensures c.is_kept.ensures.rows in
+    let clocks = all_clocked store.head store.history history c.is_kept.ensures.rows in
     let are = parts_are store.history c.args.table c.in_ok-parts.parts clocks (rw c.all_bounds-bounds.ensures at c.in_ok-parts.ensures.parts) in
     let rows = parts_of_rows (rows_in_table c.args.table store.history) in
     (rw (c.as_slice.ensures, c.source-source.ensures) at c.in_ok-partition_lines.ensures.lines) ∙ ap (λ (l : List Partition). partition_lines c.args.table (rows_below store.history c.front-front.result) l) are
