@@ -186,6 +186,13 @@ impl History {
         self.tables[table as usize].position(key)
     }
 
+    /// How many rows of table `tm` have their time in an interval.
+    pub fn interval_len(&self, interval: Interval) -> u64
+        ensures { result ≡ interval_rows self.now.exponent interval (rows_in self.now.items) }
+    {
+        self.limit_counts.rows_of(interval)
+    }
+
     /// Whether an interval would have too many rows with these.
     fn passes_interval(&self, rows: &[Row]) -> bool
         requires { length rows.now ≤ row_limit limits.Rows }

@@ -10,6 +10,7 @@ ghost use Rattle.archive_store.specs.Classifying.{IsClassified, IsFoundAt, NoneA
 ghost use Rattle.archive_store.specs.Batches.{arrival_rows, batch_rows, in_table};
 
 use crate::batch::{Arrival, Batch};
+use crate::filling::no_rows;
 use crate::packets::packet_is_octets;
 use arch_types::inserted::{Inserted, Outcomes};
 use arch_types::key::Key;
@@ -166,7 +167,15 @@ fn classify_arrival(
     Ok(())
 }
 
-/// What becomes of the rows of a batch, and those of them that are new.
+/// No outcome, with room for so many.
+fn no_outcomes(alloc: Global, count: usize) -> Result<Outcomes, AllocError>
+    ensures { IfOk result (λ outcomes. outcomes ≡ []) }
+{
+    Ok(Outcomes::from_vec(Vec::with_capacity(alloc, count)?))
+}
+
+/// What becomes of the rows of a batch, and those of them that are new. There is room for a row of each arrival, as
+/// mostly each goes into one table.
 pub(crate) fn classify(
     alloc: Global,
     history: &History,
@@ -176,9 +185,10 @@ pub(crate) fn classify(
         batch.now.arrivals }
     ensures { IfOk result (λ classified. IsClassified history.now.items (batch_rows batch.now) classified) }
 {
+    let count = batch.arrivals.as_slice().len();
     let mut classified = ClassifiedBatch {
-        outcomes: Outcomes::new(alloc),
-        fresh: Rows::new(alloc),
+        outcomes: no_outcomes(alloc, count)?,
+        fresh: no_rows(alloc, count)?,
         last: None,
     };
     for arrival in batch.arrivals.as_slice() {

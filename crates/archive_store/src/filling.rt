@@ -1,6 +1,6 @@
 //! Late intervals and their fills.
 
-ghost use Rattle.std.specs.Prelude.{◌≡◌, ◌↔◌, ◌<◌, ◌≤◌, length, IfOk, IfErr, IfSome, OnOk, IsTrue};
+ghost use Rattle.std.specs.Prelude.{◌≡◌, ◌↔◌, ◌<◌, ◌≤◌, [], length, IfOk, IfErr, IfSome, OnOk, IsTrue};
 ghost use Rattle.std.specs.Arc.{arc_value};
 ghost use Rattle.history_items.specs.Late.{IsLate};
 ghost use Rattle.interval_fills.specs.Intervals.{rows_of_interval};
@@ -21,11 +21,18 @@ use std::sync::Arc;
 use store_fills::FillTask;
 use yarch_table::rows::TableRows;
 
-/// Copies of rows, which share their packets.
-fn copies_of(alloc: Global, rows: TableRows<'_>) -> Result<Rows, AllocError>
+/// No row, with room for so many.
+pub(crate) fn no_rows(alloc: Global, count: usize) -> Result<Rows, AllocError>
+    ensures { IfOk result (λ rows. rows ≡ []) }
+{
+    Ok(Rows::from_vec(Vec::with_capacity(alloc, count)?))
+}
+
+/// Copies of rows, which share their packets. So many are expected.
+fn copies_of(alloc: Global, rows: TableRows<'_>, count: usize) -> Result<Rows, AllocError>
     ensures { IfOk result (λ copies. copies ≡ rows.entry) }
 {
-    let mut copies = Rows::new(alloc);
+    let mut copies = no_rows(alloc, count)?;
     for row in rows {
         copies.push(row.copy()?)?;
     }
@@ -46,6 +53,7 @@ pub(crate) fn rows_of(
     copies_of(
         alloc,
         history.range(interval.start_at(exponent), interval.end_at(exponent)),
+        history.interval_len(interval) as usize,
     )
 }
 

@@ -4,7 +4,7 @@ use Rattle.arch_types.specs.declared.row.Row.{Row}
 use Rattle.archive_store.proofs.filling.copies_of.Goals as goal
 
 pub loop-row-init : goal.loop-row-init
-loop-row-init c = ap (λ (l : List Row). l ++ c.into_iter-row-iterator.result) c.new-copies.ensures ∙ c.into_iter-row-iterator.ensures.into_iter_gives
+loop-row-init c = ap (λ (l : List Row). l ++ c.into_iter-row-iterator.result) c.in_ok-copies.ensures ∙ c.into_iter-row-iterator.ensures.into_iter_gives
 
 pub loop-row-preserved : goal.loop-row-preserved
 loop-row-preserved c =
