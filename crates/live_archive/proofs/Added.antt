@@ -10,7 +10,6 @@ use Rattle.arch_types.specs.declared.row.Row.{Row}
 use Rattle.intervals.specs.declared.interval.Interval.{Interval}
 use Rattle.refusals.specs.declared.refusal.Refusal.{Refusal}
 use Rattle.refusals.specs.declared.refusal.Refusal.TheVariants as refused
-use Rattle.history_items.specs.declared.fills.Addition.{Addition}
 use Rattle.history_items.specs.declared.fills.Addition.TheVariants as additions
 use Rattle.history_items.specs.declared.fills.Fill.{Fill}
 use Rattle.history_items.specs.declared.fills.Fill.TheVariants.{Freed, Fault}
@@ -26,12 +25,12 @@ use Rattle.turn_cell.specs.declared.view.SeenList.{SeenList}
 use Rattle.turn_cell.specs.Lists.{found_seen, left_seen}
 use Rattle.turn_cell.specs.Pass.{PassView}
 use Rattle.archive_store.specs.declared.batch.Ingested.{Ingested}
-use Rattle.archive_store.specs.StoreView.{StoreView, AddsFault}
+use Rattle.archive_store.specs.StoreView.{StoreView}
 use Rattle.archive_store.specs.Calls.{IsIngestRefusal}
 use Rattle.archive_store.specs.Installs.{IsAbandoned, IsInstallRefusal, IsStoreInstalled}
 use Rattle.archive_store.specs.Tasks.{IsFillBegun}
 use Rattle.archive_store.proofs.UnreadRows.{refusal_same}
-use Rattle.live_archive.specs.Added.{Adds, AddsTo, AbandonsAdd, AreFaults, AsksAddNothing, BeginsAdd, IngestNotes, IngestsAdd, InstallNotes, InstallsAdd, begin_notes, flight_begun, flight_ended, items_put}
+use Rattle.live_archive.specs.Added.{Adds, AddsTo, AbandonsAdd, AsksAddNothing, BeginsAdd, IngestNotes, IngestsAdd, InstallNotes, InstallsAdd, begin_notes, flight_begun, flight_ended, items_put}
 use Rattle.live_archive.specs.Answers.{SaysBegun, SaysIngested, SaysInstalled}
 use Rattle.live_archive.specs.Turns.{Turned}
 

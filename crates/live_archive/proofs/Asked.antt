@@ -14,9 +14,9 @@ use Rattle.replay_merge.specs.Cursor.{AsksTheSame, CursorView, rest_of}
 use Rattle.store_fills.specs.Filled.{HoldsRows}
 use Rattle.store_fills.specs.LastFills.{fillings_in}
 use Rattle.archive_store.specs.CurrentSets.{IsCurrentSet}
-use Rattle.archive_store.specs.Laws.{ReplaysKeepTheirFront}
 use Rattle.archive_store.specs.Replays.{rows_below}
 use Rattle.archive_store.specs.StoreView.{StoreView}
+use Rattle.archive_store.proofs.ReplayedRows.{rest_of_later}
 use Rattle.live_archive.specs.Answers.{AreSegments, WhereSound}
 
 pub segments_found : {D X E : Type 0} (device : Device D) (store : StoreView D) (interval : Interval) (f : X → List SetRow) (r : Result (Option X) E)
@@ -29,8 +29,8 @@ segments_found device store interval f (Ok None) some none holds = record { some
 segments_found device store interval f (Err e) some none holds = some
 
 -- a replay gives the same rows over any history that begins with one that has its front
-pub rows_as_seen : {E : Type 0} (r : Result (List Row) E) (old new : CursorView) (seen now : List Item) → ReplaysKeepTheirFront → old.front ≤ length seen → IsPrefix seen now → AsksTheSame old new
+pub rows_as_seen : {E : Type 0} (r : Result (List Row) E) (old new : CursorView) (seen now : List Item) → old.front ≤ length seen → IsPrefix seen now → AsksTheSame old new
     → IfOk r (λ rows. rows ++ rest_of new (rows_below now) ≡ rest_of old (rows_below now)) → IfOk r (λ rows. rows ++ rest_of new (rows_below seen) ≡ rest_of old (rows_below seen))
-rows_as_seen (Ok rows) old new seen now keep low p same is =
-    ap (λ (l : List Row). rows ++ l) (sym (keep new seen now (subst (λ (n : ℕ). n ≤ length seen) (sym same.at_front) low) p)) ∙ (is ∙ keep old seen now low p)
-rows_as_seen (Err e) old new seen now keep low p same is = is
+rows_as_seen (Ok rows) old new seen now low p same is =
+    ap (λ (l : List Row). rows ++ l) (sym (rest_of_later new seen now (subst (λ (n : ℕ). n ≤ length seen) (sym same.at_front) low) p)) ∙ (is ∙ rest_of_later old seen now low p)
+rows_as_seen (Err e) old new seen now low p same is = is

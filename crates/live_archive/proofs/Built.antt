@@ -20,7 +20,7 @@ use Rattle.archive_store.specs.Installs.{IsRightFor}
 use Rattle.archive_store.specs.StoreView.{StoreView}
 use Rattle.archive_store.specs.Tasks.{BeginsTask}
 use Rattle.live_archive.specs.Laws.{BuiltIsRight, IsBuiltOf, RightStays}
-use Rattle.live_archive.specs.Turns.{Turned, as_seen}
+use Rattle.live_archive.specs.Turns.{as_seen}
 use Rattle.live_archive.proofs.Later.{right_later}
 
 -- what is built of a task is right for the store in which it began

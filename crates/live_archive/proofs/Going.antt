@@ -16,7 +16,7 @@ use Rattle.arch_types.specs.declared.row.Row.{Row}
 use Rattle.history_items.specs.declared.fills.Addition.{Addition}
 use Rattle.history_items.specs.declared.fills.Addition.TheVariants as additions
 use Rattle.history_items.specs.declared.fills.Fill.{Fill}
-use Rattle.history_items.specs.declared.fills.Fill.TheVariants.{Begun, Done, Freed, Fault}
+use Rattle.history_items.specs.declared.fills.Fill.TheVariants.{Done, Freed, Fault}
 use Rattle.mdb_items.specs.Database.{Database}
 use Rattle.history_items.specs.declared.items.Item.{Item}
 use Rattle.history_items.specs.Items.{databases_in, items_of}
@@ -34,7 +34,7 @@ use Rattle.store_fills.specs.declared.task.FillTask.{FillTask}
 use Rattle.store_fills.specs.Built.{BuiltFill}
 use Rattle.store_fills.specs.Filled.{IsRightFill}
 use Rattle.store_fills.specs.LastFills.{fillings_in, fill_over}
-use Rattle.store_fills.specs.Sound.{Filling, Fillings}
+use Rattle.store_fills.specs.Sound.{Fillings}
 use Rattle.store_fills.proofs.RightFills.{right_fill_stays}
 use Rattle.archive_store.specs.declared.head.Head.{Head}
 use Rattle.archive_store.specs.UnreadRows.{IsLeftByRefusal, IsReadRefusal}

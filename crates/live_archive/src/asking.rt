@@ -15,7 +15,6 @@ use arch_disk::Disk;
 use arch_types::row::Rows;
 use arch_types::row_fault::RowFault;
 use archive_store::FoundReplay;
-use archive_store::laws::replays_keep_their_front;
 use replay_merge::cursor::Cursor;
 use std::alloc::{AllocError, Global};
 use std::sync::Wait;
@@ -68,7 +67,6 @@ impl<D: Disk> LiveOver<HeldStore<D>> {
         ensures asked { AsksTheSame cursor.old cursor.new }
         ensures unmoved { OnErr result (cursor.new ≡ cursor.old) }
     {
-        replays_keep_their_front();
         let mut held = self.cell.enter(rt, pass);
         let result = held.store.replay_step(alloc, cursor, limit);
         self.cell.leave(pass, held);

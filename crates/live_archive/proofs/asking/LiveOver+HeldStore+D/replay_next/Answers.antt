@@ -23,4 +23,4 @@ returns-clause-turn g c =
 pub returns-clause-rows : goal.returns-clause-rows
 returns-clause-rows g c =
     let step = c.replay_step-result in
-    rows_as_seen step.result c.args.cursor.now step.new.cursor _ c.enter-held.result.store.history c.replays_keep_their_front.ensures c.requires.front c.enter-held.ensures.begins step.ensures.asked step.ensures.rows
+    rows_as_seen step.result c.args.cursor.now step.new.cursor _ c.enter-held.result.store.history c.requires.front c.enter-held.ensures.begins step.ensures.asked step.ensures.rows
