@@ -1,13 +1,13 @@
 -- Asks that are answered in a turn.
-use Rattle.std.proofs.Common.{◌≡◌, ◌⊎◌, inl, inr, ℕ, ◌≤◌, List, length, Result, Ok, Err, MatchResult, Option, Some, None, sym, ap, ◌∙◌, subst, arith}
-use Rattle.std.specs.Prelude.{IsTrue}
+use Rattle.std.proofs.Common.{◌≡◌, ◌⊎◌, inl, inr, ℕ, ◌≤◌, ℤ, ◌≤ℤ◌, false, List, length, Result, Ok, Err, MatchResult, Option, Some, None, refl, sym, ap, ◌∙◌, subst, arith}
+use Rattle.std.specs.Prelude.{IsTrue, int_lt}
+use Rattle.std.proofs.lemmas.Int.{ints}
 use Rattle.arch_disk.specs.Disk.{Device}
 use Rattle.asks.specs.declared.ask.Answer.{Answer}
 use Rattle.asks.specs.declared.ask.Request.{Request}
 use Rattle.asks.specs.Names.{parameter_number, table_number}
 use Rattle.asks.specs.declared.refusal.AskRefusal.{AskRefusal}
-use Rattle.asks.specs.Refusals.{request_refusal}
-use Rattle.asks.specs.Laws.{RequestHasAnswerExactly}
+use Rattle.asks.specs.Refusals.{range_refusal, request_refusal}
 use Rattle.mdb_items.specs.Database.{Database}
 use Rattle.arch_types.specs.declared.row.Row.{Row}
 use Rattle.refusals.specs.declared.refusal.Refusal.{Refusal}
@@ -42,12 +42,19 @@ use Rattle.live_asks.specs.declared.answered.AskAnswer.TheVariants as answered
 use Rattle.live_asks.specs.LiveAsks.{AreFillsSince, IsAnsweredInTurn, OnlySees, disk_facts}
 use Rattle.live_asks.proofs.Sees.{found_begins, found_is_seen, sees_turn}
 
+-- a request that was found has an answer
+found_is_answered : (db : Database) (found : FoundRequest) → IsRequestFound db found → request_refusal db found.request ≡ None
+found_is_answered db found is = rw is.number (whole_range found.request.from found.request.to is.range)
+  where
+    whole_range : (from to : ℤ) → from ≤ℤ to → range_refusal from to ≡ None
+    whole_range from to range = let whole : int_lt to from ≡ false = grind (arith, ints) in rw whole refl
+
 -- a request that was found is refused for want of memory alone
-memory_alone : {D : Type 0} (device : Device D) (before after : StoreView D) → RequestHasAnswerExactly → (found : FoundRequest) (refusal : Refusal) → IsRequestFound (in_force before) found
+memory_alone : {D : Type 0} (device : Device D) (before after : StoreView D) (found : FoundRequest) (refusal : Refusal) → IsRequestFound (in_force before) found
     → IsNotAnswered device before after found.request refusal → refusal ≡ OutOfMemory
-memory_alone device before after exactly found refusal is (inr unread) = refusal_is_memory device before after refusal unread
-memory_alone device before after exactly found refusal is (inl not) =
-    let none : request_refusal (in_force before) found.request ≡ None = (exactly (in_force before) found.request).1 ((λ no. absurd (cc (no, is.number))), is.range) in
+memory_alone device before after found refusal is (inr unread) = refusal_is_memory device before after refusal unread
+memory_alone device before after found refusal is (inl not) =
+    let none : request_refusal (in_force before) found.request ≡ None = found_is_answered (in_force before) found is in
     subst (λ (o : Option AskRefusal). IsNotFound o refusal) none not
 
 -- the fills of a store that goes on from a first one are those that it had, or right ones since
@@ -98,10 +105,10 @@ module _ {D T : Type 0} (device : Device D) (first : StoreView D) (old new : Pas
       pub retrieval_answers : (answer : Answer) → Retrieves (Ok answer) → IsAnsweredInTurn (disk_facts device first.opened) (filled_of first) old.history.seen new.history.seen (looked_up.Values found) (answered.Values answer)
       retrieval_answers answer turn = values_answered answer (of_found (Ok answer) turn)
 
-      pub retrieval_refuses : RequestHasAnswerExactly → (refusal : Refusal) → IsRequestFound (database_in first.head.mdb first.history) found → Retrieves (Err refusal) → refusal ≡ OutOfMemory
-      retrieval_refuses exactly refusal is turn =
+      pub retrieval_refuses : (refusal : Refusal) → IsRequestFound (database_in first.head.mdb first.history) found → Retrieves (Err refusal) → refusal ≡ OutOfMemory
+      retrieval_refuses refusal is turn =
           let t = of_found (Err refusal) turn in
-          memory_alone device t.before t.after exactly found refusal (subst (λ (db : Database). IsRequestFound db found) (sym t.turned.found.database.in_force) is) t.said.1
+          memory_alone device t.before t.after found refusal (subst (λ (db : Database). IsRequestFound db found) (sym t.turned.found.database.in_force) is) t.said.1
 
   -- ---- replays
   abbrev Opens : FoundReplay → CursorView → Type 0

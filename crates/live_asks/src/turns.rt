@@ -18,15 +18,12 @@ use crate::answered::{AskAnswer, ReplayedRows};
 use arch_disk::Disk;
 use arch_types::row::Rows;
 use arch_types::steps::Steps;
-use archive_store::laws::replays_keep_their_front;
 use archive_store::{FoundReplay, FoundRequest};
-use asks::laws::request_has_answer_exactly;
 use asks::{Answer, Request};
 use live_archive::{Live, LivePass};
 use outer_traits::gate::Gate;
 use refusals::Refusal;
 use replay_merge::cursor::Cursor;
-use replay_merge::laws::end_has_no_rest;
 use retrieval::found_asks::FoundAsk;
 use std::alloc::{AllocError, Global};
 use std::marker::Brand;
@@ -93,7 +90,6 @@ fn values<D: Disk, G: Gate, R: Wait>(
         pass.old.history.seen pass.new.history.seen (looked_up.Values found.now)) }
     ensures refused { IfErr result (λ refusal. refusal ≡ OutOfMemory) }
 {
-    request_has_answer_exactly();
     let request = copy_of(&found.request)?;
     gated.pass();
     let answer = retrieved::<D, R, Brand>(rt, alloc, Blank::new(1), live, pass, request)?;
@@ -175,8 +171,6 @@ fn rows_left<D: Disk, G: Gate, R: Wait>(
     ensures rows { IfOk result (λ rows. rows ≡ rest_of cursor (rows_below pass.new.history.seen)) }
     ensures refused { IfErr result (λ refusal. refusal ≡ OutOfMemory) }
 {
-    replays_keep_their_front();
-    end_has_no_rest();
     let mut cursor = cursor;
     let mut rows = Vec::new(alloc);
     'steps: loop {

@@ -6,6 +6,7 @@ use Rattle.refusals.specs.Refusal.{refusal_of_rows}
 use Rattle.archive_store.specs.Replays.{rows_below}
 use Rattle.archive_store.proofs.UnreadRows.{read_same, refusal_same, unread_is_memory}
 use Rattle.replay_merge.specs.Cursor.{rest_of}
+use Rattle.replay_merge.proofs.Opening.{end_no_rest}
 use Rattle.live_asks.proofs.Sees.{sees_on, sees_same, sees_turn, still_within}
 use Rattle.live_asks.proofs.Taken.{all_taken, taken_more}
 use Rattle.live_asks.proofs.turns.rows_left.Goals as goal
@@ -38,10 +39,10 @@ returns-then-len-eq0-clause-rows g c =
     let turn = c.in_ok-piece.ensures.turn in
     let sees = sees_turn g.D.Disk.device c.args.live.now.cell.first.store turn.before turn.after c.steps.pass c.replay_next.new.pass turn.turned (read_same g.D.Disk.device turn.before turn.after turn.said.0) in
     let none = nil_from_length c.in_ok-piece.piece (sym c.len.ensures ∙ c.if-len-eq0.true) in
-    let end = c.end_has_no_rest.ensures c.replay_next.new.cursor (rows_below c.steps.pass.history.seen) (c.in_ok-piece.ensures.end.none_is_end none (omega arith)) in
+    let end = end_no_rest c.replay_next.new.cursor (rows_below c.steps.pass.history.seen) (c.in_ok-piece.ensures.end.none_is_end none (omega arith)) in
     rw c.from_vec.ensures
     (all_taken c.args.cursor c.steps.cursor c.replay_next.new.cursor c.steps.rows.items c.in_ok-piece.piece c.steps.pass.history.seen c.replay_next.new.pass.history.seen
-    c.replays_keep_their_front.ensures here.within sees.begins none end c.in_ok-piece.ensures.rows here.rows)
+    here.within sees.begins none end c.in_ok-piece.ensures.rows here.rows)
 
 pub returns-in_err-piece-clause-sees : goal.returns-in_err-piece-clause-sees
 returns-in_err-piece-clause-sees g c =
@@ -74,5 +75,5 @@ steps-preserved g c =
       at_front = c.replay_next.ensures.asked.at_front ∙ here.at_front;
       rows = rw (c.in_ok-append.ensures.items, c.into_vec-more.ensures)
           (taken_more c.args.cursor c.steps.cursor c.replay_next.new.cursor c.steps.rows.items c.in_ok-piece.piece c.steps.pass.history.seen c.replay_next.new.pass.history.seen
-          c.replays_keep_their_front.ensures here.within (c.replay_next.ensures.asked.at_front ∙ here.at_front) sees.begins c.in_ok-piece.ensures.rows here.rows);
+          here.within (c.replay_next.ensures.asked.at_front ∙ here.at_front) sees.begins c.in_ok-piece.ensures.rows here.rows);
     }

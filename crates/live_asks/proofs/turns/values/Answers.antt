@@ -15,7 +15,7 @@ returns-in_err-answer-clause-refused g c =
     let p = err_from_is_err_and c.from_residual-in_err-answer.result c.from_residual-in_err-answer.ensures.1 in
     rw (p.1, p.2)
     (retrieval_refuses g.D.Disk.device c.args.live.now.cell.first.store c.args.pass.now c.retrieved.new.pass c.args.found.now c.in_ok-request.request c.in_ok-request.ensures
-    c.request_has_answer_exactly.ensures c.in_err-answer.field-0.0 c.requires.found c.in_err-answer.ensures.turn)
+    c.in_err-answer.field-0.0 c.requires.found c.in_err-answer.ensures.turn)
 
 pub returns-clause-sees : goal.returns-clause-sees
 returns-clause-sees g c =
