@@ -5,7 +5,7 @@ use Rattle.std.specs.List.{AllByRecursion, IsDistinct}
 use Rattle.std.specs.Str.{bytes_eq}
 use Rattle.std.proofs.lemmas.Slice.Eq.{bytes_eq-Decides}
 use Rattle.field_codec.specs.Entries.{AreDistinct}
-use Rattle.ssql_types.specs.CreatedTables.{CreatedTablesAreDistinct}
+use Rattle.ssql_types.proofs.DistinctTables.{distinct_tables}
 use Rattle.archive_commands.specs.Create.{IsTablesAnswer}
 
 differ : (a b : List ℕ) → bytes_eq a b ≡ false → b ≢ a
@@ -25,8 +25,8 @@ unfolding IsDistinct
 tm_alone = (tt, tt)
 
 -- where nothing is wrong with a script, `tm` and its tables have distinct names
-pub new_tables_differ : CreatedTablesAreDistinct → (text : List ℕ) (tables : List (List ℕ)) → IsTablesAnswer text (Ok tables) → AreDistinct tables
-new_tables_differ law text tables is =
+pub new_tables_differ : (text : List ℕ) (tables : List (List ℕ)) → IsTablesAnswer text (Ok tables) → AreDistinct tables
+new_tables_differ text tables is =
     let typed = is.1 in
-    let distinct = law (codes "tm" ∷ []) [] typed.0 tm_alone typed.2 in
+    let distinct = distinct_tables (codes "tm" ∷ []) [] typed.0 tm_alone typed.2 in
     all_differ tables (rw (is.2, typed.3) distinct)

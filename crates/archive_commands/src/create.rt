@@ -31,7 +31,6 @@ use outer_traits::sink::Sink;
 use refusals::{Refusal, Which};
 use retrieval::parameter::refusal_of_sheets;
 use script_answers::scripts::typed_text;
-use ssql_types::laws::created_tables_are_distinct;
 use ssql_types::place::ScriptPlace;
 use ssql_types::statement::TypedStatement;
 use std::alloc::{AllocError, Global};
@@ -150,7 +149,6 @@ fn tables_of(alloc: Global, text: &[u8]) -> Result<Names, Refusal>
     ensures answer { OrNoMemory (IsTablesAnswer text.now) result }
     ensures tables { IfOk result (λ tables. AreTables tables) }
 {
-    created_tables_are_distinct();
     let tm = tm_alone(alloc)?;
     let script = typed_text(alloc, text, ScriptPlace::Create, &tm, &Names::new(alloc))?;
     let tables = with_created(tm, script.as_slice())?;

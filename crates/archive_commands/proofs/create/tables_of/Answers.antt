@@ -7,5 +7,5 @@ returns-clause-tables c = record {
   names = c.in_ok-tables.ensures.names;
   few = search rules;
   first = search rules;
-  distinct = new_tables_differ c.created_tables_are_distinct.ensures c.args.text.now c.in_ok-tables.tables (search rules);
+  distinct = new_tables_differ c.args.text.now c.in_ok-tables.tables (search rules);
 }
