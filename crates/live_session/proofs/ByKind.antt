@@ -20,7 +20,7 @@ use Rattle.live_session.specs.declared.order.Order.{Order}
 use Rattle.live_session.specs.declared.order.Order.TheVariants as Ordered
 use Rattle.live_session.specs.Interleaving.{answers_at}
 use Rattle.live_session.specs.Jobs.{IsSourceRead, JobSetting}
-use Rattle.live_session.specs.Links.{AreLinksLoaded, LinkLoads}
+use Rattle.live_session.specs.Links.{AreLinksLoaded, LinkLoads, extension}
 use Rattle.live_session.specs.Orders.{AreLinkOrders, AreOrdersFor, IsFilling}
 use Rattle.live_session.specs.Outcome.{AreSourcesRead, IsFillerCause, IsReaderCause, IsSeenIn, lefts_of}
 use Rattle.live_session.specs.Results.{answers_in, end_in, other_in, source_in}
@@ -36,7 +36,7 @@ module _ {D S : Type 0} (device : Device D) (state : S → SourceState) (first c
 
   -- what came of links by these sources, whose numbers rise from this one
   record AreLinkEnds (link : ℕ) (sources : List S) (ends : List (JobEnd S)) : Type 0 where
-    pub loaded : AreLinksLoaded first.exponent failed first.history closed.history g link (lefts_of state sources) (filter_map end_in ends)
+    pub loaded : AreLinksLoaded (extension first.exponent first.history closed.history failed) g link (lefts_of state sources) (filter_map end_in ends)
     pub read : AreSourcesRead state (filter_map end_in ends) sources (filter_map source_in ends)
     pub seen : AllByRecursion (λ end. IfSome (refusal_of_end end) (IsSeenIn first closed)) (filter_map end_in ends)
     pub no_answers : filter_map answers_in ends ≡ []
@@ -151,7 +151,7 @@ module _ {D S : Type 0} (device : Device D) (state : S → SourceState) (first c
   -- ---- all of them
 
   pub record AreEnds (link : ℕ) (sources : List S) (readers : ℕ) (ends : List (JobEnd S)) : Type 0 where
-    pub loaded : AreLinksLoaded first.exponent failed first.history closed.history g link (lefts_of state sources) (filter_map end_in ends)
+    pub loaded : AreLinksLoaded (extension first.exponent first.history closed.history failed) g link (lefts_of state sources) (filter_map end_in ends)
     pub read : AreSourcesRead state (filter_map end_in ends) sources (filter_map source_in ends)
     pub seen : AllByRecursion (λ end. IfSome (refusal_of_end end) (IsSeenIn first closed)) (filter_map end_in ends)
     pub causes : AllByRecursion IsReaderCause (take readers (filter_map other_in ends))
@@ -182,7 +182,7 @@ module _ {D S : Type 0} (device : Device D) (state : S → SourceState) (first c
       let all_others : filter_map other_in ends ≡ filter_map other_in rest.first ++ filter_map other_in rest.second =
       taken_of other_in ends whole.first whole.second [] (filter_map other_in rest.first ++ filter_map other_in rest.second) whole.parts links.no_others later_others in
       record {
-        loaded = subst (AreLinksLoaded first.exponent failed first.history closed.history g link (lefts_of state sources)) (sym all_ends) links.loaded;
+        loaded = subst (AreLinksLoaded (extension first.exponent first.history closed.history failed) g link (lefts_of state sources)) (sym all_ends) links.loaded;
         read = subst (λ (l : List LinkEnd). AreSourcesRead state l sources (filter_map source_in ends)) (sym all_ends)
             (subst (AreSourcesRead state (filter_map end_in whole.first) sources) (sym all_sources) links.read);
         seen = subst (AllByRecursion (λ end. IfSome (refusal_of_end end) (IsSeenIn first closed))) (sym all_ends) links.seen;

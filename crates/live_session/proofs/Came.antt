@@ -14,14 +14,15 @@ use Rattle.load_jobs.specs.declared.ending.LinkEnd.{LinkEnd}
 use Rattle.live_asks.specs.declared.answered.AskAnswer.{AskAnswer}
 use Rattle.live_session.specs.declared.order.JobEnd.{JobEnd}
 use Rattle.live_session.specs.declared.order.Order.{Order}
+use Rattle.live_session.specs.declared.loading.LoadJob.{LoadJob}
+use Rattle.live_session.specs.declared.loading.Loaded.{Loaded}
 use Rattle.live_session.specs.declared.reported.DumpCounts.{DumpCounts}
-use Rattle.live_session.specs.declared.reported.ReportedRefusal.{ReportedRefusal}
 use Rattle.live_session.specs.Interleaving.{AreEveryFourth, HaveAnswersFor, answers_at}
 use Rattle.retrieval.specs.declared.found_asks.FoundAsk.{FoundAsk}
 use Rattle.stream_graph.specs.declared.statement.RouteStatement.{RouteStatement}
 use Rattle.live_session.specs.Jobs.{AreOutcomesOf, IsFit, JobPass, JobSetting, job_setting}
 use Rattle.live_session.specs.Orders.{AreOrdersFor}
-use Rattle.live_session.specs.Outcome.{AreSourcesRead, HasFewCounts, IsLoadOutcome, counts_of, lefts_of, reported_of}
+use Rattle.live_session.specs.Outcome.{AreSourcesRead, HasFewCounts, IsLoadOutcome, counts_of, lefts_of, load_setting, reported_of}
 use Rattle.live_session.specs.Results.{answers_in, end_in, other_in, source_in}
 use Rattle.live_session.specs.Session.{IsSessionOver}
 use Rattle.live_session.proofs.Counts.{as_many_ends, few_ends, rows_counted}
@@ -68,35 +69,52 @@ module _ {D S : Type 0} (device : Device D) (state : S → SourceState) (first c
         let p = parts device state first closed g orders ends over link sources readers fillers are done is_history failed.0 failed.1 in
         few_ends first.exponent failed.0 first.history closed.history g link (lefts_of state sources) link_ends fit.sound.0.few fit.route p.loaded
 
-    pub came : (news : List S) (said : Option ReportedRefusal) (counts : DumpCounts) (answers : List AskAnswer) → news ≡ filter_map source_in ends → said ≡ reported_of link link_ends (filter_map other_in ends) → counts ≡ counts_of link_ends
-        → (HaveAnswersFor g.asks (answers_at 0 lists) (answers_at 1 lists) (answers_at 2 lists) (answers_at 3 lists) → AreEveryFourth answers (answers_at 0 lists) (answers_at 1 lists) (answers_at 2 lists) (answers_at 3 lists))
-        → IsLoadOutcome device state first closed g link sources news said counts answers
-    came news said counts answers same is counted interleaved =
+    -- where nothing was refused no more rows came than the packets of whole dumps are
+    pub few_rows : reported_of link link_ends (filter_map other_in ends) ≡ None → length closed.history ≤ length first.history + (counts_of link_ends).routed
+    few_rows none =
         let failed = what_failed device state first closed g orders ends over link sources readers fillers are done is_history in
         let p = parts device state first closed g orders ends over link sources readers fillers are done is_history failed.0 failed.1 in
-        record {
-          outcome = outcome device state first closed g orders ends over link sources readers fillers are done is_history failed.0 failed.1 many_readers answers interleaved;
-          possible = possible device state first closed g orders ends over link sources readers fillers are done is_history failed.0 failed.1 many_readers answers interleaved;
-          loaded = loaded device state first closed g orders ends over link sources readers fillers are done is_history failed.0 failed.1 many_readers answers interleaved;
-          sources = subst (AreSourcesRead state link_ends sources) (sym same) p.read;
-          said_is = is;
-          counts_are = λ none. counted;
-          no_more = λ none. no_more (sym is ∙ none);
-          answers_are = refl;
-        }
-      where
-        no_more : reported_of link link_ends (filter_map other_in ends) ≡ None → length closed.history ≤ length first.history + counts.routed
-        no_more none =
-            let failed = what_failed device state first closed g orders ends over link sources readers fillers are done is_history in
-            let p = parts device state first closed g orders ends over link sources readers fillers are done is_history failed.0 failed.1 in
-            let calm = (unrefused link link_ends (filter_map other_in ends) none).0 in
-            let few = rows_counted first.exponent failed.0 first.history closed.history g link (lefts_of state sources) link_ends calm p.loaded (all_of_links device state first closed g orders ends over link sources readers fillers are done is_history) in
-            let whole = ap length (grown device state first closed g orders ends over link sources readers fillers are done is_history) in
-            let rows = came_rows device state first closed g orders ends over link sources readers fillers are done is_history in
-            let long = length-append first.history (items_of rows) in
-            let items = length-items_of rows in
-            let routed = ap (λ (c : DumpCounts). c.routed) counted in
-            omega (arith, few, whole, long, items, routed)
+        let calm = (unrefused link link_ends (filter_map other_in ends) none).0 in
+        let few = rows_counted first.exponent failed.0 first.history closed.history g link (lefts_of state sources) link_ends calm p.loaded (all_of_links device state first closed g orders ends over link sources readers fillers are done is_history) in
+        let whole = ap length (grown device state first closed g orders ends over link sources readers fillers are done is_history) in
+        let rows = came_rows device state first closed g orders ends over link sources readers fillers are done is_history in
+        let long = length-append first.history (items_of rows) in
+        let items = length-items_of rows in
+        omega (arith, few, whole, long, items)
+
+-- A load whose jobs were run left what they came to.
+module _ {D S : Type 0} (device : Device D) (state : S → SourceState) (first : StoreView D) (job : LoadJob S) (asks : List FoundAsk) (left : Loaded D S) (orders : List (Order S)) (ends : List (JobEnd S))
+    (over : IsSessionOver device state first left.store (load_setting first job asks) orders ends) (readers : ℕ) (are : AreOrdersFor job.link job.sources.items readers job.fillers orders) (done : AllByRecursion IsDone first.fills)
+    (is_history : IsHistory (rows_in left.store.history)) (fit : IsFit first (load_setting first job asks)) (many_readers : readers ≡ min 4 (length asks)) where
+  abbrev all : JobSetting
+  all = load_setting first job asks
+
+  abbrev their_ends : List LinkEnd
+  their_ends = filter_map end_in ends
+
+  abbrev answered : List (List AskAnswer)
+  answered = filter_map answers_in ends
+
+  pub came : left.sources.items ≡ filter_map source_in ends → left.reported ≡ reported_of job.link their_ends (filter_map other_in ends) → left.counts ≡ counts_of their_ends
+      → (HaveAnswersFor asks (answers_at 0 answered) (answers_at 1 answered) (answers_at 2 answered) (answers_at 3 answered)
+      → AreEveryFourth left.answers (answers_at 0 answered) (answers_at 1 answered) (answers_at 2 answered) (answers_at 3 answered))
+      → IsLoadOutcome device state first job asks left
+  came same is counted interleaved =
+      let closed = left.store in
+      let sources = job.sources.items in
+      let failed = what_failed device state first closed all orders ends over job.link sources readers job.fillers are done is_history in
+      let p = parts device state first closed all orders ends over job.link sources readers job.fillers are done is_history failed.0 failed.1 in
+      record {
+        outcome = outcome device state first closed all orders ends over job.link sources readers job.fillers are done is_history failed.0 failed.1 many_readers left.answers interleaved;
+        possible = possible device state first closed all orders ends over job.link sources readers job.fillers are done is_history failed.0 failed.1 many_readers left.answers interleaved;
+        loaded = loaded device state first closed all orders ends over job.link sources readers job.fillers are done is_history failed.0 failed.1 many_readers left.answers interleaved;
+        sources = subst (AreSourcesRead state their_ends sources) (sym same) p.read;
+        reported = is;
+        counts = λ none. counted;
+        no_more = λ none. subst (λ (n : DumpCounts). length closed.history ≤ length first.history + n.routed) (sym counted)
+            (few_rows device state first closed all orders ends over job.link sources readers job.fillers are done is_history fit many_readers (sym is ∙ none));
+        answers = refl;
+      }
 
 -- a session that was given an equal head and moment
 pub over_given : {D S : Type 0} (device : Device D) (state : S → SourceState) (first closed : StoreView D) (head head' : Head) (route : List RouteStatement) (moment moment' : ℤ) (asks : List FoundAsk) (orders : List (Order S)) (ends : List (JobEnd S))

@@ -23,13 +23,13 @@ use Rattle.live_archive.specs.Turns.{IsClosed}
 use Rattle.live_archive.proofs.Going.{goes_start, prefix_trans}
 use Rattle.live_session.specs.declared.order.JobEnd.{JobEnd}
 use Rattle.live_session.specs.declared.order.Order.{Order}
-use Rattle.live_session.specs.Jobs.{JobPass, JobSetting}
+use Rattle.live_session.specs.Jobs.{JobPass, JobSetting, job_pass}
 use Rattle.live_session.specs.Session.{BeganWith, EndedWithin, HaveRun, IsSessionOver, NothingCame}
 use Rattle.live_session.proofs.Lists.{all_of, contains_map, mapped_contains, one_of, whole_prefix}
 
 module _ {D S : Type 0} (device : Device D) (state : S → SourceState) (first closed : StoreView D) (g : JobSetting) (old now : PassView Item Fill (HeldStore D))
     (history : old.history ≡ first_seen first.history) (fills : old.fills ≡ first_seen first.fills) (goes : GoesOn device first closed) (end : IsClosed now closed) where
-  pub session_over : (orders : List (Order S)) (ends : List (JobEnd S)) → HaveRun device state first g old now orders ends → ((interval : Interval) → in_flight interval closed.fills ≡ None)
+  pub session_over : (orders : List (Order S)) (ends : List (JobEnd S)) → HaveRun device state first g (job_pass old now) orders ends → ((interval : Interval) → in_flight interval closed.fills ≡ None)
       → IsSessionOver device state first closed g orders ends
   session_over orders ends ran idle = record {
     goes = goes;

@@ -1,7 +1,6 @@
 -- What came of jobs.
 use Rattle.std.proofs.Common.{◌≡◌, ℕ, List, [], ◌∷◌, ◌++◌, map, refl, sym, ap, ◌∙◌, subst, arith}
 use Rattle.std.specs.List.{AllByRecursion}
-use mathlib.Core.List.{IsPrefix}
 use Rattle.arch_disk.specs.Disk.{Device}
 use Rattle.outer_traits.specs.States.{SourceState}
 use Rattle.history_items.specs.declared.fills.Fill.{Fill}
@@ -16,7 +15,7 @@ use Rattle.live_session.specs.declared.order.JobEnd.{JobEnd}
 use Rattle.live_session.specs.declared.order.JobEnd.TheVariants as Ended
 use Rattle.live_session.specs.declared.order.Order.{Order}
 use Rattle.live_session.specs.declared.order.Order.TheVariants as Ordered
-use Rattle.live_session.specs.Jobs.{AreOutcomesOf, IsFit, IsNumbered, IsOutcomeOf, JobPass, JobSetting, MayDo}
+use Rattle.live_session.specs.Jobs.{AreOutcomesOf, IsFit, IsNumbered, IsOutcomeOf, JobPass, JobSetting, MayDo, job_pass}
 use Rattle.live_session.specs.Session.{HaveRun}
 use Rattle.live_session.proofs.Lists.{all_map}
 
@@ -34,30 +33,20 @@ may_do first g pass (Ordered.Link link source wake) fit seen none numbered = rec
 may_do first g pass (Ordered.Reader before) fit seen none numbered = fit.found
 may_do first g pass (Ordered.Filler wakes) fit seen none numbered = tt
 
--- what all jobs have seen of both lists since they began
-abbrev pub SeesOn : {T : Type 0} → PassView Item Fill T → PassView Item Fill T → Type 0
-SeesOn old new = IsPrefix old.history.seen new.history.seen × IsPrefix old.fills.seen new.fills.seen
-
 module _ {D T S : Type 0} (device : Device D) (state : S → SourceState) (first : StoreView D) (g : JobSetting) where
   -- whatever a job does, its pass keeps its share
-  pub came_share : (old new : PassView Item Fill T) (order : Order S) (end : JobEnd S) → IsOutcomeOf device state first g old new order end → new.share ≡ old.share
-  came_share old new (Ordered.Link link source wake) (Ended.Link number back end) came = came.0.added.share
-  came_share old new (Ordered.Reader before) (Ended.Reader answers refusal) came = came.0.share
-  came_share old new (Ordered.Filler wakes) (Ended.Filler refusal) came = came.0.share
-  came_share old new order end came = absurd came
-
-  pub came_on : (old new : PassView Item Fill T) (order : Order S) (end : JobEnd S) → IsOutcomeOf device state first g old new order end → SeesOn old new
-  came_on old new (Ordered.Link link source wake) (Ended.Link number back end) came = came.0.added.begins
-  came_on old new (Ordered.Reader before) (Ended.Reader answers refusal) came = (came.0.begins, came.0.fills_begin)
-  came_on old new (Ordered.Filler wakes) (Ended.Filler refusal) came = (came.0.begins, came.0.fills_begin)
-  came_on old new order end came = absurd came
+  pub came_share : (p : JobPass T) (order : Order S) (end : JobEnd S) → IsOutcomeOf device state first g p order end → p.ended.share ≡ p.began.share
+  came_share p (Ordered.Link link source wake) (Ended.Link number back end) came = came.0.added.share
+  came_share p (Ordered.Reader before) (Ended.Reader answers refusal) came = came.0.share
+  came_share p (Ordered.Filler wakes) (Ended.Filler refusal) came = came.0.share
+  came_share p order end came = absurd came
 
   -- so all have the share that they began with
   shares_kept : (passes : List (JobPass T)) (orders : List (Order S)) (ends : List (JobEnd S)) → AreOutcomesOf device state first g passes orders ends
       → total (λ (p : PassView Item Fill T). p.share) (map (λ (p : JobPass T). p.ended) passes) ≡ total (λ (p : PassView Item Fill T). p.share) (map (λ (p : JobPass T). p.began) passes)
   shares_kept [] [] [] each = refl
   shares_kept (p ∷ passes) (o ∷ orders) (e ∷ ends) each =
-      let here = came_share p.began p.ended o e each.0 in
+      let here = came_share p o e each.0 in
       let others = shares_kept passes orders ends each.1 in
       omega (arith, here, others)
   shares_kept [] [] (e ∷ ends) each = absurd each
@@ -85,7 +74,7 @@ module _ {D T S : Type 0} (device : Device D) (state : S → SourceState) (first
       ended_are (j ∷ jobs) [] each = absurd each
       ended_are (j ∷ jobs) (e ∷ dones) each = ap (λ (l : List (PassView Item Fill T)). pass_at_end e ∷ l) (ended_are jobs dones each.1)
 
-      module _ (Here : J → Type 0) (gives : (j : J) (e : E) → Here j → did j e → IsOutcomeOf device state first g (pass_of j) (pass_at_end e) (order_of j) (end_of e)) where
+      module _ (Here : J → Type 0) (gives : (j : J) (e : E) → Here j → did j e → IsOutcomeOf device state first g (job_pass (pass_of j) (pass_at_end e)) (order_of j) (end_of e)) where
         each_came : (jobs : List J) (dones : List E) → AllByRecursion Here jobs → EachDid did jobs dones → AreOutcomesOf device state first g (passes_of jobs dones) (map order_of jobs) (map end_of dones)
         each_came [] [] here each = tt
         each_came [] (e ∷ dones) here each = absurd each
@@ -95,7 +84,7 @@ module _ {D T S : Type 0} (device : Device D) (state : S → SourceState) (first
         -- jobs whose passes were split off one, and joined to it
         pub have_run : (old split now : PassView Item Fill T) (count : ℕ) (jobs : List J) (dones : List E) → AllByRecursion Here jobs → EachDid did jobs dones
             → AreSplitOff old split [] (map pass_of jobs) count → Joins (map pass_at_end dones) split now []
-            → HaveRun device state first g old now (map order_of jobs) (map end_of dones)
+            → HaveRun device state first g (job_pass old now) (map order_of jobs) (map end_of dones)
         have_run old split now count jobs dones here each parts joined = record {
           passes = passes_of jobs dones;
           each = came;

@@ -19,7 +19,7 @@ use Rattle.load_jobs.specs.declared.ending.LinkEnd.{LinkEnd}
 use Rattle.load_jobs.specs.declared.ending.LinkEnd.TheVariants.{Whole, Rest, Unread, TooLong, Refused}
 use Rattle.load_jobs.specs.Ends.{refusal_of_end}
 use Rattle.live_session.specs.Jobs.{JobSetting}
-use Rattle.live_session.specs.Links.{AreLinksLoaded, IsSentInto, LinkLoads}
+use Rattle.live_session.specs.Links.{AreLinksLoaded, IsSentInto, LinkLoads, extension}
 use Rattle.live_session.specs.Outcome.{HasFewCounts, counts_of}
 
 -- ---- a dump
@@ -142,7 +142,7 @@ all_counted link n (row ∷ rows) all =
 
 module _ (exponent : ℕ) (failed : Option Addition) (low history : List Item) (g : JobSetting) where
   abbrev Loaded : ℕ → List (Option (List ℕ)) → List LinkEnd → Type 0
-  Loaded link lefts ends = AreLinksLoaded exponent failed low history g link lefts ends
+  Loaded link lefts ends = AreLinksLoaded (extension exponent low history failed) g link lefts ends
 
   pub few_ends : (link : ℕ) (lefts : List (Option (List ℕ))) (ends : List LinkEnd) → length g.head.tables ≤ 16 → IsRouteOver g.head g.route → Loaded link lefts ends → AllByRecursion HasFewCounts ends
   few_ends link [] [] tables over loaded = tt

@@ -137,7 +137,7 @@ refusal_of_job (Ended.Filler refusal) = refusal
 module _ {D S : Type 0} (device : Device D) (state : S → SourceState) (first : StoreView D) (g : JobSetting) where
   -- a fill at a place of a job's pass is a filler's
   of_filler : (p : JobPass (HeldStore D)) (order : Order S) (end : JobEnd S) (fills : List Fill) (place : ℕ) (interval : Interval) (base : ℕ) → p.began.fills.places ≡ []
-      → IsPrefix p.ended.fills.seen fills → IsOutcomeOf device state first g p.began p.ended order end → Contains p.ended.fills.places place → IsDoneAt fills place interval base
+      → IsPrefix p.ended.fills.seen fills → IsOutcomeOf device state first g p order end → Contains p.ended.fills.places place → IsDoneAt fills place interval base
       → IsFillNote first p.ended.history.seen p.ended.fills.seen place
   of_filler p (Ordered.Link link source wake) (Ended.Link number back end) fills place interval base none later came has there =
       let batch = link_batch (received_by g link p.began) (state source).left p.began p.ended fills place (Done interval base) later none has there first end came.0 in
@@ -153,7 +153,7 @@ module _ {D S : Type 0} (device : Device D) (state : S → SourceState) (first :
     pub end : JobEnd S
     pub ordered : slice_get orders number ≡ Some order
     pub ended : slice_get ends number ≡ Some end
-    pub came : IsOutcomeOf device state first g p.began p.ended order end
+    pub came : IsOutcomeOf device state first g p order end
     pub began : BeganWith first p
     pub within : EndedWithin history last p
 
@@ -173,7 +173,7 @@ module _ {D S : Type 0} (device : Device D) (state : S → SourceState) (first :
   module _ (p : JobPass (HeldStore D)) (history : List Item) (last : List Fill) (began : BeganWith first p) (within : EndedWithin history last p) (place count : ℕ) (addition : Addition) (has : Contains p.ended.fills.places place)
       (there : slice_get last place ≡ Some (Fault count true addition)) where
     -- is a refused job's
-    pub fault_refuses : (order : Order S) (end : JobEnd S) → IsOutcomeOf device state first g p.began p.ended order end → refusal_of_job end ≡ None → ⊥
+    pub fault_refuses : (order : Order S) (end : JobEnd S) → IsOutcomeOf device state first g p order end → refusal_of_job end ≡ None → ⊥
     fault_refuses (Ordered.Link link source wake) (Ended.Link number back end) came calm =
         link_refused (received_by g link p.began) (state source).left p.began p.ended last place (Fault count true addition) within.1 began.none.1 has there first end came.0 calm
     fault_refuses (Ordered.Reader before) (Ended.Reader answers refusal) came calm = none_there p.ended.fills.places place (came.0.put_none.1 ∙ began.none.1) has

@@ -24,14 +24,15 @@ use Rattle.live_fills.proofs.Late.{settling_adds_none}
 use Rattle.live_asks.specs.LiveAsks.{disk_facts}
 use Rattle.load_jobs.specs.declared.ending.LinkEnd.{LinkEnd}
 use Rattle.load_jobs.specs.declared.ending.LinkEnd.TheVariants.{Refused}
-use Rattle.live_asks.specs.declared.answered.AskAnswer.{AskAnswer}
-use Rattle.live_session.specs.declared.reported.DumpCounts.{DumpCounts}
+use Rattle.retrieval.specs.declared.found_asks.FoundAsk.{FoundAsk}
+use Rattle.live_session.specs.declared.loading.LoadJob.{LoadJob}
+use Rattle.live_session.specs.declared.loading.Loaded.{Loaded}
 use Rattle.live_session.specs.declared.reported.ReportedRefusal.{ReportedRefusal}
 use Rattle.live_session.specs.Jobs.{JobSetting}
 use Rattle.load_jobs.proofs.Pieces.{nothing_read}
 use Rattle.load_session.specs.Receiving.{receiving}
-use Rattle.live_session.specs.Links.{AreLinksLoaded, IsSentInto}
-use Rattle.live_session.specs.Outcome.{AreSourcesRead, HasLoaded, IsFillerCause, IsJobsOutcome, IsLoadOutcome, IsReaderCause, IsSeenIn, JobsOutcome, lefts_of, reported, reported_of}
+use Rattle.live_session.specs.Links.{AreLinksLoaded, IsSentInto, extension}
+use Rattle.live_session.specs.Outcome.{AreSourcesRead, HasLoaded, IsFillerCause, IsJobsOutcome, IsLoadOutcome, IsReaderCause, IsSeenIn, JobsOutcome, lefts_of, load_setting, reported, reported_of}
 use Rattle.live_session.specs.Session.{NothingCame}
 use Rattle.live_session.proofs.Lists.{below}
 
@@ -101,7 +102,7 @@ module _ {D S : Type 0} (device : Device D) (state : S → SourceState) (first c
     alone = λ more grown own. (refl, nothing.history);
   }
 
-  links : (link : ℕ) (sources : List S) → AreLinksLoaded first.exponent None first.history closed.history g link (lefts_of state sources) (ends_for sources)
+  links : (link : ℕ) (sources : List S) → AreLinksLoaded (extension first.exponent first.history closed.history None) g link (lefts_of state sources) (ends_for sources)
   links link [] = tt
   links link (source ∷ sources) = (record { put = []; own = ap (filter (λ row. row.link == link)) none_behind; sent = nothing_sent link source }, links (suc link) sources)
 
@@ -135,22 +136,24 @@ module _ {D S : Type 0} (device : Device D) (state : S → SourceState) (first c
     refused = subst (λ (o : Option ReportedRefusal). IfSome o (λ t. IsSeenIn first closed t.refusal)) (sym is) tt;
   }
 
-  -- what is reported is want of memory
-  pub not_run : (link : ℕ) (olds news : List S) (said : Option ReportedRefusal) (counts : DumpCounts) (answers : List AskAnswer) → 1 ≤ length olds → news ≡ olds → said ≡ Some (reported OutOfMemory None) → answers ≡ []
-      → IsLoadOutcome device state first closed g link olds news said counts answers
-  not_run link olds news said counts answers some same is none =
-      let known = tells olds some in
-      record {
-        outcome = outcome olds;
-        possible = possible link olds known;
-        loaded = loaded link olds known;
-        sources = subst (AreSourcesRead state (ends_for olds) olds) (sym same) (read olds);
-        said_is = is ∙ sym known;
-        counts_are = λ unsaid. absurd (cc (unsaid, is));
-        no_more = λ unsaid. absurd (cc (unsaid, is));
-        answers_are = none;
-      }
-    where
-      tells : (sources : List S) → 1 ≤ length sources → reported_of link (ends_for sources) [] ≡ Some (reported OutOfMemory None)
-      tells [] some = absurd (omega (arith, some))
-      tells (source ∷ sources) some = refl
+-- what is reported is want of memory
+tells : {S : Type 0} (link : ℕ) (sources : List S) → 1 ≤ length sources → reported_of link (ends_for sources) [] ≡ Some (reported OutOfMemory None)
+tells link [] some = absurd (omega (arith, some))
+tells link (source ∷ sources) some = refl
+
+pub not_run : {D S : Type 0} (device : Device D) (state : S → SourceState) (first : StoreView D) (job : LoadJob S) (asks : List FoundAsk) (left : Loaded D S) → NothingCame device first left.store → AllByRecursion IsDone first.fills
+    → 1 ≤ length job.sources.items → left.sources.items ≡ job.sources.items → left.reported ≡ Some (reported OutOfMemory None) → left.answers ≡ [] → IsLoadOutcome device state first job asks left
+not_run device state first job asks left nothing done some same is none =
+    let g = load_setting first job asks in
+    let olds = job.sources.items in
+    let known = tells job.link olds some in
+    record {
+      outcome = outcome device state first left.store g nothing done olds;
+      possible = possible device state first left.store g nothing done job.link olds known;
+      loaded = loaded device state first left.store g nothing done job.link olds known;
+      sources = subst (AreSourcesRead state (ends_for olds) olds) (sym same) (read device state first left.store g nothing done olds);
+      reported = is ∙ sym known;
+      counts = λ unsaid. absurd (cc (unsaid, is));
+      no_more = λ unsaid. absurd (cc (unsaid, is));
+      answers = none;
+    }

@@ -268,7 +268,7 @@ module _ {D S : Type 0} (device : Device D) (state : S → SourceState) (first c
         subst (IsFailedAddition first.history closed.history g link lefts link_ends) (sym is) hand
 
     failed_by : (addition : Addition) → AreNewTo closed.history addition → (p : JobPass (HeldStore D)) (place count k : ℕ) → Contains p.ended.fills.places place → slice_get over.last place ≡ Some (Fault count true addition)
-        → BeganWith first p → EndedWithin closed.history over.last p → (order : Order S) (end : JobEnd S) → slice_get orders k ≡ Some order → slice_get ends k ≡ Some end → IsOutcomeOf device state first g p.began p.ended order end
+        → BeganWith first p → EndedWithin closed.history over.last p → (order : Order S) (end : JobEnd S) → slice_get orders k ≡ Some order → slice_get ends k ≡ Some end → IsOutcomeOf device state first g p order end
         → IsFailedAddition first.history closed.history g link lefts link_ends addition
     failed_by addition new p place count k has_place there began within (Ordered.Link n source wake) (Ended.Link number back end) ordered ended came =
         let batch = link_batch (received_by g n p.began) (state source).left p.began p.ended over.last place (Fault count true addition) within.1 began.none.1 has_place there first end came.0 in

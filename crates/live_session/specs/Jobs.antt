@@ -75,27 +75,30 @@ IsSourceRead end old new =
     (old.faults ≤ new.faults) × IsReadCounted end old.faults new.faults
     × (old.never_fails → Stays old.faults new.faults)
 
--- This came of a job, whose pass was so at its beginning and so at its end: what was read of a link's dump was sent,
--- as its end tells; a reader's asks were answered, or those before one that wasn't; a filler filled alone, each of its
--- works to the end, or there is why not.
-abbrev pub IsOutcomeOf : {D T S : Type 0} → Device D → (S → SourceState) → StoreView D → JobSetting
-    → PassView Item Fill T → PassView Item Fill T → Order S → JobEnd S → Type 0
-IsOutcomeOf device state first setting old new (Ordered.Link link source wake) (Ended.Link number back end) =
-    IsLinkRun first (received_by setting link old) (state source).left (state back).left old new end
-    × IsSourceRead end (state source) (state back) × (number ≡ link)
-IsOutcomeOf device state first setting old new (Ordered.Reader before) (Ended.Reader answers refusal) =
-    OnlySees old new
-    × AreAnswered (disk_facts device first.opened) (filled_of first) old.history.seen new.history.seen
-    (every_fourth before setting.asks) answers refusal
-IsOutcomeOf device state first setting old new (Ordered.Filler wakes) (Ended.Filler refusal) =
-    FillsAlone first old new × IfNone refusal (AreWorksDone device first old new)
-    × IfSome refusal (IsRefusalOf first new)
-IsOutcomeOf device state first setting old new order end = ⊥
-
--- the pass of a job at its beginning and at its end
+-- a pass at the beginning of what is done by it, and at the end
 pub record JobPass (T : Type 0) : Type 0 where
   pub began : PassView Item Fill T
   pub ended : PassView Item Fill T
+
+-- one that was so and became so
+abbrev pub job_pass : {T : Type 0} → PassView Item Fill T → PassView Item Fill T → JobPass T
+job_pass began ended = record { began = began; ended = ended }
+
+-- This came of a job by its pass: what was read of a link's dump was sent, as its end tells; a reader's asks were
+-- answered, or those before one that wasn't; a filler filled alone, each of its works to the end, or there is why not.
+abbrev pub IsOutcomeOf : {D T S : Type 0} → Device D → (S → SourceState) → StoreView D → JobSetting → JobPass T
+    → Order S → JobEnd S → Type 0
+IsOutcomeOf device state first setting pass (Ordered.Link link source wake) (Ended.Link number back end) =
+    IsLinkRun first (received_by setting link pass.began) (state source).left (state back).left pass.began pass.ended
+    end × IsSourceRead end (state source) (state back) × (number ≡ link)
+IsOutcomeOf device state first setting pass (Ordered.Reader before) (Ended.Reader answers refusal) =
+    OnlySees pass.began pass.ended
+    × AreAnswered (disk_facts device first.opened) (filled_of first) pass.began.history.seen pass.ended.history.seen
+    (every_fourth before setting.asks) answers refusal
+IsOutcomeOf device state first setting pass (Ordered.Filler wakes) (Ended.Filler refusal) =
+    FillsAlone first pass.began pass.ended × IfNone refusal (AreWorksDone device first pass.began pass.ended)
+    × IfSome refusal (IsRefusalOf first pass.ended)
+IsOutcomeOf device state first setting pass order end = ⊥
 
 module _ {D T S : Type 0} (device : Device D) (state : S → SourceState) (first : StoreView D)
     (setting : JobSetting) where
@@ -103,5 +106,5 @@ module _ {D T S : Type 0} (device : Device D) (state : S → SourceState) (first
   abbrev pub AreOutcomesOf : List (JobPass T) → List (Order S) → List (JobEnd S) → Type 0
   AreOutcomesOf [] [] [] = Unit {0}
   AreOutcomesOf (pass ∷ passes) (order ∷ orders) (end ∷ ends) =
-      IsOutcomeOf device state first setting pass.began pass.ended order end × AreOutcomesOf passes orders ends
+      IsOutcomeOf device state first setting pass order end × AreOutcomesOf passes orders ends
   AreOutcomesOf passes orders ends = ⊥

@@ -82,14 +82,27 @@ module _ (exponent : ℕ) (failed : Option Addition) (history : List Item) (r : 
 
 -- ---- all of them
 
+-- How far the history of an archive came, whose intervals are of this exponent: from the first one to that which was
+-- reached, unless a write failed that was to add this.
+pub record Extension : Type 0 where
+  pub exponent : ℕ
+  pub first : List Item
+  pub reached : List Item
+  pub failed : Option Addition
+
+-- it came so far
+abbrev pub extension : ℕ → List Item → List Item → Option Addition → Extension
+extension exponent first reached failed =
+    record { exponent = exponent; first = first; reached = reached; failed = failed }
+
 -- so came the links of a session, whose numbers rise from this one, by what was left of their dumps
-abbrev pub AreLinksLoaded : ℕ → Option Addition → List Item → List Item → JobSetting → ℕ → List (Option (List ℕ))
-    → List LinkEnd → Type 0
-AreLinksLoaded exponent failed first history setting link [] [] = Unit {0}
-AreLinksLoaded exponent failed first history setting link (left ∷ dumps) (end ∷ ends) =
-    LinkLoads exponent failed history (receiving setting.head first setting.route link setting.moment) left end
-    × AreLinksLoaded exponent failed first history setting (suc link) dumps ends
-AreLinksLoaded exponent failed first history setting link dumps ends = ⊥
+abbrev pub AreLinksLoaded : Extension → JobSetting → ℕ → List (Option (List ℕ)) → List LinkEnd → Type 0
+AreLinksLoaded came setting link [] [] = Unit {0}
+AreLinksLoaded came setting link (left ∷ dumps) (end ∷ ends) =
+    LinkLoads came.exponent came.failed came.reached
+    (receiving setting.head came.first setting.route link setting.moment) left end
+    × AreLinksLoaded came setting (suc link) dumps ends
+AreLinksLoaded came setting link dumps ends = ⊥
 
 -- The rows that a failed write of a link was to add: the new ones of at most 64 successive packets of what was read of
 -- its dump, behind the history that was reached. The link was refused by that fault.

@@ -21,13 +21,16 @@ use Rattle.live_asks.specs.declared.answered.AskAnswer.{AskAnswer}
 use Rattle.live_asks.specs.LiveAsks.{AreAnswered, DiskFacts, disk_facts, every_fourth}
 use Rattle.live_fills.specs.Filler.{IsOfFill}
 use Rattle.live_fills.specs.Laws.{WereLate}
+use Rattle.retrieval.specs.declared.found_asks.FoundAsk.{FoundAsk}
 use Rattle.load_jobs.specs.declared.ending.LinkEnd.{LinkEnd}
 use Rattle.load_jobs.specs.declared.ending.LinkEnd.TheVariants.{Whole}
 use Rattle.load_jobs.specs.Ends.{is_of_dump, refusal_of_end}
 use Rattle.live_session.specs.declared.reported.DumpCounts.{DumpCounts}
 use Rattle.live_session.specs.declared.reported.ReportedRefusal.{ReportedRefusal}
-use Rattle.live_session.specs.Jobs.{IsSourceRead, JobSetting}
-use Rattle.live_session.specs.Links.{AreLinksLoaded, IsBatchInHand}
+use Rattle.live_session.specs.declared.loading.LoadJob.{LoadJob}
+use Rattle.live_session.specs.declared.loading.Loaded.{Loaded}
+use Rattle.live_session.specs.Jobs.{IsSourceRead, JobSetting, job_setting}
+use Rattle.live_session.specs.Links.{AreLinksLoaded, Extension, IsBatchInHand, extension}
 
 -- The outcome of the jobs of a load: the history that was reached; how each link ended, in the order of the links; the
 -- answers to the asks, in their order; why each reader and each filler was refused, if it was, in the jobs' order; and
@@ -104,6 +107,11 @@ IsFailedAddition first reached setting link dumps ends (Rows rows) =
     IsBatchInHand first reached setting link dumps ends rows
 IsFailedAddition first reached setting link dumps ends other = IsOfFill other
 
+-- how far they brought the history of an archive
+abbrev pub extension_by : FilledArchive → JobsOutcome → Extension
+extension_by opened outcome =
+    extension opened.plain.exponent opened.plain.history outcome.reached outcome.failed
+
 -- What the jobs of links from this number on, by what is left of their dumps, may come to over an archive that was
 -- opened on a disk of which this is known.
 pub record IsJobsOutcome (facts : DiskFacts) (opened : FilledArchive) (setting : JobSetting) (link : ℕ)
@@ -112,8 +120,7 @@ pub record IsJobsOutcome (facts : DiskFacts) (opened : FilledArchive) (setting :
   pub more : List Row
   pub grown : outcome.reached ≡ opened.plain.history ++ items_of more
   pub of_links : AllByRecursion (λ row. (link ≤ row.link) × (row.link < link + length dumps)) more
-  pub links : AreLinksLoaded opened.plain.exponent outcome.failed opened.plain.history outcome.reached setting link
-      dumps outcome.ends
+  pub links : AreLinksLoaded (extension_by opened outcome) setting link dumps outcome.ends
   -- where nothing was refused each ask is answered: every fourth over histories that go on from each other
   pub answered : reported_of link outcome.ends outcome.others ≡ None → (before : ℕ) → before < 4 →
       AreAnswered facts opened opened.plain.history outcome.reached (every_fourth before setting.asks)
@@ -166,18 +173,21 @@ AreSourcesRead state ends olds news = ⊥
 abbrev pub lefts_of : {S : Type 0} → (S → SourceState) → List S → List (Option (List ℕ))
 lefts_of state sources = map (λ source. (state source).left) sources
 
--- The jobs of a load by these sources were run over a store, or there was no memory for them, which is the refusal of
--- each link. Of their outcome this is reported, with these answers; where nothing was refused these are the counts of
--- the dumps, and no more rows came than their packets are.
-pub record IsLoadOutcome {D S : Type 0} (device : Device D) (state : S → SourceState) (first closed : StoreView D)
-    (setting : JobSetting) (link : ℕ) (olds news : List S) (said : Option ReportedRefusal) (counts : DumpCounts)
-    (answers : List AskAnswer) : Type 0 where
+-- the setting of the jobs of a load into an archive, with these asks
+abbrev pub load_setting : {D S : Type 0} → StoreView D → LoadJob S → List FoundAsk → JobSetting
+load_setting first job asks = job_setting first.head job.graph job.moment asks
+
+-- The jobs of a load were run over a store, with these asks, or there was no memory for them, which is the refusal of
+-- each link. It left what they came to: of their outcome it reports the first refusal, with the answers; where nothing
+-- was refused its counts are those of the dumps, and no more rows came than their packets are.
+pub record IsLoadOutcome {D S : Type 0} (device : Device D) (state : S → SourceState) (first : StoreView D)
+    (job : LoadJob S) (asks : List FoundAsk) (left : Loaded D S) : Type 0 where
   pub outcome : JobsOutcome
-  pub possible : IsJobsOutcome (disk_facts device first.opened) (filled_of first) setting link (lefts_of state olds)
-      outcome
-  pub loaded : HasLoaded device first closed link outcome
-  pub sources : AreSourcesRead state outcome.ends olds news
-  pub said_is : said ≡ reported_of link outcome.ends outcome.others
-  pub counts_are : said ≡ None → counts ≡ counts_of outcome.ends
-  pub no_more : said ≡ None → length outcome.reached ≤ length first.history + counts.routed
-  pub answers_are : answers ≡ outcome.answers
+  pub possible : IsJobsOutcome (disk_facts device first.opened) (filled_of first) (load_setting first job asks) job.link
+      (lefts_of state job.sources.items) outcome
+  pub loaded : HasLoaded device first left.store job.link outcome
+  pub sources : AreSourcesRead state outcome.ends job.sources.items left.sources.items
+  pub reported : left.reported ≡ reported_of job.link outcome.ends outcome.others
+  pub counts : left.reported ≡ None → left.counts ≡ counts_of outcome.ends
+  pub no_more : left.reported ≡ None → length outcome.reached ≤ length first.history + left.counts.routed
+  pub answers : left.answers ≡ outcome.answers

@@ -23,15 +23,14 @@ use Rattle.live_session.specs.Jobs.{AreOutcomesOf, JobPass, JobSetting}
 
 -- Jobs ran with passes that were split off one, and joined to it at their ends. It has its share again.
 pub record HaveRun {D T S : Type 0} (device : Device D) (state : S → SourceState) (first : StoreView D)
-    (setting : JobSetting) (old now : PassView Item Fill T) (orders : List (Order S)) (ends : List (JobEnd S))
-    : Type 0 where
+    (setting : JobSetting) (one : JobPass T) (orders : List (Order S)) (ends : List (JobEnd S)) : Type 0 where
   pub passes : List (JobPass T)
   pub each : AreOutcomesOf device state first setting passes orders ends
-  pub began : AllByRecursion (λ p. HasSeenAsMuch old p.began) passes
+  pub began : AllByRecursion (λ p. HasSeenAsMuch one.began p.began) passes
   pub split : PassView Item Fill T
-  pub same : (split.history ≡ old.history) × (split.fills ≡ old.fills)
-  pub joined : Joins (map (λ p. p.ended) passes) split now []
-  pub share : now.share ≡ old.share
+  pub same : (split.history ≡ one.began.history) × (split.fills ≡ one.began.fills)
+  pub joined : Joins (map (λ p. p.ended) passes) split one.ended []
+  pub share : one.ended.share ≡ one.began.share
 
 -- ---- the whole session
 

@@ -3,7 +3,7 @@
 ghost use Rattle.std.specs.Prelude.{◌≡◌};
 ghost use Rattle.turn_cell.specs.Pass.{IsFree};
 ghost use Rattle.live_session.specs.declared.order.Order.TheVariants as Ordered;
-ghost use Rattle.live_session.specs.Jobs.{IsOutcomeOf, MayDo, job_setting};
+ghost use Rattle.live_session.specs.Jobs.{IsOutcomeOf, MayDo, job_pass, job_setting};
 
 use crate::order::{JobEnd, Order, Setting};
 use arch_disk::Disk;
@@ -48,7 +48,7 @@ impl<'a, D: Disk + Send, S: Source + Send + Drop, G: Gate + Sync> Job
     ghost did = { λ job done. IsFree job.live.now.cell done.pass
         × IsOutcomeOf D.device S.state job.live.now.cell.first.store
         (job_setting job.setting.now.head.now job.setting.now.graph.now job.setting.now.moment job.setting.now.asks.now)
-        job.pass done.pass job.order done.end };
+        (job_pass job.pass done.pass) job.order done.end };
 
     fn run<R: Wait>(self, rt: &R) -> SessionJobDone<LivePass<D>, S> {
         let SessionJob {
@@ -173,7 +173,7 @@ fn run_link_job<D: Disk, S: Source, G: Gate, R: Wait>(
     ensures free { IsFree worker.entry.live.now.cell result.pass }
     ensures came { IsOutcomeOf D.device S.state worker.entry.live.now.cell.first.store
         (job_setting worker.entry.setting.now.head.now worker.entry.setting.now.graph.now
-        worker.entry.setting.now.moment worker.entry.setting.now.asks.now) worker.entry.pass result.pass
+        worker.entry.setting.now.moment worker.entry.setting.now.asks.now) (job_pass worker.entry.pass result.pass)
         (Ordered.Link link source wake) result.end }
 {
     let Worker {

@@ -11,7 +11,6 @@ ghost use Rattle.store_fills.specs.Faults.{IsDone};
 ghost use Rattle.retrieval.specs.FoundAsks.{AreFound};
 ghost use Rattle.load_session.specs.Receiving.{IsRouteOver};
 ghost use Rattle.live_session.specs.Interleaving.{AreEveryFourth, HaveAnswersFor, answers_at};
-ghost use Rattle.live_session.specs.Jobs.{job_setting};
 ghost use Rattle.live_session.specs.Outcome.{HasFewCounts, IsLoadOutcome, counts_of, reported, reported_of};
 
 use crate::interleaving::in_order_of;
@@ -78,9 +77,7 @@ pub fn load<D: Disk + Send, S: Source + Send + Drop, G: Gate + Sync, R: Threads 
     requires route { IsRouteOver store.head job.graph }
     requires found { AreFound store.head store.history asks.now }
     requires opened { AllByRecursion IsDone store.fills }
-    ensures outcome { IsLoadOutcome D.device S.state store result.store
-        (job_setting store.head job.graph job.moment asks.now) job.link job.sources.items
-        result.sources.items result.reported result.counts result.answers }
+    ensures outcome { IsLoadOutcome D.device S.state store job asks.now result }
 {
     let LoadJob {
         moment,

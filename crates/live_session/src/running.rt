@@ -4,7 +4,7 @@ ghost use Rattle.std.specs.Prelude.{◌≡◌, ◌≤◌, ◌+◌, ◌^◌, ◌+
 ghost use Rattle.std.specs.List.{AllByRecursion};
 ghost use Rattle.turn_cell.specs.Pass.{IsFree};
 ghost use Rattle.turn_passes.specs.Passes.{AreSplitOff};
-ghost use Rattle.live_session.specs.Jobs.{IsFit, IsNumbered, MayDo, job_setting};
+ghost use Rattle.live_session.specs.Jobs.{IsFit, IsNumbered, MayDo, job_pass, job_setting};
 ghost use Rattle.live_session.specs.Session.{HaveRun};
 
 use crate::job::{SessionJob, SessionJobDone};
@@ -44,7 +44,7 @@ pub(crate) fn run_jobs<
     ensures free { IsFree live.now.cell pass.new }
     ensures ran { IfOk result (λ ends. HaveRun D.device S.state live.now.cell.first.store
         (job_setting setting.now.head.now setting.now.graph.now setting.now.moment setting.now.asks.now)
-        pass.old pass.new orders.items ends.items) }
+        (job_pass pass.old pass.new) orders.items ends.items) }
     ensures back { IfErr result (λ back. (back.items ≡ orders.items) × (pass.new ≡ pass.old)) }
 {
     let count = orders.len();

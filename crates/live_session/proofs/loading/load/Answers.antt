@@ -4,15 +4,18 @@ use Rattle.std.specs.List.{AllByRecursion, filter_map}
 use mir.Val.{of_z, to_z}
 use Rattle.field_codec.specs.declared.entry.Entry.TheVariants as entries
 use Rattle.field_codec.specs.Entries.{IsArchiveEntry}
+use Rattle.arch_types.specs.History.{IsHistory}
+use Rattle.history_items.specs.Items.{rows_in}
 use Rattle.archive_store.specs.declared.head.Head.{Head}
+use Rattle.archive_store.specs.StoreView.{StoreView}
 use Rattle.load_session.specs.Receiving.{IsRouteOver}
 use Rattle.load_jobs.specs.declared.ending.LinkEnd.{LinkEnd}
 use Rattle.live_asks.specs.declared.answered.AskAnswer.{AskAnswer}
 use Rattle.live_session.specs.Interleaving.{AreEveryFourth, HaveAnswersFor, answers_at}
 use Rattle.live_session.specs.Jobs.{IsFit, job_setting}
-use Rattle.live_session.specs.Outcome.{HasFewCounts, IsLoadOutcome, counts_of, reported_of}
+use Rattle.live_session.specs.Outcome.{HasFewCounts, counts_of, reported_of}
 use Rattle.live_session.specs.Results.{end_in, source_of}
-use Rattle.live_session.specs.Session.{NothingCame}
+use Rattle.live_session.specs.Session.{IsSessionOver, NothingCame}
 use Rattle.live_session.proofs.Came.{as_many_ended, as_many_links, came, few_counts, few_readers, over_given}
 use Rattle.live_session.proofs.Closing.{given_back}
 use Rattle.live_session.proofs.NotRun.{not_run}
@@ -23,20 +26,20 @@ use Rattle.live_session.proofs.loading.load.Goals as goal
 
 pub returns-in_default : goal.returns-in_default
 returns-in_default g c =
-    let given_all = job_setting c.args.store.head c.args.job.graph c.args.job.moment c.args.asks.now in
+    let device = g.D.Disk.device in
     let some : 1 ≤ length c.args.job.sources.items = (let dumps = c.requires.dumps in let ok = c.args.job.sources.ok in omega (arith, dumps, ok)) in
     record {
-      outcome = not_run g.D.Disk.device g.S.Source.state c.args.store c.not_run.result.store given_all (given_back g.D.Disk.device c.args.store c.not_run.result.store c.not_run.ensures.same.0) c.requires.opened c.args.job.link c.args.job.sources.items c.not_run.result.sources.items c.not_run.result.reported c.not_run.result.counts
-          c.not_run.result.answers some c.not_run.ensures.same.1 c.not_run.ensures.reported c.not_run.ensures.none;
+      outcome = not_run device g.S.Source.state c.args.store c.args.job c.args.asks.now c.not_run.result (given_back device c.args.store c.not_run.result.store c.not_run.ensures.same.0) c.requires.opened
+          some c.not_run.ensures.same.1 c.not_run.ensures.reported c.not_run.ensures.none;
     }
 
 pub returns-in-Err : goal.returns-in-Err
 returns-in-Err g c =
-    let given_all = job_setting c.args.store.head c.args.job.graph c.args.job.moment c.args.asks.now in
+    let device = g.D.Disk.device in
     let some : 1 ≤ length c.args.job.sources.items = (let dumps = c.requires.dumps in let ok = c.args.job.sources.ok in omega (arith, dumps, ok)) in
     record {
-      outcome = not_run g.D.Disk.device g.S.Source.state c.args.store c.not_run-in-Err.result.store given_all (given_back g.D.Disk.device c.args.store c.not_run-in-Err.result.store c.not_run-in-Err.ensures.same.0) c.requires.opened c.args.job.link c.args.job.sources.items c.not_run-in-Err.result.sources.items c.not_run-in-Err.result.reported c.not_run-in-Err.result.counts
-          c.not_run-in-Err.result.answers some (c.not_run-in-Err.ensures.same.1 ∙ c.in-Err.ensures.back) c.not_run-in-Err.ensures.reported c.not_run-in-Err.ensures.none;
+      outcome = not_run device g.S.Source.state c.args.store c.args.job c.args.asks.now c.not_run-in-Err.result (given_back device c.args.store c.not_run-in-Err.result.store c.not_run-in-Err.ensures.same.0) c.requires.opened
+          some (c.not_run-in-Err.ensures.same.1 ∙ c.in-Err.ensures.back) c.not_run-in-Err.ensures.reported c.not_run-in-Err.ensures.none;
     }
 
 pub sources_back-requires-clause-room : goal.sources_back-requires-clause-room
@@ -51,13 +54,15 @@ sources_back-requires-clause-room g c =
 
 pub returns : goal.returns
 returns g c =
+    let device = g.D.Disk.device in
     let gone = c.in-Err-run_session.ensures.not_begun in
-    let given_all = job_setting c.args.store.head c.args.job.graph c.args.job.moment c.args.asks.now in
+    let back = c.not_run-in-Err-run_session in
     let some : 1 ≤ length c.args.job.sources.items = (let dumps = c.requires.dumps in let ok = c.args.job.sources.ok in omega (arith, dumps, ok)) in
+    let given = back.ensures.same.1 ∙ (c.sources_back.ensures ∙ (ap (filter_map source_of) gone.0
+    ∙ sources_ordered c.args.job.link c.args.job.sources.items (min (length c.args.asks.now) 4) c.args.job.fillers c.in-Ok-orders_of.orders.items c.in-Ok-orders_of.ensures.orders)) in
     record {
-      outcome = not_run g.D.Disk.device g.S.Source.state c.args.store c.not_run-in-Err-run_session.result.store given_all (subst (NothingCame g.D.Disk.device c.args.store) (sym c.not_run-in-Err-run_session.ensures.same.0) gone.1) c.requires.opened c.args.job.link c.args.job.sources.items c.not_run-in-Err-run_session.result.sources.items c.not_run-in-Err-run_session.result.reported c.not_run-in-Err-run_session.result.counts
-          c.not_run-in-Err-run_session.result.answers some (c.not_run-in-Err-run_session.ensures.same.1 ∙ (c.sources_back.ensures ∙ (ap (filter_map source_of) gone.0
-          ∙ sources_ordered c.args.job.link c.args.job.sources.items (min (length c.args.asks.now) 4) c.args.job.fillers c.in-Ok-orders_of.orders.items c.in-Ok-orders_of.ensures.orders))) c.not_run-in-Err-run_session.ensures.reported c.not_run-in-Err-run_session.ensures.none;
+      outcome = not_run device g.S.Source.state c.args.store c.args.job c.args.asks.now back.result (subst (NothingCame device c.args.store) (sym back.ensures.same.0) gone.1) c.requires.opened
+          some given back.ensures.reported back.ensures.none;
     }
 
 -- ---- jobs that are run
@@ -231,13 +236,15 @@ returns-in-Ok-run_session g c =
     let many : readers ≡ min 4 (length asks) = omega arith in
     let result = c.load_end.result in
     let results = c.sort_results.result in
-    let all = job_setting store.head c.args.job.graph moment asks in
     let interleaved = subst
     (λ (l : List (List AskAnswer)). HaveAnswersFor asks (answers_at 0 l) (answers_at 1 l) (answers_at 2 l) (answers_at 3 l) → AreEveryFourth result.answers (answers_at 0 l) (answers_at 1 l) (answers_at 2 l) (answers_at 3 l))
     c.sort_results.ensures.answers c.load_end.ensures.answers in
-    let ended = came g.D.Disk.device g.S.Source.state store end.store (job_setting store.head c.args.job.graph moment asks) orders end.ends.items over c.args.job.link c.args.job.sources.items readers c.args.job.fillers c.in-Ok-orders_of.ensures.orders c.requires.opened c.is_kept.ensures.history.0 fit many result.sources.items result.reported result.counts result.answers (c.load_end.ensures.same.1 ∙ c.sort_results.ensures.sources)
-    (c.load_end.ensures.reported ∙ (ap (λ (l : List LinkEnd). reported_of c.args.job.link l results.others.items) c.sort_results.ensures.ends ∙ ap (reported_of c.args.job.link (filter_map end_in end.ends.items)) c.sort_results.ensures.others))
-    (c.load_end.ensures.counts ∙ ap counts_of c.sort_results.ensures.ends) interleaved in
+    let same = sym c.load_end.ensures.same.0 in
+    let left_over = subst (λ s. IsSessionOver g.D.Disk.device g.S.Source.state store s (job_setting store.head c.args.job.graph moment asks) orders end.ends.items) same over in
+    let is_history = subst (λ (s : StoreView g.row.D.Denot). IsHistory (rows_in s.history)) same c.is_kept.ensures.history.0 in
     record {
-      outcome = subst (λ s. IsLoadOutcome g.D.Disk.device g.S.Source.state store s all c.args.job.link c.args.job.sources.items result.sources.items result.reported result.counts result.answers) (sym c.load_end.ensures.same.0) ended;
+      outcome = came g.D.Disk.device g.S.Source.state store c.args.job asks result orders end.ends.items left_over readers c.in-Ok-orders_of.ensures.orders c.requires.opened is_history fit many
+          (c.load_end.ensures.same.1 ∙ c.sort_results.ensures.sources)
+          (c.load_end.ensures.reported ∙ (ap (λ (l : List LinkEnd). reported_of c.args.job.link l results.others.items) c.sort_results.ensures.ends ∙ ap (reported_of c.args.job.link (filter_map end_in end.ends.items)) c.sort_results.ensures.others))
+          (c.load_end.ensures.counts ∙ ap counts_of c.sort_results.ensures.ends) interleaved;
     }

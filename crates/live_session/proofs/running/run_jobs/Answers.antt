@@ -2,7 +2,7 @@ use Rattle.std.proofs.Common.{◌≡◌, ◌∙◌, [], ◌++◌, map, sym, ap, 
 use Rattle.std.specs.List.{AllByRecursion}
 use Rattle.turn_cell.specs.Pass.{IsFree}
 use Rattle.turn_passes.specs.Passes.{Joins}
-use Rattle.live_session.specs.Jobs.{IsOutcomeOf, job_setting}
+use Rattle.live_session.specs.Jobs.{IsOutcomeOf, job_pass, job_setting}
 use Rattle.live_session.specs.Session.{HaveRun}
 use Rattle.live_session.proofs.Coming.{all_ends, each_of_ends, have_run}
 use Rattle.live_session.proofs.Sending.{goes}
@@ -43,8 +43,8 @@ returns-clause-ran g c =
     let told : c.take_apart.new.ends.items ≡ map (λ one. one.end) dones = c.take_apart.ensures.ends ∙ ap (λ l. l ++ map (λ one. one.end) dones) c.in-Ok-with_capacity-3.ensures.items in
     let joined = subst (λ l. Joins l c.make_jobs.new.pass c.join_all.new.pass []) is c.join_all.ensures.joined in
     let ran = have_run device state first all (λ job. job.pass) (λ job. job.order) (λ one. one.pass) (λ one. one.end) _ _
-    (λ job one here did. subst (λ cell. IsOutcomeOf device state cell.first.store all job.pass one.pass job.order one.end) here.0
-    (subst (λ x. IsOutcomeOf device state job.live.now.cell.first.store x job.pass one.pass job.order one.end) here.1 did.1))
+    (λ job one here did. subst (λ cell. IsOutcomeOf device state cell.first.store all (job_pass job.pass one.pass) job.order one.end) here.0
+    (subst (λ x. IsOutcomeOf device state job.live.now.cell.first.store x (job_pass job.pass one.pass) job.order one.end) here.1 did.1))
     c.args.pass.now c.make_jobs.new.pass c.join_all.new.pass _ jobs dones c.make_jobs.ensures.here each c.make_jobs.ensures.split joined in
-    subst (λ l. HaveRun device state first all c.args.pass.now c.join_all.new.pass l c.take_apart.new.ends.items) c.make_jobs.ensures.orders
-    (subst (λ l. HaveRun device state first all c.args.pass.now c.join_all.new.pass (map (λ job. job.order) jobs) l) (sym told) ran)
+    subst (λ l. HaveRun device state first all (job_pass c.args.pass.now c.join_all.new.pass) l c.take_apart.new.ends.items) c.make_jobs.ensures.orders
+    (subst (λ l. HaveRun device state first all (job_pass c.args.pass.now c.join_all.new.pass) (map (λ job. job.order) jobs) l) (sym told) ran)
