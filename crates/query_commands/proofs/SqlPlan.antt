@@ -13,7 +13,8 @@ use Rattle.command_plans.specs.Plan.{OfMemory, Stopped, Interrupted, EachEnd, Is
 use Rattle.command_plans.proofs.Plans.{determined, determined_map_done, each_end}
 use Rattle.ssql_types.specs.declared.place.ScriptPlace.TheVariants.{Sql}
 use Rattle.ssql_types.specs.declared.statement.TypedStatement.{TypedStatement}
-use Rattle.ssql_types.specs.Laws.{NamesTables, TypedNamesTables}
+use Rattle.ssql_types.specs.Laws.{NamesTables}
+use Rattle.ssql_types.proofs.KnownTables.{script_tables}
 use Rattle.command_runs.specs.Command.{HasDiskOutcome, Opened, Effects, EndedAt, Ran, archive_opened, nothing_done, opening_plan, printing_plan, stepwise_printing_plan}
 use Rattle.command_runs.specs.Report.{read_only}
 use Rattle.script_answers.specs.Scripts.{OrNoMemory, after_answer, script_octets_plan, script_plan}
@@ -26,9 +27,9 @@ use Rattle.command_runs.proofs.OverInputs.{HasRead}
 use Rattle.script_answers.proofs.ScriptAnswers.{script_determined}
 
 -- the tables of a script that is answered are there
-pub named_tables : (archive : Archive) (text : List ℕ) (statements : List TypedStatement) → TypedNamesTables → IsSqlAnswer archive text (Ok statements) → AllByRecursion (NamesTables (length archive.head.tables)) statements
-named_tables archive text statements law is =
-    subst (AllByRecursion (NamesTables (length archive.head.tables))) (sym is.3) (law Sql archive.head.tables (packet_names archive.head archive.history) [] is.0.statements is.0.places is.2)
+pub named_tables : (archive : Archive) (text : List ℕ) (statements : List TypedStatement) → IsSqlAnswer archive text (Ok statements) → AllByRecursion (NamesTables (length archive.head.tables)) statements
+named_tables archive text statements is =
+    subst (AllByRecursion (NamesTables (length archive.head.tables))) (sym is.3) (script_tables Sql archive.head.tables (packet_names archive.head archive.history) [] is.0.statements is.0.places is.2)
 
 -- ---- an archive was opened
 

@@ -25,7 +25,6 @@ use outer_traits::sink::Sink;
 use refusals::{Refusal, Which};
 use script_answers::scripts::typed_text;
 use script_answers::statements::answer_statements;
-use ssql_types::laws::typed_names_tables;
 use ssql_types::place::ScriptPlace;
 use ssql_types::statement::TypedStatement;
 use std::alloc::Global;
@@ -136,7 +135,6 @@ fn answer_over<D: Disk, K: Sink>(
     requires empty { line_buffer ≡ [] }
     ensures { IsTextReply (archive_of store.now) text.now result (K.state sink.old) (K.state sink.new) }
 {
-    typed_names_tables();
     store.is_kept();
     let head = store.head();
     match typed_text(alloc, text, ScriptPlace::Sql, &head.tables, names) {

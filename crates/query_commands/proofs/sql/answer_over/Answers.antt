@@ -11,7 +11,7 @@ typed_text-requires g c = record {
 
 pub print_answers-requires-clause-tables : goal.print_answers-requires-clause-tables
 print_answers-requires-clause-tables g c =
-    rw c.as_slice-script.ensures (named_tables (archive_of c.args.store.now) c.args.text.now c.in-Ok.script c.typed_names_tables.ensures (rw (c.requires.names, c.head-head.ensures.head) at c.in-Ok.ensures))
+    rw c.as_slice-script.ensures (named_tables (archive_of c.args.store.now) c.args.text.now c.in-Ok.script (rw (c.requires.names, c.head-head.ensures.head) at c.in-Ok.ensures))
 
 pub returns-in-Ok : goal.returns-in-Ok
 returns-in-Ok g c = inr (c.in-Ok.script, rw (c.requires.names, c.head-head.ensures.head) at c.in-Ok.ensures, rw c.as_slice-script.ensures at c.print_answers.ensures)
