@@ -3,6 +3,7 @@ pub mod FoundBehind
 pub mod JobRuns
 pub mod LoadPlan
 pub mod LoadReports
+pub mod Printing
 pub mod ReadyLoads
 pub mod RoutePlan
 pub mod RouteTables

@@ -74,7 +74,7 @@ module _ (dumps : ℕ) (filled : FilledArchive) (c : JobsOutcome) where
 module _ {D : Type 0} (device : Device D) (e : Effects D) (facts : DiskFacts) (files : Option Files) (next : Option ℤ) (words : LoadWords) (text : Option (List ℕ)) (sheet : Result (List Ask) Refusal) (filled : FilledArchive)
     {S : Type 0} (state : S → SourceState) (olds : List S) (as_many : length words.dumps ≡ length olds) where
   abbrev loading : CommandPlan Progress ⊥
-  loading = loading_plan facts files next words text sheet filled
+  loading = loading_plan facts files next (load_asked words text sheet) filled
 
   abbrev archive : Archive
   archive = filled.plain
@@ -156,7 +156,7 @@ module _ {D : Type 0} (device : Device D) (e : Effects D) (files : Option Files)
   opens = opening_all_plan files words.dumps 0
 
   abbrev behind : CommandPlan Progress ⊥
-  behind = opened_plan (length words.dumps) device e.disk (λ records. loading_plan (disk_facts device e.disk) files next words text sheet)
+  behind = opened_plan (length words.dumps) device e.disk (λ records. loading_plan (disk_facts device e.disk) files next (load_asked words text sheet))
 
   abbrev plan : CommandPlan Progress ⊥
   plan = archive_load_plan device e.disk files next words text sheet
@@ -182,13 +182,13 @@ module _ {D : Type 0} (device : Device D) (e : Effects D) (files : Option Files)
         (closed (failed_at way OfInputs) (subst (λ (l : List S). UsedSources state firsts l (failed_at way OfInputs)) (sym before.2) (subst (UsedSources state firsts firsts) (sym before.1) (unused_sources state firsts))))
     over way (inr used) = subst (λ (n : ℕ). UsedInputs a b n (failed_at way OfInputs)) (sym (used.given ∙ as_many)) (closed (failed_at way OfInputs) used.used)
 
-    pub ran_loaded : RanWith device (opened_plan (length firsts) device e.disk (λ records. loading_plan (disk_facts device e.disk) files next words text sheet)) e
+    pub ran_loaded : RanWith device (opened_plan (length firsts) device e.disk (λ records. loading_plan (disk_facts device e.disk) files next (load_asked words text sheet))) e
         (UsedByWork (length firsts) firsts lasts (HaveUsedSources state firsts lasts)) → RanOver device plan e a b
     ran_loaded went = record {
       ran = record {
         way = went.ran.way;
         allows = gave (map_done nothing_done opens) (λ (done : Unit {0}). behind) tt went.ran.way (allows_map_done nothing_done opens (Returned tt) (allows 0))
-            (subst (λ (n : ℕ). Allows (opened_plan n device e.disk (λ records. loading_plan (disk_facts device e.disk) files next words text sheet)) went.ran.way) as_many went.ran.allows);
+            (subst (λ (n : ℕ). Allows (opened_plan n device e.disk (λ records. loading_plan (disk_facts device e.disk) files next (load_asked words text sheet))) went.ran.way) as_many went.ran.allows);
         did = went.ran.did;
       };
       inputs = over went.ran.way went.used;
@@ -234,10 +234,10 @@ module _ (facts : DiskFacts) (files : Option Files) (next : Option ℤ) (words :
       determined (asks_check_plan (archive_opened (length words.dumps) filled) filled.plain sheet) (jobs_plan facts files next words filled route) (check_determined (archive_opened (length words.dumps) filled) filled.plain sheet)
       (λ asks g given c came. jobs_determined (length words.dumps) filled asks c (reported_of words.link c.ends c.others) c.failed)
 
-  loading_determined : (text : Option (List ℕ)) → IsDetermined (loading_plan facts files next words text sheet filled)
+  loading_determined : (text : Option (List ℕ)) → IsDetermined (loading_plan facts files next (load_asked words text sheet) filled)
   loading_determined text = (λ a b h k. h ∙ sym k, λ found h. each found)
     where
-      each : (found : Option Refusal) → IsDetermined (after_links facts files next words text sheet filled found)
+      each : (found : Option Refusal) → IsDetermined (after_links facts files next (load_asked words text sheet) filled found)
       each None =
           determined (route_plan (archive_opened (length words.dumps) filled) filled.plain text) (after_route facts files next words sheet filled) (route_determined (archive_opened (length words.dumps) filled) filled.plain text)
           routed_determined
@@ -251,9 +251,9 @@ load_determined device disk (Some all) next words known some = (λ a b h k. h �
   where
     archived : (text : Option (List ℕ)) (sheet : Result (List Ask) Refusal) → IsDetermined (archive_load_plan device disk (Some all) next words text sheet)
     archived text sheet =
-        determined (map_done nothing_done (opening_all_plan (Some all) words.dumps 0)) (λ (done : Unit {0}). opened_plan (length words.dumps) device disk (λ records. loading_plan (disk_facts device disk) (Some all) next words text sheet))
+        determined (map_done nothing_done (opening_all_plan (Some all) words.dumps 0)) (λ (done : Unit {0}). opened_plan (length words.dumps) device disk (λ records. loading_plan (disk_facts device disk) (Some all) next (load_asked words text sheet)))
         (determined_map_done nothing_done (opening_all_plan (Some all) words.dumps 0) (opening_all_determined all words.dumps 0))
-        (λ done. determined (opening_plan (length words.dumps) device disk) (loading_plan (disk_facts device disk) (Some all) next words text sheet) (opens_determined (length words.dumps) device disk known)
+        (λ done. determined (opening_plan (length words.dumps) device disk) (loading_plan (disk_facts device disk) (Some all) next (load_asked words text sheet)) (opens_determined (length words.dumps) device disk known)
         (λ filled. loading_determined (disk_facts device disk) (Some all) next words sheet filled text))
 
     each : (found : Option Refusal) → IsDetermined (after_limits device disk (Some all) next words found)

@@ -16,7 +16,6 @@ use Rattle.live_asks.specs.declared.answered.AskAnswer.{AskAnswer}
 use Rattle.live_session.specs.declared.reported.DumpCounts.{DumpCounts}
 use Rattle.live_session.specs.Outcome.{JobsOutcome, counts_of}
 use Rattle.load_command.specs.LoadLine.{load_line, load_text}
-use Rattle.load_command.specs.Loading.{printed_report}
 
 -- the six pieces of a line, put one behind the other
 pub six_put : (old first second third fourth fifth last a b c d e f g h i j k : List ℕ) → first ≡ old ++ a ++ b → second ≡ first ++ c ++ d → third ≡ second ++ e ++ f
@@ -24,6 +23,11 @@ pub six_put : (old first second third fourth fifth last a b c d e f g h i j k : 
 six_put old first second third fourth fifth last a b c d e f g h i j k one two three four five six = rw (six, five, four, three, two, one) (simp append_assoc refl)
 
 -- ---- the report
+
+-- the report of a load whose line was printed, or not
+abbrev pub printed_report : Option Refusal → ℕ → ℕ → ℕ → ℕ → ℕ → Report
+printed_report None before after packets routed idle = loaded None None before after packets (routed - (after - before)) idle
+printed_report (Some refusal) before after packets routed idle = loaded (Some refusal) None before after 0 0 0
 
 pub printed : (report : Report) (before after rows packets routed idle : ℕ) → after ≡ rows → report ≡ loaded None None before after packets (routed - (after - before)) idle
     → report ≡ printed_report report.refusal before rows packets routed idle

@@ -33,13 +33,14 @@ use Rattle.command_runs.proofs.During.{IsOpened, opened_store}
 use Rattle.command_runs.proofs.FilledDisks.{batch_failed_disk, failed_disk, fill_failed_disk, fault_count_since, filled_disk, log_near, new_fills, unfailed_disk}
 use Rattle.command_runs.proofs.FillingPlan.{ran_all_filled, ran_behind, ran_unfilled}
 use Rattle.live_archive.specs.GoesOn.{NoneFailed, OneFailed}
-use Rattle.live_asks.specs.declared.answered.AskAnswer.{AskAnswer}
 use Rattle.live_asks.specs.LiveAsks.{DiskFacts, disk_facts}
 use Rattle.live_fills.proofs.Late.{fills_of_late}
-use Rattle.live_session.specs.declared.reported.DumpCounts.{DumpCounts}
+use Rattle.retrieval.specs.declared.found_asks.FoundAsk.{FoundAsk}
+use Rattle.live_session.specs.declared.loading.LoadJob.{LoadJob}
+use Rattle.live_session.specs.declared.loading.Loaded.{Loaded}
 use Rattle.live_session.specs.declared.reported.ReportedRefusal.{ReportedRefusal}
 use Rattle.live_session.specs.Jobs.{JobSetting}
-use Rattle.live_session.specs.Outcome.{HasFailed, IsFailedAddition, IsJobsOutcome, IsLoadOutcome, IsSeenIn, JobsOutcome, lefts_of, reported_of}
+use Rattle.live_session.specs.Outcome.{HasFailed, IsFailedAddition, IsJobsOutcome, IsLoadOutcome, IsSeenIn, JobsOutcome, lefts_of, load_setting, reported_of}
 use Rattle.load_jobs.proofs.Closing.{left_during}
 use Rattle.load_session.specs.During.{IsDuring}
 use Rattle.load_session.specs.Filling.{AllLateFilled, IsFillFailed, IsFilledOn, IsFillingRefusal, IsUnfailed}
@@ -52,13 +53,21 @@ nothing_reported None filling is = refl
 nothing_reported (Some reported) filling is = absurd is
 
 -- A store was opened, jobs ran over it, what was late still was filled behind them, and a failed write was taken back.
-module _ {D S : Type 0} (device : Device D) (disk : D) (old between mid new : StoreView D) (on : IsOpenedOn device disk old) (state : S → SourceState) (link sources : ℕ) (contents : List (Option (List ℕ))) (next : CommandPlan Progress ⊥)
-    (g : JobSetting) (olds news : List S) (said : Option ReportedRefusal) (counts : DumpCounts) (answers : List AskAnswer)
-    (came : IsLoadOutcome device state old between g link olds news said counts answers) (lefts : lefts_of state olds ≡ contents)
-    (filling : Result ℕ Refusal) (filled : IfOk filling (AllLateFilled device between mid)) (unfilled : IfErr filling (IsFillingRefusal device between mid)) (filled_on : IsFilledOn between mid)
+module _ {D S : Type 0} (device : Device D) (disk : D) (old mid new : StoreView D) (on : IsOpenedOn device disk old) (state : S → SourceState) (sources : ℕ) (contents : List (Option (List ℕ))) (next : CommandPlan Progress ⊥)
+    (job : LoadJob S) (asks : List FoundAsk) (left : Loaded D S) (came : IsLoadOutcome device state old job asks left) (lefts : lefts_of state job.sources.items ≡ contents)
+    (filling : Result ℕ Refusal) (filled : IfOk filling (AllLateFilled device left.store mid)) (unfilled : IfErr filling (IsFillingRefusal device left.store mid)) (filled_on : IsFilledOn left.store mid)
     (healed : TriesToHeal device mid new) (kept_old : IsKept device old) (kept : IsKept device new) (output output' : OutputState) (report : Report) where
   abbrev facts : DiskFacts
   facts = disk_facts device disk
+
+  abbrev between : StoreView D
+  between = left.store
+
+  abbrev link : ℕ
+  link = job.link
+
+  abbrev g : JobSetting
+  g = load_setting old job asks
 
   abbrev c : JobsOutcome
   c = came.outcome
@@ -66,8 +75,8 @@ module _ {D S : Type 0} (device : Device D) (disk : D) (old between mid new : St
   abbrev went : Effects D
   went = effects_of disk new.disk output output' report
 
-  abbrev Loaded : Type 0
-  Loaded = Ran device (after_session sources (filled_of old) c next (reported_of link c.ends c.others) c.failed) went
+  abbrev RanSo : Type 0
+  RanSo = Ran device (after_session sources (filled_of old) c next (reported_of link c.ends c.others) c.failed) went
 
   -- ---- the way of the plan
 
@@ -77,7 +86,7 @@ module _ {D S : Type 0} (device : Device D) (disk : D) (old between mid new : St
       (subst (λ (l : List (Option (List ℕ))). IsJobsOutcome (disk_facts device old.opened) (filled_of old) g link l c) lefts came.possible)
 
   -- it goes on by what is reported of the jobs, and by the write that failed
-  goes_on : (reported : Option ReportedRefusal) (failed : Option Addition) → reported_of link c.ends c.others ≡ reported → c.failed ≡ failed → Ran device (after_session sources (filled_of old) c next reported failed) went → Loaded
+  goes_on : (reported : Option ReportedRefusal) (failed : Option Addition) → reported_of link c.ends c.others ≡ reported → c.failed ≡ failed → Ran device (after_session sources (filled_of old) c next reported failed) went → RanSo
   goes_on reported failed is also ran =
       subst (λ (t : Option ReportedRefusal). Ran device (after_session sources (filled_of old) c next t c.failed) went) (sym is)
       (subst (λ (f : Option Addition). Ran device (after_session sources (filled_of old) c next reported f) went) (sym also) ran)
@@ -152,7 +161,7 @@ module _ {D S : Type 0} (device : Device D) (disk : D) (old between mid new : St
     -- ---- a job was refused, which is reported whatever the filling came to
 
     refused : (reported : ReportedRefusal) → reported_of link c.ends c.others ≡ Some reported → c.failed ≡ None → IsSeenIn old between reported.refusal → output' ≡ output
-        → report ≡ loaded (Some reported.refusal) reported.link (length old.history) (length c.reached) 0 0 0 → Loaded
+        → report ≡ loaded (Some reported.refusal) reported.link (length old.history) (length c.reached) 0 0 0 → RanSo
     refused reported is also seen silent report_is =
         goes_on (Some reported) None is also
         (ran_behind (filled_of old) c.reached (job_refused sources (filled_of old) c reported) device went between mid calm refl refl
@@ -165,7 +174,7 @@ module _ {D S : Type 0} (device : Device D) (disk : D) (old between mid new : St
 
     -- a fill was refused
     not_filled : (refusal : Refusal) → reported_of link c.ends c.others ≡ None → c.failed ≡ None → IsFillingRefusal device between mid refusal → output' ≡ output
-        → report ≡ loaded (Some refusal) None (length old.history) (length c.reached) 0 0 0 → Loaded
+        → report ≡ loaded (Some refusal) None (length old.history) (length c.reached) 0 0 0 → RanSo
     not_filled refusal is also cause silent report_is =
         goes_on None None is also
         (ran_unfilled (filled_of old) c.reached st device went between mid calm refl refl
@@ -174,7 +183,7 @@ module _ {D S : Type 0} (device : Device D) (disk : D) (old between mid new : St
 
     -- each late interval was filled, and what follows was done
     all_done : (late : ℕ) → reported_of link c.ends c.others ≡ None → c.failed ≡ None → AllLateFilled device between mid late
-        → (HasDiskOutcome device disk new.disk false (AllFilled (filled_of old) c.reached) → Ran device next went) → Loaded
+        → (HasDiskOutcome device disk new.disk false (AllFilled (filled_of old) c.reached) → Ran device next went) → RanSo
     all_done late is also done_is follows =
         goes_on None None is also (ran_all_filled (λ full. Unit {0}) (filled_of old) c.reached st next device went tt (follows (all late done_is)))
 
@@ -210,7 +219,7 @@ module _ {D S : Type 0} (device : Device D) (disk : D) (old between mid new : St
     counted_since other seen = tt
 
     write_refused : (reported : ReportedRefusal) → reported_of link c.ends c.others ≡ Some reported → c.failed ≡ Some addition → IsFailedAddition old.history c.reached g link contents c.ends addition
-        → IsSeenIn old between reported.refusal → output' ≡ output → report ≡ loaded (Some reported.refusal) reported.link (length old.history) (length c.reached) 0 0 0 → Loaded
+        → IsSeenIn old between reported.refusal → output' ≡ output → report ≡ loaded (Some reported.refusal) reported.link (length old.history) (length c.reached) 0 0 0 → RanSo
     write_refused reported is also failed seen silent report_is =
         goes_on (Some reported) (Some addition) is also (record {
           way = Stopped (write_failed sources (filled_of old) c reported addition) (Some reported.refusal);
@@ -231,7 +240,7 @@ module _ {D S : Type 0} (device : Device D) (disk : D) (old between mid new : St
   reports reported = report ≡ loaded (Some reported.refusal) reported.link (length old.history) (length c.reached) 0 0 0
 
   -- a job was refused
-  job_reported : (reported : ReportedRefusal) → reported_of link c.ends c.others ≡ Some reported → (failed : Option Addition) → c.failed ≡ failed → HasFailed device old between failed → output' ≡ output → reports reported → Loaded
+  job_reported : (reported : ReportedRefusal) → reported_of link c.ends c.others ≡ Some reported → (failed : Option Addition) → c.failed ≡ failed → HasFailed device old between failed → output' ≡ output → reports reported → RanSo
   job_reported reported is None also none silent report_is = refused none reported is also (seen reported is) silent report_is
   job_reported reported is (Some addition) also one silent report_is =
       write_refused addition one.0 one.1 reported is also (subst (λ (f : Option Addition). IfSome f (IsFailedAddition old.history c.reached g link contents c.ends)) also outcome.failed)
@@ -244,26 +253,26 @@ module _ {D S : Type 0} (device : Device D) (disk : D) (old between mid new : St
   none_failed is = subst (HasFailed device old between) (no_write_failed is) came.loaded.failed
 
   -- the jobs, or else the filling behind them
-  pub ran_reported : (reported : ReportedRefusal) → IsReported said filling reported → output' ≡ output → reports reported → Loaded
-  ran_reported reported is silent report_is = go said refl is
+  pub ran_reported : (reported : ReportedRefusal) → IsReported left.reported filling reported → output' ≡ output → reports reported → RanSo
+  ran_reported reported is silent report_is = go left.reported refl is
     where
-      go : (s : Option ReportedRefusal) → said ≡ s → IsReported s filling reported → Loaded
+      go : (s : Option ReportedRefusal) → left.reported ≡ s → IsReported s filling reported → RanSo
       go (Some one) same this =
-          let known : reported_of link c.ends c.others ≡ Some reported = sym came.said_is ∙ same ∙ ap (λ (t : ReportedRefusal). Some t) (sym this) in
+          let known : reported_of link c.ends c.others ≡ Some reported = sym came.reported ∙ same ∙ ap (λ (t : ReportedRefusal). Some t) (sym this) in
           job_reported reported known c.failed refl came.loaded.failed silent report_is
       go None same this =
-          let known : reported_of link c.ends c.others ≡ None = sym came.said_is ∙ same in
+          let known : reported_of link c.ends c.others ≡ None = sym came.reported ∙ same in
           let cause = subst (λ (r : Result ℕ Refusal). IfErr r (IsFillingRefusal device between mid)) this.0 unfilled in
           not_filled (none_failed known) reported.refusal known (no_write_failed known) cause silent
           (subst (λ (l : Option ℕ). report ≡ loaded (Some reported.refusal) l (length old.history) (length c.reached) 0 0 0) this.1 report_is)
 
   -- nothing was refused, each late interval was filled, and what follows was done
-  pub ran_whole : IsNothingReported said filling → (HasDiskOutcome device disk new.disk false (AllFilled (filled_of old) c.reached) → Ran device next went) → Loaded
-  ran_whole is follows = go said refl is
+  pub ran_whole : IsNothingReported left.reported filling → (HasDiskOutcome device disk new.disk false (AllFilled (filled_of old) c.reached) → Ran device next went) → RanSo
+  ran_whole is follows = go left.reported refl is
     where
-      go : (s : Option ReportedRefusal) → said ≡ s → IsNothingReported s filling → Loaded
+      go : (s : Option ReportedRefusal) → left.reported ≡ s → IsNothingReported s filling → RanSo
       go (Some one) same this = absurd this
       go None same this =
-          let known : reported_of link c.ends c.others ≡ None = sym came.said_is ∙ same in
+          let known : reported_of link c.ends c.others ≡ None = sym came.reported ∙ same in
           let done_is = subst (λ (r : Result ℕ Refusal). IfOk r (AllLateFilled device between mid)) this.1 filled in
           all_done (none_failed known) this.0 known (no_write_failed known) done_is follows

@@ -21,7 +21,7 @@ use Rattle.live_session.specs.declared.reported.ReportedRefusal.{ReportedRefusal
 use Rattle.live_session.specs.Outcome.{IsJobsOutcome, JobsOutcome, reported_of}
 use Rattle.stream_graph.specs.declared.statement.RouteStatement.{RouteStatement}
 use Rattle.load_command.specs.LoadLine.{load_text, whole_report}
-use Rattle.load_command.specs.Loading.{IsSettingOf, IsRouteAnswer, failed_reads, dumps_of, log_behind, outcome_of_failure, pending_behind}
+use Rattle.load_command.specs.Loading.{IsSettingOf, IsRouteAnswer, LoadAsked, failed_reads, dumps_of, load_asked, log_behind, outcome_of_failure, pending_behind}
 
 -- ---- what was done
 
@@ -116,20 +116,19 @@ after_route facts files next words asks filled route =
     (jobs_plan facts files next words filled route)
 
 -- what the number of the last link leads to: the text of the route is looked at
-abbrev pub after_links : DiskFacts → Option Files → Option ℤ → LoadWords → Option (List ℕ)
-    → Result (List Ask) Refusal → FilledArchive → Option Refusal → CommandPlan Progress ⊥
-after_links facts files next words text asks filled None =
-    and_then (route_plan (archive_opened (length words.dumps) filled) filled.plain text)
-    (after_route facts files next words asks filled)
-after_links facts files next words text asks filled (Some refusal) =
-    Stop (archive_opened (length words.dumps) filled) (Some refusal)
+abbrev pub after_links : DiskFacts → Option Files → Option ℤ → LoadAsked → FilledArchive → Option Refusal
+    → CommandPlan Progress ⊥
+after_links facts files next asked filled None =
+    and_then (route_plan (archive_opened (length asked.words.dumps) filled) filled.plain asked.text)
+    (after_route facts files next asked.words asked.sheet filled)
+after_links facts files next asked filled (Some refusal) =
+    Stop (archive_opened (length asked.words.dumps) filled) (Some refusal)
 
 -- loads dumps that were opened into an archive that was: Limit Links; the refusal of the route; that of the asks; that
 -- of the first job by number that is refused
-abbrev pub loading_plan : DiskFacts → Option Files → Option ℤ → LoadWords → Option (List ℕ)
-    → Result (List Ask) Refusal → FilledArchive → CommandPlan Progress ⊥
-loading_plan facts files next words text asks filled =
-    Question (λ found. found ≡ links_refusal words) (after_links facts files next words text asks filled)
+abbrev pub loading_plan : DiskFacts → Option Files → Option ℤ → LoadAsked → FilledArchive → CommandPlan Progress ⊥
+loading_plan facts files next asked filled =
+    Question (λ found. found ≡ links_refusal asked.words) (after_links facts files next asked filled)
 
 -- opens the dumps in their order and then the archive, looks at the text of a route and checks the asks of a sheet,
 -- which were read, runs the jobs, and prints the answers and what became of the packets
@@ -138,7 +137,7 @@ abbrev pub archive_load_plan : {D : Type 0} → Device D → D → Option Files 
 archive_load_plan device disk files next words text asks =
     and_then (map_done nothing_done (opening_all_plan files words.dumps 0))
     (λ done. opened_plan (length words.dumps) device disk
-    (λ records. loading_plan (disk_facts device disk) files next words text asks))
+    (λ records. loading_plan (disk_facts device disk) files next (load_asked words text asks)))
 
 -- reads the script of a route, where one is given, and goes on with its text; where none is there is none
 abbrev pub routed_plan : Option Files → Option (List ℕ) → (Option (List ℕ) → CommandPlan Progress ⊥)

@@ -1,5 +1,5 @@
 -- The steps of a load: how its asks are checked, what its jobs are given, and what is reported of them.
-use Rattle.std.specs.Prelude.{◌≡◌, ◌⊎◌, ◌-◌, ℕ, ℤ, List, length, map, Bool, true, false, Option, Some, None, Result, Ok, Err}
+use Rattle.std.specs.Prelude.{◌≡◌, ◌⊎◌, ℕ, ℤ, List, length, map, Bool, true, false, Option, Some, None, Result, Ok, Err}
 use Rattle.std.specs.FinMap.{get}
 use Rattle.std.specs.List.{list_any}
 use Rattle.asks.specs.declared.ask.Ask.{Ask}
@@ -11,6 +11,7 @@ use Rattle.outer_traits.specs.States.{SourceState}
 use Rattle.history_items.specs.declared.fills.Addition.{Addition}
 use Rattle.history_items.specs.declared.fills.Addition.TheVariants.{Rows}
 use Rattle.history_items.specs.declared.items.Item.{Item}
+use Rattle.history_items.specs.Databases.{database_in, names_in}
 use Rattle.archive_store.specs.Entries.{Archive, FilledArchive}
 use Rattle.ask_answers.specs.Asks.{AreAnswerable, AreRefused}
 use Rattle.command_words.specs.Job.{LoadWords}
@@ -19,9 +20,10 @@ use Rattle.command_plans.specs.Plan.{FailedCalls, OfInputs, Way}
 use Rattle.command_plans.specs.Sources.{UsedSources}
 use Rattle.command_runs.specs.Command.{DiskOutcome, ExtensionFailed, FillingFailed, Progress, failed_at, sources_at}
 use Rattle.command_runs.specs.Moment.{IsMomentOf}
-use Rattle.command_runs.specs.declared.report.Report.{Report}
-use Rattle.command_runs.specs.Report.{loaded}
+use Rattle.live_asks.specs.declared.answered.AskAnswer.{AskAnswer}
 use Rattle.live_session.specs.Jobs.{JobSetting}
+use Rattle.live_session.specs.Outcome.{JobsOutcome, counts_of}
+use Rattle.live_session.specs.declared.reported.DumpCounts.{DumpCounts}
 use Rattle.live_session.specs.declared.reported.ReportedRefusal.{ReportedRefusal}
 use Rattle.load_jobs.specs.declared.ending.LinkEnd.{LinkEnd}
 use Rattle.load_jobs.specs.declared.ending.LinkEnd.TheVariants.{Unread}
@@ -129,13 +131,17 @@ pub record HaveUsedSources {S : Type 0} (state : S → SourceState) (olds news :
   pub given : sources_at way ≡ length olds
   pub used : UsedSources state olds news (failed_at way OfInputs)
 
--- ---- what is reported
+-- An archive stands behind the jobs of a load into another one: it has the history that they reached, and the same
+-- database and packet names are in force. These are the counts of the dumps, and the answers to the asks.
+pub record IsBehindJobs (opened : Archive) (outcome : JobsOutcome) (now : Archive) (counts : DumpCounts)
+    (answers : List AskAnswer) : Type 0 where
+  pub database : database_in now.head.mdb now.history ≡ database_in opened.head.mdb opened.history
+  pub names : names_in now.head.mdb now.history ≡ names_in opened.head.mdb opened.history
+  pub rows : now.history ≡ outcome.reached
+  pub counts_are : counts ≡ counts_of outcome.ends
+  pub answers_are : answers ≡ outcome.answers
 
--- the report of a load whose line was printed, or not
-abbrev pub printed_report : Option Refusal → ℕ → ℕ → ℕ → ℕ → ℕ → Report
-printed_report None before after packets routed idle =
-    loaded None None before after packets (routed - (after - before)) idle
-printed_report (Some refusal) before after packets routed idle = loaded (Some refusal) None before after 0 0 0
+-- ---- what is reported
 
 -- What is reported of a load: what is of its jobs, and where none was refused, why what was late still isn't filled.
 abbrev pub IsReported : Option ReportedRefusal → Result ℕ Refusal → ReportedRefusal → Type 0

@@ -80,8 +80,8 @@ pub(crate) fn load_opened<
         lefts_of S.state sources.items ≡ dumps_of files (load_words_of asked.entry.words.now).dumps →
         IsMomentOf next moment →
         RanWith D.device (opened_plan (length sources.items) D.device disk (λ records.
-        loading_plan (disk_facts D.device disk) files next (load_words_of asked.entry.words.now)
-        (option_map (λ text. text.now) asked.entry.text) asked.entry.sheet))
+        loading_plan (disk_facts D.device disk) files next (load_asked (load_words_of asked.entry.words.now)
+        (option_map (λ text. text.now) asked.entry.text) asked.entry.sheet)))
         (effects_of disk (disk_of_work result.0) (K.state sink.old) (K.state sink.new) (report_of_work result.0))
         (UsedByWork (length sources.items) sources.items result.1.items
         (HaveUsedSources S.state sources.items result.1.items)) }
@@ -141,8 +141,9 @@ fn load_into<
         IsOpenedOn D.device disk store → TriesToHeal D.device result.0 healed → IsKept D.device healed →
         lefts_of S.state sources.items ≡ dumps_of files (load_words_of asked.entry.words.now).dumps →
         IsMomentOf next moment →
-        RanWith D.device (loading_plan (disk_facts D.device disk) files next (load_words_of asked.entry.words.now)
-        (option_map (λ text. text.now) asked.entry.text) asked.entry.sheet (filled_of store))
+        RanWith D.device (loading_plan (disk_facts D.device disk) files next (load_asked
+        (load_words_of asked.entry.words.now) (option_map (λ text. text.now) asked.entry.text) asked.entry.sheet)
+        (filled_of store))
         (effects_of disk healed.disk (K.state sink.old) (K.state sink.new) result.2)
         (HaveUsedSources S.state sources.items result.1.items) }
 {

@@ -1,31 +1,29 @@
 //! The jobs of a load, what is filled behind them, and what is printed.
 
-ghost use Rattle.std.specs.Prelude.{◌≡◌, ◌<◌, ◌≤◌, ◌+◌, ◌-◌, ◌++◌, ℤ, Option as AnOption, [], None, OnErr, Some, length};
+ghost use Rattle.std.specs.Prelude.{◌≡◌, ◌<◌, ◌≤◌, ◌+◌, ◌-◌, ◌++◌, ℕ, ℤ, Option as AnOption, [], None, OnErr, Some, false, length};
 ghost use Rattle.refusals.specs.Limits.{limit_of};
 ghost use Rattle.outer_traits.specs.Outside.{Files};
 ghost use Rattle.text_forms.specs.ClockTime.{IsClockTime};
-ghost use Rattle.history_items.specs.Items.{rows_in};
 ghost use Rattle.line_buffer.specs.LineRoom.{HasLineRoom};
-ghost use Rattle.line_buffer.specs.Printed.{PrintsText};
 ghost use Rattle.retrieval.specs.FoundAsks.{AreFound, asks_found};
-ghost use Rattle.ask_answers.specs.Asks.{ArePrinted};
-ghost use Rattle.ask_answers.specs.Collected.{AreAnswersTo, collected_answers_text};
+ghost use Rattle.ask_answers.specs.Collected.{AreAnswersTo};
 ghost use Rattle.command_words.specs.Job.{AreLoadWords};
 ghost use Rattle.command_words.specs.JobView.{load_words_of};
 ghost use Rattle.command_words.specs.LoadLimits.{links_refusal, load_limit_refusal};
 ghost use Rattle.command_runs.specs.ArchiveWork.{RanWith};
-ghost use Rattle.command_runs.specs.Command.{effects_of};
+ghost use Rattle.command_runs.specs.Command.{AllFilled, HasDiskOutcome, Ran, effects_of};
 ghost use Rattle.command_runs.specs.Healing.{TriesToHeal};
 ghost use Rattle.command_runs.specs.Moment.{IsMomentOf};
 ghost use Rattle.command_runs.specs.Opened.{IsOpenedOn, WasOpened};
+ghost use Rattle.archive_store.specs.Entries.{FilledArchive};
 ghost use Rattle.archive_store.specs.Keeping.{IsKept};
 ghost use Rattle.archive_store.specs.StoreView.{StoreView, archive_of, filled_of};
 ghost use Rattle.live_asks.specs.LiveAsks.{disk_facts};
-ghost use Rattle.live_session.specs.Outcome.{lefts_of};
+ghost use Rattle.live_session.specs.Outcome.{JobsOutcome, lefts_of};
 ghost use Rattle.load_session.specs.Receiving.{IsRouteOver};
-ghost use Rattle.load_command.specs.Load.{jobs_plan};
+ghost use Rattle.load_command.specs.Load.{jobs_plan, load_printing_plan};
 ghost use Rattle.load_command.specs.LoadLine.{load_line};
-ghost use Rattle.load_command.specs.Loading.{HaveUsedSources, dumps_of, printed_report};
+ghost use Rattle.load_command.specs.Loading.{HaveUsedSources, IsBehindJobs, dumps_of};
 
 use crate::reports::{reported_of_load, stopped};
 use arch_disk::Disk;
@@ -143,12 +141,15 @@ fn print<D: Disk, K: Sink>(
     requires empty { line_buffer ≡ [] }
     requires grown { before ≤ length store.now.history }
     requires counts { length store.now.history ≤ before + dumps.routed }
-    ensures printed { ArePrinted (asks_found asks.now) result.refusal (K.state sink.old) (K.state sink.new)
-        (collected_answers_text (archive_of store.now) 1 (asks_found asks.now) answers.now ++ load_line dumps.packets
-        (length store.now.history - before) (dumps.routed - (length store.now.history - before)) dumps.idle
-        (length (rows_in store.now.history))) }
-    ensures report { result ≡ printed_report result.refusal before (length store.now.history) dumps.packets dumps.routed
-        dumps.idle }
+
+    // Whichever archive was opened, whatever its jobs came to, and whichever disk is left: where the store stands behind
+    // these jobs, it took a way through the plan of what is printed, and did what is said where that ends.
+    ensures { (disk : D) (left : D) (sources : ℕ) (opened : FilledArchive) (outcome : JobsOutcome) →
+        IsBehindJobs opened.plain outcome (archive_of store.now) dumps answers.now →
+        before ≡ length opened.plain.history →
+        HasDiskOutcome D.device disk left false (AllFilled opened outcome.reached) →
+        Ran D.device (load_printing_plan sources opened (asks_found asks.now) outcome)
+        (effects_of disk left (K.state sink.old) (K.state sink.new) result) }
 {
     let mut line_buffer = line_buffer;
     let after = store.front();
