@@ -27,12 +27,14 @@ use Rattle.command_runs.specs.Moment.{IsMomentOf}
 use Rattle.command_runs.specs.Opened.{IsOpenedOn}
 use Rattle.command_runs.specs.Report.{loaded}
 use Rattle.command_runs.proofs.FilledDisks.{late_as_filled}
-use Rattle.live_asks.specs.declared.answered.AskAnswer.{AskAnswer}
 use Rattle.live_asks.specs.LiveAsks.{disk_facts}
+use Rattle.retrieval.specs.declared.found_asks.FoundAsk.{FoundAsk}
+use Rattle.live_session.specs.declared.loading.LoadJob.{LoadJob}
+use Rattle.live_session.specs.declared.loading.Loaded.{Loaded}
 use Rattle.live_session.specs.declared.reported.DumpCounts.{DumpCounts}
 use Rattle.live_session.specs.declared.reported.ReportedRefusal.{ReportedRefusal}
 use Rattle.live_session.specs.Jobs.{JobSetting, job_setting}
-use Rattle.live_session.specs.Outcome.{IsJobsOutcome, IsLoadOutcome, JobsOutcome, counts_of, lefts_of, reported_of}
+use Rattle.live_session.specs.Outcome.{IsJobsOutcome, IsLoadOutcome, JobsOutcome, counts_of, lefts_of, load_setting, reported_of}
 use Rattle.load_session.specs.Filling.{AllLateFilled, IsFilledOn, IsFillingRefusal}
 use Rattle.stream_graph.specs.Routes.{every_packet_route}
 use Rattle.load_command.specs.Load.{after_session}
@@ -47,10 +49,10 @@ use Rattle.make_command.proofs.SummaryRuns.{ran_summary}
 
 -- An archive was made, jobs ran over its store, what was late still was filled behind them, and a failed write was taken
 -- back.
-module _ {D : Type 0} (device : Device D) (disk : D) (s between mid new : StoreView D) (created : IsStoreCreated device disk made_head s) (kept_first : IsKept device s) (seed : ℕ) (next : Option ℤ) (moment : ℤ)
-    (is_moment : IsMomentOf next moment) (g : JobSetting) (g_is : g ≡ job_setting made_head every_packet_route moment []) (olds news : List (List ℕ)) (dumps : olds ≡ dumps_of_seed seed)
-    (said : Option ReportedRefusal) (counts : DumpCounts) (answers : List AskAnswer) (came : IsLoadOutcome device octets_state s between g 1 olds news said counts answers)
-    (filling : Result ℕ Refusal) (filled : IfOk filling (AllLateFilled device between mid)) (unfilled : IfErr filling (IsFillingRefusal device between mid)) (filled_on : IsFilledOn between mid)
+module _ {D : Type 0} (device : Device D) (disk : D) (s mid new : StoreView D) (created : IsStoreCreated device disk made_head s) (kept_first : IsKept device s) (seed : ℕ) (next : Option ℤ) (moment : ℤ)
+    (is_moment : IsMomentOf next moment) (job : LoadJob (List ℕ)) (linked : job.link ≡ 1) (dumps : job.sources.items ≡ dumps_of_seed seed) (asks : List FoundAsk) (setting_is : load_setting s job asks ≡ job_setting made_head every_packet_route moment [])
+    (left : Loaded D (List ℕ)) (came : IsLoadOutcome device octets_state s job asks left)
+    (filling : Result ℕ Refusal) (filled : IfOk filling (AllLateFilled device left.store mid)) (unfilled : IfErr filling (IsFillingRefusal device left.store mid)) (filled_on : IsFilledOn left.store mid)
     (healed : TriesToHeal device mid new) (kept : IsKept device new) (output output' : OutputState) (report : Report) where
   abbrev c : JobsOutcome
   c = came.outcome
@@ -58,8 +60,14 @@ module _ {D : Type 0} (device : Device D) (disk : D) (s between mid new : StoreV
   abbrev went : Effects D
   went = effects_of s.disk new.disk output output' report
 
-  abbrev Loaded : Type 0
-  Loaded = Ran device (made_load_plan device next seed) went
+  abbrev RanSo : Type 0
+  RanSo = Ran device (made_load_plan device next seed) went
+
+  abbrev between : StoreView D
+  between = left.store
+
+  abbrev setting : JobSetting
+  setting = load_setting s job asks
 
   abbrev behind : CommandPlan Progress ⊥
   behind = summary_plan device seed c
@@ -72,29 +80,31 @@ module _ {D : Type 0} (device : Device D) (disk : D) (s between mid new : StoreV
 
   -- ---- the way of the plan
 
-  lefts : lefts_of octets_state olds ≡ made_contents seed
+  lefts : lefts_of octets_state job.sources.items ≡ made_contents seed
   lefts = ap (lefts_of octets_state) dumps
 
-  possible : IsJobsOutcome (disk_facts device s.disk) (filled_of s) g 1 (made_contents seed) c
+  possible : IsJobsOutcome (disk_facts device s.disk) (filled_of s) setting 1 (made_contents seed) c
   possible =
-      session_outcome device s.disk s between mid new on octets_state 1 0 (made_contents seed) behind g olds news said counts answers came lefts filling filled unfilled filled_on healed kept_first kept output output' report
+      subst (λ (n : ℕ). IsJobsOutcome (disk_facts device s.disk) (filled_of s) setting n (made_contents seed) c) linked
+      (session_outcome device s.disk s mid new on octets_state 0 (made_contents seed) behind job asks left came lefts filling filled unfilled filled_on healed kept_first kept output output' report)
 
   came_to : IsMadeOutcome seed moment c
   came_to =
       made_outcome (disk_facts device s.disk) seed moment c
       (subst (λ (f : FilledArchive). IsJobsOutcome (disk_facts device s.disk) f (job_setting made_head every_packet_route moment []) 1 (made_contents seed) c) first_is
-      (subst (λ (f : JobSetting). IsJobsOutcome (disk_facts device s.disk) (filled_of s) f 1 (made_contents seed) c) g_is possible))
-      (none_unread octets_state c.ends olds news (λ source. tt) (λ source. refl) came.sources)
+      (subst (λ (f : JobSetting). IsJobsOutcome (disk_facts device s.disk) (filled_of s) f 1 (made_contents seed) c) setting_is possible))
+      (none_unread octets_state c.ends job.sources.items left.sources.items (λ source. tt) (λ source. refl) came.sources)
 
-  chosen : Ran device (after_session 0 (filled_of s) c behind (reported_of 1 c.ends c.others) c.failed) went → Loaded
-  chosen ran =
+  chosen : Ran device (after_session 0 (filled_of s) c behind (reported_of job.link c.ends c.others) c.failed) went → RanSo
+  chosen given =
+      let ran = subst (λ (n : ℕ). Ran device (after_session 0 (filled_of s) c behind (reported_of n c.ends c.others) c.failed) went) linked given in
       let made = subst (λ (f : FilledArchive). Ran device (after_session 0 f c behind (reported_of 1 c.ends c.others) c.failed) went) first_is ran in
       record { way = made.way; allows = (moment, is_moment, (c, came_to, made.allows)); did = made.did }
 
   -- the jobs were refused, or else the filling behind them
-  pub ran_refused : (reported : ReportedRefusal) → IsReported said filling reported → output' ≡ output → report ≡ loaded (Some reported.refusal) reported.link 0 (length c.reached) 0 0 0 → Loaded
+  pub ran_refused : (reported : ReportedRefusal) → IsReported left.reported filling reported → output' ≡ output → report ≡ loaded (Some reported.refusal) reported.link 0 (length c.reached) 0 0 0 → RanSo
   ran_refused reported is silent report_is =
-      chosen (session_reported device s.disk s between mid new on octets_state 1 0 (made_contents seed) behind g olds news said counts answers came lefts filling filled unfilled filled_on healed kept_first kept
+      chosen (session_reported device s.disk s mid new on octets_state 0 (made_contents seed) behind job asks left came lefts filling filled unfilled filled_on healed kept_first kept
       output output' report reported is silent
       (subst (λ (h : List Item). report ≡ loaded (Some reported.refusal) reported.link (length h) (length c.reached) 0 0 0) (sym created.history) report_is))
 
@@ -123,32 +133,32 @@ module _ {D : Type 0} (device : Device D) (disk : D) (s between mid new : StoreV
       (subst (λ (l : List Item). AddsRightFills s.head s.exponent l no_fillings (fillings_in mid.filled)) same_rows
       (subst (λ (f : Fillings (List SetRow)). AddsRightFills s.head s.exponent new.history f (fillings_in mid.filled)) created.filled
       (subst (λ (f : PlacedFills). AddsRightFills s.head s.exponent new.history (fillings_in s.filled) (fillings_in f)) same_fills
-      (right_fills device s.disk s between mid new on octets_state 1 0 (made_contents seed) behind g olds news said counts answers came lefts filling filled unfilled filled_on healed kept_first kept output output' report known)))))
+      (right_fills device s.disk s mid new on octets_state 0 (made_contents seed) behind job asks left came lefts filling filled unfilled filled_on healed kept_first kept output output' report known)))))
 
   each_filled : (o : Option ReportedRefusal) → IsNothingReported o filling → (count : ℕ) × AllLateFilled device between mid count
   each_filled (Some reported) nothing = absurd nothing
   each_filled None nothing = (nothing.0, subst (λ (r : Result ℕ Refusal). IfOk r (AllLateFilled device between mid)) nothing.1 filled)
 
-  is_filled : IsNothingReported said filling → IsKept device mid → IsFilledBy device c.reached (fillings_in mid.filled)
+  is_filled : IsNothingReported left.reported filling → IsKept device mid → IsFilledBy device c.reached (fillings_in mid.filled)
   is_filled nothing kept_mid = record {
     adds = adds;
     none_late = subst (λ (f : FilledArchive). late_in_archive f ≡ []) filled_is
-        (sym (late_as_filled (filled_of mid) mid.fills kept_mid.bases) ∙ none_late mid.exponent mid.history mid.fills (each_filled said nothing).1.none_late);
+        (sym (late_as_filled (filled_of mid) mid.fills kept_mid.bases) ∙ none_late mid.exponent mid.history mid.fills (each_filled left.reported nothing).1.none_late);
   }
 
   -- nothing was refused, and what there is was compared and printed, or not
-  pub ran_summed : IsNothingReported said filling → IsKept device mid → (refusal : Option Refusal) → IsSummaryReply seed (counts_behind counts (length mid.history)) (filled_of mid) refusal output output'
-      → report ≡ summary_report refusal (length mid.history) (counts_behind counts (length mid.history)) → Loaded
+  pub ran_summed : IsNothingReported left.reported filling → IsKept device mid → (refusal : Option Refusal) → IsSummaryReply seed (counts_behind left.counts (length mid.history)) (filled_of mid) refusal output output'
+      → report ≡ summary_report refusal (length mid.history) (counts_behind left.counts (length mid.history)) → RanSo
   ran_summed nothing kept_mid refusal reply report_is =
-      let same : counts_behind counts (length mid.history) ≡ counts_behind (counts_of c.ends) (length c.reached) =
-      ap (λ (d : DumpCounts). counts_behind d (length mid.history)) (came.counts_are (nothing_reported said filling nothing)) ∙ ap (λ (l : List Item). counts_behind (counts_of c.ends) (length l)) rows in
+      let same : counts_behind left.counts (length mid.history) ≡ counts_behind (counts_of c.ends) (length c.reached) =
+      ap (λ (d : DumpCounts). counts_behind d (length mid.history)) (came.counts (nothing_reported left.reported filling nothing)) ∙ ap (λ (l : List Item). counts_behind (counts_of c.ends) (length l)) rows in
       let replied =
       subst (λ (f : FilledArchive). IsSummaryReply seed (counts_behind (counts_of c.ends) (length c.reached)) f refusal output output') filled_is
       (subst (λ (n : LoadCounts). IsSummaryReply seed n (filled_of mid) refusal output output') same reply) in
       let reports =
       subst (λ (l : List Item). report ≡ summary_report refusal (length l) (counts_behind (counts_of c.ends) (length c.reached))) rows
       (subst (λ (n : LoadCounts). report ≡ summary_report refusal (length mid.history) n) same report_is) in
-      chosen (session_whole device s.disk s between mid new on octets_state 1 0 (made_contents seed) behind g olds news said counts answers came lefts filling filled unfilled filled_on healed kept_first kept
+      chosen (session_whole device s.disk s mid new on octets_state 0 (made_contents seed) behind job asks left came lefts filling filled unfilled filled_on healed kept_first kept
       output output' report nothing
       (λ disk_is. ran_summary device s.disk new.disk output output' report seed c (fillings_in mid.filled) (is_filled nothing kept_mid)
       (subst (λ (f : FilledArchive). HasDiskOutcome device s.disk new.disk false (AllFilled f c.reached)) first_is disk_is) refusal replied reports))

@@ -11,8 +11,9 @@ use Rattle.stream_graph.specs.declared.statement.RouteStatement.{RouteStatement}
 use Rattle.stream_graph.specs.Routes.{every_packet_route}
 use Rattle.command_runs.specs.Healing.{TriesToHeal}
 use Rattle.command_runs.specs.Report.{loaded as of_load}
-use Rattle.live_session.specs.Jobs.{JobSetting, job_setting}
-use Rattle.live_session.specs.Outcome.{IsLoadOutcome}
+use Rattle.live_session.specs.Jobs.{job_setting}
+use Rattle.live_session.specs.declared.loading.LoadJob.{LoadJob}
+use Rattle.live_session.specs.Outcome.{IsLoadOutcome, load_setting}
 use Rattle.load_command.proofs.SessionRuns.{nothing_reported}
 use Rattle.make_command.specs.Made.{made_head, octets_state}
 use Rattle.make_command.specs.Summing.{KnowsParameters}
@@ -78,19 +79,19 @@ returns-in-None g c = λ next healed told heals kept.
     let behind = c.load-store.result in
     let asks = c.new-asks.result in
     let fits : SFits w64 packets.moment = search rules in
-    let setting : JobSetting = job_setting store.head packets.graph packets.moment asks in
-    let setting_is : setting ≡ job_setting made_head every_packet_route packets.moment [] =
+    let job : LoadJob (List ℕ) = record { moment = packets.moment; link = 1; sources = packets.sources; graph = packets.graph; fillers = 2 } in
+    let setting_is : load_setting store job asks ≡ job_setting made_head every_packet_route packets.moment [] =
     ap (λ (h : Head). job_setting h packets.graph packets.moment asks) c.requires.created.1.head_is
     ∙ ap (λ (r : List RouteStatement). job_setting made_head r packets.moment asks) c.requires.route
     ∙ ap (λ (a : List FoundAsk). job_setting made_head every_packet_route packets.moment a) c.new-asks.ensures in
-    let came : IsLoadOutcome device octets_state store behind.store setting 1 packets.sources.items behind.sources.items behind.reported behind.counts behind.answers =
+    let came : IsLoadOutcome device octets_state store job asks behind =
     rw (to_z-of_z w64 packets.moment fits, c.as_slice.ensures) at c.load-store.ensures.outcome in
     let mid = c.fill_late-filled.new.store in
     let fill = c.fill_late-filled.ensures in
     let summed = c.sum_up-report.ensures in
     let heals_mid : TriesToHeal device mid healed = subst (λ (s : StoreView g.row.D.Denot). TriesToHeal device s healed) summed.same heals in
-    ran_summed device c.requires.created.0 store behind.store mid healed c.requires.created.1 c.is_kept.ensures packets.seed next packets.moment told setting setting_is packets.sources.items behind.sources.items c.requires.dumps
-    behind.reported behind.counts behind.answers came c.fill_late-filled.result fill.filled fill.refused fill.left heals_mid kept (g.K.Sink.state c.args.sink.now) (g.K.Sink.state c.sum_up-report.new.sink) c.sum_up-report.result
+    ran_summed device c.requires.created.0 store mid healed c.requires.created.1 c.is_kept.ensures packets.seed next packets.moment told job refl c.requires.dumps asks setting_is
+    behind came c.fill_late-filled.result fill.filled fill.refused fill.left heals_mid kept (g.K.Sink.state c.args.sink.now) (g.K.Sink.state c.sum_up-report.new.sink) c.sum_up-report.result
     c.in-None.ensures.nothing c.is_kept-in-None.ensures c.sum_up-report.result.refusal summed.reply summed.report
 
 -- a refusal is reported
@@ -102,12 +103,12 @@ returns-in-Some g c = λ next healed told heals kept.
     let behind = c.load-store.result in
     let asks = c.new-asks.result in
     let fits : SFits w64 packets.moment = search rules in
-    let setting : JobSetting = job_setting store.head packets.graph packets.moment asks in
-    let setting_is : setting ≡ job_setting made_head every_packet_route packets.moment [] =
+    let job : LoadJob (List ℕ) = record { moment = packets.moment; link = 1; sources = packets.sources; graph = packets.graph; fillers = 2 } in
+    let setting_is : load_setting store job asks ≡ job_setting made_head every_packet_route packets.moment [] =
     ap (λ (h : Head). job_setting h packets.graph packets.moment asks) c.requires.created.1.head_is
     ∙ ap (λ (r : List RouteStatement). job_setting made_head r packets.moment asks) c.requires.route
     ∙ ap (λ (a : List FoundAsk). job_setting made_head every_packet_route packets.moment a) c.new-asks.ensures in
-    let came : IsLoadOutcome device octets_state store behind.store setting 1 packets.sources.items behind.sources.items behind.reported behind.counts behind.answers =
+    let came : IsLoadOutcome device octets_state store job asks behind =
     rw (to_z-of_z w64 packets.moment fits, c.as_slice.ensures) at c.load-store.ensures.outcome in
     let mid = c.fill_late-filled.new.store in
     let fill = c.fill_late-filled.ensures in
@@ -115,5 +116,5 @@ returns-in-Some g c = λ next healed told heals kept.
     let output = g.K.Sink.state c.args.sink.now in
     let rows : mid.history ≡ came.outcome.reached = fill.left.rows ∙ came.loaded.history in
     let report_is = c.stopped-report.ensures ∙ ap (λ (n : ℕ). of_load (Some one.refusal) one.link 0 n 0 0 0) (c.front.ensures ∙ ap length rows) in
-    ran_refused device c.requires.created.0 store behind.store mid healed c.requires.created.1 c.is_kept.ensures packets.seed next packets.moment told setting setting_is packets.sources.items behind.sources.items c.requires.dumps
-    behind.reported behind.counts behind.answers came c.fill_late-filled.result fill.filled fill.refused fill.left heals kept output output c.stopped-report.result one c.in-Some.ensures.reported refl report_is
+    ran_refused device c.requires.created.0 store mid healed c.requires.created.1 c.is_kept.ensures packets.seed next packets.moment told job refl c.requires.dumps asks setting_is
+    behind came c.fill_late-filled.result fill.filled fill.refused fill.left heals kept output output c.stopped-report.result one c.in-Some.ensures.reported refl report_is
