@@ -13,7 +13,6 @@ use crate::made_source::MadeSource;
 use arch_types::name::{Name, Names};
 use archive_store::Head;
 use dump_maker::dumps::{Dumps, make};
-use dump_maker::laws::made_sheets_are_sound;
 use dump_maker::sheets::make_sheets;
 use line_buffer::LineBuffer;
 use mdb_model::{Mdb, MdbFault};
@@ -78,7 +77,6 @@ fn database(alloc: Global) -> Result<Mdb, AllocError>
     ensures database { IfOk result (λ mdb. mdb ≡ sheets_database made_sheets) }
     ensures sound { IfOk result (λ mdb. IsDatabase mdb) }
 {
-    made_sheets_are_sound();
     let sheets = make_sheets(alloc)?;
     match Mdb::check(alloc, &sheets) {
         Ok(mdb) => {
