@@ -6,7 +6,6 @@ use crate::given::{database, none_other, octets_of};
 use arch_types::cell::Eng;
 use arch_types::steps::Steps;
 use container_extract::chain::Chain;
-use container_extract::laws::raw_value_is_sound;
 use container_extract::values::{ParameterValue, Values};
 use container_extract::{Extracted, Extractor, bits, eng_of, extract, packet_name};
 use mdb_model::{Coding, Mdb, MdbFault};
@@ -348,7 +347,6 @@ fn eng_by<L: Ledger>(
     let (book, share) = blank.open::<L>();
     let mut steps = Steps::new(book, share);
     mdb.is_sound();
-    raw_value_is_sound();
     let found = extractor.extract(mdb, packet, &mut steps);
     match found.value(parameter) {
         None => None,
