@@ -1,15 +1,11 @@
 -- What loops that ask places and values keep.
-use Rattle.std.proofs.Common.{◌≡◌, ◌∙◌, ℕ, zero, suc, pos, ◌+◌, ◌<◌, ◌≤◌, List, [], ◌∷◌, ◌++◌, length, map, take, take_all, get_or, add-one, sym, ap, subst, arith, refl}
+use Rattle.std.proofs.Common.{◌≡◌, ℕ, zero, suc, ◌+◌, ◌<◌, ◌≤◌, List, [], ◌∷◌, length, map, take, take_all, get_or, subst, arith, refl}
 use Rattle.std.specs.List.{AllByRecursion}
 use Rattle.std.specs.List.Sorted.{IsStrictlySortedBy}
 use Rattle.std.specs.declared.cmp.Ordering.TheVariants.{Less}
-use Rattle.std.proofs.Math.Seq.{take-suc}
 use Rattle.arch_types.specs.Order.{key_cmp}
-use Rattle.container_extract.specs.declared.values.RawValue.{RawValue}
 use Rattle.param_segments.specs.declared.key_place.KeyPlace.{KeyPlace}
 use Rattle.param_segments.specs.RowPlaces.{place_key}
-use Rattle.param_segments.proofs.Decoded.{each_at}
-use Rattle.param_segments.proofs.Known.{put_last}
 
 pub holds_of_all : {X : Type 0} (P : X → Type 0) (xs : List X) (i : ℕ) → length xs ≤ i → AllByRecursion P (take i xs) → AllByRecursion P xs
 holds_of_all P xs i le so_far = subst (AllByRecursion P) (take_all i xs le) so_far

@@ -1,5 +1,5 @@
 -- The rows at the places of segments are the rows of the segments.
-use Rattle.std.proofs.Common.{◌≡◌, ◌∙◌, ℕ, zero, suc, ℤ, pos, ◌+◌, ◌<◌, ◌≤◌, ◌^◌, List, [], ◌∷◌, ◌++◌, length, map, take, drop, drop-cons, get_or, add-one, append_assoc, append-nil, Bool, refl, sym, ap, subst, arith}
+use Rattle.std.proofs.Common.{◌≡◌, ◌∙◌, ℕ, zero, suc, ℤ, pos, ◌+◌, ◌<◌, ◌^◌, List, [], ◌∷◌, ◌++◌, length, map, take, drop, drop-cons, get_or, add-one, append_assoc, Bool, refl, sym, ap, subst, arith}
 use Rattle.std.specs.Prelude.{flat_map, nat_eq}
 use Rattle.std.specs.Int.{w128}
 use Rattle.std.specs.Int.RustNames.{FitsSigned}
@@ -7,22 +7,18 @@ use Rattle.std.specs.List.{AllByRecursion, IsDistinct}
 use Rattle.std.specs.List.Sorted.{IsPermutation, IsSortedBy, IsStrictlySortedBy}
 use Rattle.std.specs.Ordering.{is_lt}
 use Rattle.std.proofs.Math.Seq.{take-suc}
-use Rattle.std.proofs.lemmas.List.{drop_all, length-map, map-append}
+use Rattle.std.proofs.lemmas.List.{length-map, map-append}
 use Rattle.std.proofs.lemmas.List.Elements.{All-from_recursion, recursion_from_All}
 use Rattle.std.proofs.lemmas.List.Sorted.{All-permutation, IsPermutation-map}
 use Rattle.std.proofs.lemmas.Simd.{map-map}
 use Rattle.arch_types.specs.declared.key.Key.{Key}
-use Rattle.intervals.specs.Interval.{interval_of}
 use Rattle.arch_types.specs.Order.{key_cmp}
 use Rattle.segment_codec.specs.KeyColumn.{IsKey}
 use Rattle.segment_codec.specs.RawColumn.{IsRawColumn}
 use Rattle.segment_codec.specs.Segment.{IsSegment}
 use Rattle.segment_codec.specs.declared.segment.Segment.{Segment}
-use Rattle.mdb_items.specs.Database.{Database}
 use Rattle.container_extract.specs.declared.values.RawValue.{RawValue}
 use Rattle.param_segments.specs.RowPlaces.{RowPlace}
-use Rattle.param_segments.specs.Cells.{AreValuesOf}
-use Rattle.param_segments.specs.Extracted.{IsSetOf}
 use Rattle.param_segments.specs.Groups.{segment_of, set_of}
 use Rattle.param_segments.specs.RowPlaces.{IsRowPlace, numbered_segment, placed_row, places_from, places_in_segment, raw_in_row, values_in_row}
 use Rattle.param_segments.specs.Rows.{AreSetRows, IsSetRow, SetRow, is_earlier, set_row}

@@ -23,7 +23,7 @@ use Rattle.param_segments.specs.Octets.{IsSpelledSet, rows_in_octets, set_octets
 use Rattle.param_segments.specs.RowPlaces.{IsInside, IsSegmentOf, RowPlace, placed_row, places_from}
 use Rattle.param_segments.specs.Rows.{AreSetRows, IsSetRow, SetRow, is_earlier}
 use Rattle.param_segments.specs.Runs.{AreRuns, AreRunsOf, Run, count_in_order, place_group, run_segments}
-use Rattle.param_segments.specs.Segments.{column_head, column_tail, rows_from, rows_of_segment, rows_of_segments, values_from}
+use Rattle.param_segments.specs.Segments.{column_tail, rows_from, rows_of_segment, rows_of_segments}
 use Rattle.param_segments.specs.SetSegments.{AreSetSegments}
 use Rattle.param_segments.proofs.Grouped.{groups_distinct, rising_rows, rows_again_in_order}
 use Rattle.param_segments.proofs.Known.{spelled_as_counted}

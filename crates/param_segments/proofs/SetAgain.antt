@@ -1,7 +1,6 @@
 -- The set of the rows of segments that stand group by group is these segments.
-use Rattle.std.proofs.Common.{◌≡◌, ◌∙◌, ℕ, zero, suc, ℤ, ◌+◌, ◌^◌, ◌<◌, ◌≤◌, List, [], ◌∷◌, ◌++◌, length, map, take, take_all, get_or, add-one, append_assoc, append-nil, length-append, Bool, true, false, cond, eqb, Option, Some, None, inl, inr, refl, sym, ap, subst, arith}
+use Rattle.std.proofs.Common.{◌≡◌, ◌∙◌, ℕ, zero, suc, ℤ, ◌+◌, ◌<◌, ◌≤◌, List, [], ◌∷◌, ◌++◌, length, map, take, take_all, get_or, add-one, append_assoc, append-nil, length-append, Bool, true, false, cond, eqb, Option, Some, None, inl, inr, refl, sym, ap, subst, arith}
 use Rattle.std.specs.Prelude.{◌==◌, ◌||◌, filter, flat_map, fold, nat_eq, nat_lt, replicate, if◌then◌else◌}
-use Rattle.std.specs.Int.{w32}
 use Rattle.std.specs.List.{AllByRecursion, IsDistinct, list_any}
 use Rattle.std.specs.List.Sorted.{IsPermutation, IsStrictlySortedBy}
 use lib.Pointwise.{pointwise}
@@ -18,12 +17,10 @@ use Rattle.std.proofs.lemmas.Map.Keys.{IsDistinct-head, IsDistinct-tail}
 use Rattle.std.proofs.lemmas.Option.{same_Some}
 use Rattle.arch_types.specs.declared.key.Key.{Key}
 use Rattle.arch_types.specs.Order.{key_cmp}
-use Rattle.octet_fields.specs.Spelling.{counted}
-use Rattle.segment_codec.specs.Segment.{IsSegment, most_rows, segment_octets}
+use Rattle.segment_codec.specs.Segment.{IsSegment, most_rows}
 use Rattle.segment_codec.specs.declared.segment.Segment.{Segment}
 use Rattle.param_segments.specs.RowPlaces.{RowPlace}
 use Rattle.param_segments.specs.Groups.{Pieces, group_segments, groups_of, is_of_group, raw_columns, row_pieces, segment_of, set_of, with_group, with_next_row, with_raws}
-use Rattle.param_segments.specs.Octets.{IsSpelledSet, rows_in_octets, set_octets, starts_from}
 use Rattle.param_segments.specs.RowPlaces.{IsRowPlace, numbered_segment, placed_row, places_from, raw_in_row}
 use Rattle.param_segments.specs.Rows.{AreSetRows, IsSetRow, SetRow, is_earlier, row_parameters}
 use Rattle.param_segments.specs.Runs.{AreRuns, AreRunsOf, IsRunOf, Run, count_in_order, numbered_group, place_group, run_segments, segment_keys}
@@ -32,14 +29,13 @@ use Rattle.param_segments.proofs.Asked.{next_default}
 use Rattle.param_segments.proofs.Decoded.{each_at}
 use Rattle.param_segments.proofs.Grouped.{itself, rising_rows, rows_rank}
 use Rattle.param_segments.proofs.Inverse.{AreOf, flat}
-use Rattle.param_segments.proofs.Known.{spelled_as_counted}
 use Rattle.param_segments.proofs.MergedCells.{own_keys}
 use Rattle.param_segments.proofs.Ordering.{IsRising, filter_all}
 use Rattle.param_segments.proofs.Placed.{parameters_again, placed_is_row, placed_keys, raws_again, rows_at_places, segment_there}
 use Rattle.param_segments.proofs.Rereading.{IsPiece}
 use Rattle.param_segments.proofs.SegmentCells.{lengths, rests_long}
 use Rattle.param_segments.proofs.Sorting.{filtered_is}
-use Rattle.param_segments.proofs.Stored.{keep_rising, read_again, spelled_set}
+use Rattle.param_segments.proofs.Stored.{keep_rising}
 
 -- ---- a segment is that of its rows
 

@@ -11,7 +11,7 @@ use Rattle.octet_fields.specs.declared.fault.DecodeError.TheVariants as errors
 use Rattle.octet_fields.specs.Answers.{Fails}
 use Rattle.octet_fields.specs.Exact.{IsOctets}
 use Rattle.octet_fields.specs.Spelling.{counted, number}
-use Rattle.octet_fields.specs.Reading.{Reader, ◌>>=◌, both_at, counted_at, mapped_at, number_at, signed_at, tested_at, times_at}
+use Rattle.octet_fields.specs.Reading.{Reader, ◌>>=◌, both_at, mapped_at, number_at, signed_at, tested_at, times_at}
 use Rattle.octet_fields.proofs.Exact.{bind_some, some_is}
 use Rattle.octet_fields.proofs.Numbers.{exact16, exact_counted16}
 use Rattle.octet_fields.proofs.Times.{with_front}

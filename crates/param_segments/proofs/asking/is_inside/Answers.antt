@@ -1,7 +1,7 @@
 use Rattle.std.proofs.Common.{◌≡◌, subst, sym}
 use Rattle.arch_types.specs.declared.key.Key.{Key}
 use Rattle.intervals.specs.Interval.{interval_of}
-use Rattle.segment_codec.specs.Outline.{first_of, last_of}
+use Rattle.segment_codec.specs.Outline.{first_of}
 use Rattle.param_segments.proofs.Insides.{ends_inside, inside_by_ends}
 use Rattle.param_segments.proofs.asking.is_inside.Goals as goal
 

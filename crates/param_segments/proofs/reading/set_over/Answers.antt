@@ -1,8 +1,4 @@
-use Rattle.std.proofs.Common.{◌≡◌, ◌∙◌, List, ap, subst, sym}
-use Rattle.std.specs.Int.{w32}
-use Rattle.octet_fields.specs.Spelling.{counted}
-use Rattle.segment_codec.specs.Segment.{segment_octets}
-use Rattle.segment_codec.specs.declared.segment.Segment.{Segment}
+use Rattle.std.proofs.Common.{◌∙◌, ap, subst, sym}
 use Rattle.param_segments.specs.Octets.{set_octets}
 use Rattle.param_segments.specs.SetSegments.{AreSetSegments}
 use Rattle.param_segments.proofs.SegmentsOfSet.{spelled_rows}

@@ -3,7 +3,6 @@ use Rattle.std.specs.Prelude.{IfSome}
 use Rattle.std.specs.List.{AllByRecursion}
 use Rattle.std.specs.List.Sorted.{IsSortedBy, IsStrictlySortedBy}
 use Rattle.arch_types.specs.Order.{key_cmp}
-use Rattle.segment_codec.specs.declared.segment.Segment.{Segment}
 use Rattle.param_segments.specs.declared.key_place.KeyPlace.{KeyPlace}
 use Rattle.param_segments.specs.declared.runs.Runs.{Runs}
 use Rattle.param_segments.specs.RowPlaces.{RowPlace, place_key, places_from}

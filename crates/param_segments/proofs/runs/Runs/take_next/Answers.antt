@@ -1,11 +1,9 @@
-use Rattle.std.proofs.Common.{◌≡◌, ◌∙◌, ◌∷◌, List, ℕ, Some, ap, length, subst, sym}
+use Rattle.std.proofs.Common.{◌≡◌, ◌∙◌, ◌∷◌, List, ℕ, Some, ap, sym}
 use Rattle.std.specs.Prelude.{nat_eq}
 use Rattle.std.specs.List.{position}
 use Rattle.std.specs.Ordering.{is_lt}
 use lib.Pointwise.{pointwise}
 use Rattle.arch_types.specs.Order.{key_cmp}
-use Rattle.arch_types.specs.declared.key.Key.{Key}
-use Rattle.param_segments.specs.Runs.{IsLast}
 use Rattle.param_segments.proofs.KeyOrder.{is_less}
 use Rattle.param_segments.proofs.RunSteps.{run_more}
 use Rattle.param_segments.proofs.RunsComplete.{must_go_on}
