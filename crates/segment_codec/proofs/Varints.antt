@@ -1,5 +1,5 @@
 -- A varint is read exactly.
-use Rattle.std.proofs.Common.{◌≡◌, ℕ, zero, suc, ◌+◌, ◌-◌, ◌*◌, ◌/◌, ◌%◌, ◌^◌, ◌<◌, ◌≤◌, Bool, true, false, cond, ltb, List, [], ◌∷◌, ◌++◌, length, drop, add-one, Option, Some, None, refl, sym, ap, subst, ◌∙◌, arith, lit≤, inl, inr}
+use Rattle.std.proofs.Common.{◌≡◌, ℕ, zero, suc, ◌+◌, ◌-◌, ◌*◌, ◌/◌, ◌%◌, ◌^◌, ◌<◌, ◌≤◌, Bool, true, false, cond, ltb, List, [], ◌∷◌, ◌++◌, length, drop, drop-cons, get_or, add-one, Option, Some, None, refl, sym, ap, subst, ◌∙◌, arith, lit≤, inl, inr}
 use Rattle.std.specs.List.{position, position_or_len}
 use Rattle.std.proofs.lemmas.Bool.{cases_lt, lt-ltb, le-ltb, ltb-true}
 use Rattle.std.proofs.Math.Nat.{mul-le-mul_left, pow-le-pow_right}
@@ -133,6 +133,10 @@ behind_last value weight octet after pos lt = rw (lt-ltb octet 128 lt, lt-ltb 0 
 
 pub first_small : (octet : ℕ) (after : List ℕ) → octet < 128 → varint_at (octet ∷ after) ≡ Some (octet, after)
 first_small octet after lt = rw (lt-ltb octet 128 lt) refl
+
+-- the octets behind so many
+pub octet_next : (octets : List ℕ) (i : ℕ) → i < length octets → drop i octets ≡ get_or octets i 0 ∷ drop (i + 1) octets
+octet_next octets i lt = drop-cons octets i 0 lt ∙ ap (λ (k : ℕ). get_or octets i 0 ∷ drop k octets) (sym (add-one i))
 
 pub weight_end : (i weight : ℕ) → weight ≡ 128 ^ i → i ≡ 14 → 2 ^ 98 ≤ weight
 weight_end i weight e is = rw (e, is) (lit≤ tt)

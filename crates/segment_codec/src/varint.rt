@@ -44,28 +44,32 @@ fn octet_at(octets: &[u8]) -> Result<(u8, &[u8]), Short>
     Ok((front[0], rest))
 }
 
-/// The number whose varint stands at the front, where it has at most nine octets, and the octets after it.
+/// The number whose varint stands at the front, and the octets after it, where it has at most nine octets and nine or more
+/// are left: so none of them is looked for past the end.
 pub(crate) fn word_at(octets: &[u8]) -> Result<(u64, &[u8]), Short>
     ensures { IfOk result (λ x. short_varint_at octets.now ≡ Some (x.0, x.1.now)) }
 {
-    let (first, after_first) = octet_at(octets)?;
+    if octets.len() < 9 {
+        return Err(Short);
+    }
+    let first = octets[0];
     if first < 128 {
-        return Ok((u64::from(first), after_first));
+        let (_, rest) = octets.split_at(1);
+        return Ok((u64::from(first), rest));
     }
     let mut value = u64::from(first - 128);
     let mut weight: u64 = 128;
-    let mut rest = after_first;
-    for _ in 1u32..9 {
-        let (octet, after) = octet_at(rest)?;
+    for i in 1..9usize {
+        let octet = octets[i];
         if octet == 0 {
             return Err(Short);
         }
         if octet < 128 {
-            return Ok((value + u64::from(octet) * weight, after));
+            let (_, rest) = octets.split_at(i + 1);
+            return Ok((value + u64::from(octet) * weight, rest));
         }
         value += u64::from(octet - 128) * weight;
         weight *= 128;
-        rest = after;
     }
     Err(Short)
 }

@@ -1,54 +1,62 @@
-use Rattle.std.proofs.Common.{ℕ, ◌+◌, ◌*◌, ◌<◌, List, ap, ◌∙◌, rules, arith}
+use Rattle.std.proofs.Common.{ℕ, ◌+◌, ◌*◌, ◌<◌, List, ap, drop, get_or, ◌∙◌, rules, arith, length, refl}
 use Rattle.segment_codec.specs.Varint.{varint_at}
-use Rattle.segment_codec.proofs.Varints.{behind, behind-more, behind_last, short_of, word_weight_le, word_digit_fits, first_small, weight_more, low_more}
+use Rattle.segment_codec.proofs.Varints.{behind, behind-more, behind_last, octet_next, short_of, word_weight_le, word_digit_fits, first_small, weight_more, low_more}
 use Rattle.segment_codec.proofs.varint.word_at.Goals as goal
 
 pub returns-then-first-lt128 : goal.returns-then-first-lt128
-returns-then-first-lt128 c = rw c.from.ensures (short_of c.args.octets.now c.in_ok-first.first c.in_ok-first.after_first.now (ap varint_at c.in_ok-first.ensures ∙ first_small c.in_ok-first.first c.in_ok-first.after_first.now c.if-first-lt128.true) (omega arith))
+returns-then-first-lt128 c =
+    let octets = c.args.octets.now in
+    let first = get_or octets 0 0 in
+    rw (c.from.ensures, c.split_at.ensures.back) (short_of octets first _ (ap varint_at (octet_next octets 0 (omega arith)) ∙ first_small first _ c.if-first-lt128.true) (omega arith))
 
 pub overflow_mul-result : goal.overflow_mul-result
 overflow_mul-result c =
-    let le = word_weight_le c.loop.counter c.loop.weight c.loop.invariant.weight c.loop-test.true in
-    omega (arith, word_digit_fits c.from-then-octet-lt128.result c.loop.weight (omega arith) le)
+    let le = word_weight_le c.loop-i.i c.loop-i.weight c.loop-i.invariant.weight c.loop-i-test.true in
+    omega (arith, word_digit_fits c.from-then-octet-lt128.result c.loop-i.weight (omega arith) le)
 
 pub overflow_add-result : goal.overflow_add-result
 overflow_add-result c =
-    let le = word_weight_le c.loop.counter c.loop.weight c.loop.invariant.weight c.loop-test.true in
-    let low = c.loop.invariant.low in
-    omega (arith, word_digit_fits c.from-then-octet-lt128.result c.loop.weight (omega arith) le)
+    let le = word_weight_le c.loop-i.i c.loop-i.weight c.loop-i.invariant.weight c.loop-i-test.true in
+    let low = c.loop-i.invariant.low in
+    omega (arith, word_digit_fits c.from-then-octet-lt128.result c.loop-i.weight (omega arith) le)
 
 pub returns-then-octet-lt128 : goal.returns-then-octet-lt128
 returns-then-octet-lt128 c =
-    let le = word_weight_le c.loop.counter c.loop.weight c.loop.invariant.weight c.loop-test.true in
-    let low = c.loop.invariant.low in
-    let o = c.in_ok-octet.octet in
-    rw c.from-then-octet-lt128.ensures (short_of c.args.octets.now (c.loop.value + o * c.loop.weight) c.in_ok-octet.after.now
-    (c.loop.invariant.read ∙ ap (λ (r : List ℕ). behind c.loop.value c.loop.weight (varint_at r)) c.in_ok-octet.ensures ∙ behind_last c.loop.value c.loop.weight o c.in_ok-octet.after.now (omega arith) (omega arith))
-    (omega (arith, word_digit_fits o c.loop.weight (omega arith) le)))
+    let octets = c.args.octets.now in
+    let i = c.loop-i.i in
+    let le = word_weight_le i c.loop-i.weight c.loop-i.invariant.weight c.loop-i-test.true in
+    let low = c.loop-i.invariant.low in
+    let o = get_or octets i 0 in
+    rw (c.from-then-octet-lt128.ensures, c.split_at-then-octet-lt128.ensures.back) (short_of octets (c.loop-i.value + o * c.loop-i.weight) (drop (i + 1) octets)
+    (c.loop-i.invariant.read ∙ ap (λ (r : List ℕ). behind c.loop-i.value c.loop-i.weight (varint_at r)) (octet_next octets i (omega arith)) ∙ behind_last c.loop-i.value c.loop-i.weight o (drop (i + 1) octets) (omega arith) c.if-octet-lt128.true)
+    (omega (arith, word_digit_fits o c.loop-i.weight c.if-octet-lt128.true le)))
 
 pub overflow_mul-value : goal.overflow_mul-value
 overflow_mul-value c =
-    let le = word_weight_le c.loop.counter c.loop.weight c.loop.invariant.weight c.loop-test.true in
-    let octet : c.in_ok-octet.octet < 256 = search rules in
-    omega (arith, word_digit_fits c.from-in-loop.result c.loop.weight (omega arith) le)
+    let le = word_weight_le c.loop-i.i c.loop-i.weight c.loop-i.invariant.weight c.loop-i-test.true in
+    let octet : get_or c.args.octets.now c.loop-i.i 0 < 256 = omega (arith, c.type_inv.octets c.loop-i.i) in
+    omega (arith, word_digit_fits c.from-in-loop-i.result c.loop-i.weight (omega arith) le)
 
 pub overflow_add-value : goal.overflow_add-value
 overflow_add-value c =
-    let le = word_weight_le c.loop.counter c.loop.weight c.loop.invariant.weight c.loop-test.true in
-    let octet : c.in_ok-octet.octet < 256 = search rules in
-    let low = c.loop.invariant.low in
-    omega (arith, word_digit_fits c.from-in-loop.result c.loop.weight (omega arith) le)
+    let le = word_weight_le c.loop-i.i c.loop-i.weight c.loop-i.invariant.weight c.loop-i-test.true in
+    let octet : get_or c.args.octets.now c.loop-i.i 0 < 256 = omega (arith, c.type_inv.octets c.loop-i.i) in
+    let low = c.loop-i.invariant.low in
+    omega (arith, word_digit_fits c.from-in-loop-i.result c.loop-i.weight (omega arith) le)
 
 pub overflow_mul-weight : goal.overflow_mul-weight
 overflow_mul-weight c =
-    let le = word_weight_le c.loop.counter c.loop.weight c.loop.invariant.weight c.loop-test.true in
+    let le = word_weight_le c.loop-i.i c.loop-i.weight c.loop-i.invariant.weight c.loop-i-test.true in
     omega arith
 
-pub loop-preserved : goal.loop-preserved
-loop-preserved c =
-    let octet : c.in_ok-octet.octet < 256 = search rules in
+pub loop-i-preserved : goal.loop-i-preserved
+loop-i-preserved c =
+    let octets = c.args.octets.now in
+    let i = c.loop-i.i in
+    let o = get_or octets i 0 in
+    let octet : o < 256 = omega (arith, c.type_inv.octets i) in
     record {
-      low = low_more c.loop.value c.from-in-loop.result c.loop.weight c.loop.invariant.low (omega arith);
-      weight = weight_more c.loop.counter c.loop.weight c.loop.invariant.weight;
-      read = rw c.from-in-loop.ensures (c.loop.invariant.read ∙ ap (λ (r : List ℕ). behind c.loop.value c.loop.weight (varint_at r)) c.in_ok-octet.ensures ∙ behind-more c.loop.value c.loop.weight c.in_ok-octet.octet c.in_ok-octet.after.now c.if-octet-lt128.false);
+      low = low_more c.loop-i.value c.from-in-loop-i.result c.loop-i.weight c.loop-i.invariant.low (omega arith);
+      weight = weight_more i c.loop-i.weight c.loop-i.invariant.weight;
+      read = rw c.from-in-loop-i.ensures (c.loop-i.invariant.read ∙ ap (λ (r : List ℕ). behind c.loop-i.value c.loop-i.weight (varint_at r)) (octet_next octets i (omega arith)) ∙ behind-more c.loop-i.value c.loop-i.weight o (drop (i + 1) octets) c.if-octet-lt128.false);
     }
