@@ -1,7 +1,9 @@
 -- Where rows stand in segments, and which segments a set of a database has.
 use Rattle.std.specs.Prelude.{⊤, ◌≡◌, ℕ, ℤ, pos, ◌+◌, ◌<◌, Bool, true, nat_lt, List, [], ◌∷◌, ◌++◌, length, map, slice_index_or}
 use Rattle.std.specs.List.{AllByRecursion, list_all}
+use Rattle.std.specs.Ordering.{is_lt}
 use Rattle.arch_types.specs.declared.key.Key.{Key}
+use Rattle.arch_types.specs.Order.{key_cmp}
 use Rattle.intervals.specs.Interval.{interval_of}
 use Rattle.container_extract.specs.declared.values.RawValue.{RawValue}
 use Rattle.container_extract.specs.Values.{IsRawValue}
@@ -102,6 +104,10 @@ pub record IsRowPlace (segments : List Segment) (p : RowPlace) : Type 0 where
 -- the key at a place
 abbrev pub place_key : KeyPlace → Key
 place_key p = record { time = p.time; seq = p.seq }
+
+-- a place's key is below another's
+abbrev pub is_key_earlier : KeyPlace → KeyPlace → Bool
+is_key_earlier a b = is_lt (key_cmp (place_key a) (place_key b))
 
 -- a key of the segment with a number
 abbrev pub key_in : ℕ → Key → KeyPlace

@@ -46,7 +46,7 @@ fn set_over(alloc: Global, octets: &Octets, read: ReadSegments<'_>) -> Result<Se
     if end != octets.len() {
         return Err(NotASegment::Malformed);
     }
-    if !are_set_segments(alloc, &segments)? {
+    if !are_set_segments(alloc, &segments, end)? {
         return Err(NotASegment::Malformed);
     }
     let own = octets.copy()?;

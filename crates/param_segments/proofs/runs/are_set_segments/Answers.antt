@@ -1,4 +1,4 @@
-use Rattle.std.proofs.Common.{◌≡◌, ◌∙◌, ◌+◌, ◌<◌, arith, get_or, List, ℕ, Option, Some, ap, length, map, refl, subst, sym}
+use Rattle.std.proofs.Common.{◌≡◌, ◌∙◌, ◌<◌, arith, List, ℕ, Option, Some, ap, length, map, refl, subst, sym}
 use Rattle.std.specs.Prelude.{IfSome}
 use Rattle.std.specs.List.{AllByRecursion}
 use Rattle.std.specs.List.Sorted.{IsSortedBy, IsStrictlySortedBy}
@@ -7,7 +7,7 @@ use Rattle.param_segments.specs.declared.key_place.KeyPlace.{KeyPlace}
 use Rattle.param_segments.specs.declared.runs.Runs.{Runs}
 use Rattle.param_segments.specs.RowPlaces.{RowPlace, place_key, places_from}
 use Rattle.param_segments.specs.Runs.{AreRunsSoFar, count_in_order, key_group, place_group}
-use Rattle.param_segments.proofs.KeyPlaces.{all_of_places, by_cmp, groups_at_places, keys_at_places, places_back, sorted_places}
+use Rattle.param_segments.proofs.KeyPlaces.{all_of_places, groups_at_places, keys_at_places, places_back, sorted_places}
 use Rattle.param_segments.proofs.Placed.{is_place_earlier, sorted_inside}
 use Rattle.param_segments.proofs.RunSteps.{numbers_len, places_numbered, runs_are}
 use Rattle.param_segments.proofs.RunsComplete.{order_of_set}
@@ -19,9 +19,9 @@ returns-then-not-are_rising c = (
   λ e. absurd cc,
   λ set. absurd (
       let segments = c.args.segments.now in
-      let sorted = c.sort_unstable.new.self.items in
-      let b = places_back segments c.in_ok-places.places.items sorted c.in_ok-places.ensures c.sort_unstable.ensures.permutation in
-      let up : IsSortedBy is_place_earlier b.0 = sorted_places b.0 sorted b.2 (λ k d high. by_cmp (get_or sorted (k + 1) d) (get_or sorted k d) (c.sort_unstable.ensures.sorted k d (omega arith) high)) in
+      let sorted = c.put_in_order.new.places.items in
+      let b = places_back segments c.in_ok-places.places.items sorted c.in_ok-places.ensures c.put_in_order.ensures.permutation in
+      let up : IsSortedBy is_place_earlier b.0 = sorted_places b.0 sorted b.2 (λ k d high. c.in_ok-put_in_order.ensures.sorted k d (omega arith) high) in
       let rises = places_rise segments b.0 set b.1 up in
       let told = c.are_rising.ensures.1
       (subst (λ (ps : List KeyPlace). IsStrictlySortedBy key_cmp (map place_key ps)) (sym c.deref.ensures.value) (subst (IsStrictlySortedBy key_cmp) (sym (keys_at_places b.0 sorted b.2)) rises)) in
@@ -32,8 +32,8 @@ returns-then-not-are_rising c = (
 pub come_in_order-requires-clause-placed : goal.come_in_order-requires-clause-placed
 come_in_order-requires-clause-placed c =
     let segments = c.args.segments.now in
-    let sorted = c.sort_unstable.new.self.items in
-    let b = places_back segments c.in_ok-places.places.items sorted c.in_ok-places.ensures c.sort_unstable.ensures.permutation in
+    let sorted = c.put_in_order.new.places.items in
+    let b = places_back segments c.in_ok-places.places.items sorted c.in_ok-places.ensures c.put_in_order.ensures.permutation in
     let placed = sorted_inside segments (places_from 0 segments) b.0 c.requires.sound refl b.1 in
     let numbers = c.deref-2.result.now in
     let found : AreRunsSoFar segments c.in-Some.runs = subst (λ (o : Option Runs). IfSome o (AreRunsSoFar segments)) c.in-Some.is c.in_ok-runs.ensures.found in
@@ -50,8 +50,8 @@ come_in_order-requires-clause-within c =
 pub returns : goal.returns
 returns c =
     let segments = c.args.segments.now in
-    let sorted = c.sort_unstable.new.self.items in
-    let b = places_back segments c.in_ok-places.places.items sorted c.in_ok-places.ensures c.sort_unstable.ensures.permutation in
+    let sorted = c.put_in_order.new.places.items in
+    let b = places_back segments c.in_ok-places.places.items sorted c.in_ok-places.ensures c.put_in_order.ensures.permutation in
     let placed = sorted_inside segments (places_from 0 segments) b.0 c.requires.sound refl b.1 in
     let runs = c.in-Some.runs in
     let numbers = runs.numbers.items in
