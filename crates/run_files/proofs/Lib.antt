@@ -1,0 +1,5 @@
+pub mod KeyPages
+pub mod RunPages
+pub mod FileEnds
+pub mod Openings
+pub mod OpenCalls

@@ -1,0 +1,5 @@
+pub mod Faults
+pub mod Run
+pub mod Lookup
+pub mod Calls
+pub mod Opening
