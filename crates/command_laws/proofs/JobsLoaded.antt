@@ -35,7 +35,7 @@ use Rattle.load_jobs.proofs.Pieces.{read_of_end}
 use Rattle.load_jobs.specs.declared.ending.LinkEnd.{LinkEnd}
 use Rattle.load_jobs.specs.declared.ending.LinkEnd.TheVariants.{Whole, Rest, Unread, TooLong, Refused}
 use Rattle.live_session.specs.Jobs.{JobSetting}
-use Rattle.live_session.specs.Links.{AreLinksLoaded, IsBatchInHand, IsSentInto, LinkLoads}
+use Rattle.live_session.specs.Links.{AreLinksLoaded, IsBatchInHand, IsSentInto, LinkLoads, extension}
 use Rattle.live_session.specs.declared.reported.ReportedRefusal.{ReportedRefusal}
 use Rattle.live_session.specs.Outcome.{IsFailedAddition, IsJobsOutcome, JobsOutcome, counts_of, reported_of, reported_of_link}
 use Rattle.command_words.specs.Job.{LoadWords}
@@ -92,7 +92,7 @@ some_left (Some octets) dump some is = ap Some is
 -- ---- what came of one link
 
 loads_at : (files : Files) (exponent : ℕ) (failed : Option Addition) (low history : List Item) (g : JobSetting) (first : ℕ) (names : List (List ℕ)) (ends : List LinkEnd)
-    → AreLinksLoaded exponent failed low history g first (dumps_of (Some files) names) ends → (place link : ℕ) (name : List ℕ) → link ≡ first + place → slice_get names place ≡ Some name
+    → AreLinksLoaded (extension exponent low history failed) g first (dumps_of (Some files) names) ends → (place link : ℕ) (name : List ℕ) → link ≡ first + place → slice_get names place ≡ Some name
     → (end : LinkEnd) × LinkLoads exponent failed history (receiving g.head low g.route link g.moment) (get files name) end
 loads_at files exponent failed low history g first [] ends loaded place link name number is = absurd (cc (is))
 loads_at files exponent failed low history g first (other ∷ names) [] loaded place link name number is = absurd loaded
@@ -265,7 +265,7 @@ module _ (files : Files) (clock : Option ℤ) (words : LoadWords) (before : Fill
   first_name link name names are = are.comes zero link name (omega arith) refl
 
   abbrev pub AreLoaded : ℕ → List (List ℕ) → List LinkEnd → Type 0
-  AreLoaded link names ends = AreLinksLoaded before.plain.exponent c.failed low c.reached came.g link (dumps_of (Some files) names) ends
+  AreLoaded link names ends = AreLinksLoaded (extension before.plain.exponent low c.reached c.failed) came.g link (dumps_of (Some files) names) ends
 
   whole_from : (link : ℕ) (names : List (List ℕ)) (ends : List LinkEnd) → AreNamesFrom link names → AreLoaded link names ends → reported_of link ends c.others ≡ None → AreWholeFrom link ends
   whole_from link [] [] are loaded reported = let last = are.last in

@@ -33,7 +33,7 @@ use Rattle.command_runs.specs.Command.{Progress, nothing_done}
 use Rattle.load_command.specs.Load.{after_limits, load_plan, read_load_plan}
 use Rattle.command_laws.specs.Calls.{Call, IsNoArchive, IsRefusedBy, IsRun, Prints, Succeeded, WasInterrupted}
 use Rattle.command_laws.specs.Links.{AreThere, AreWholeBefore, CameWhole, ComesBy, HasDump, HasRead, IsLongDump, IsWholeDump}
-use Rattle.command_laws.specs.Load.{IsAsked, IsBroken, IsLoadedOrNot, IsOverlong, WasHindered, WasOverLimit, WasPending}
+use Rattle.command_laws.specs.Load.{IsAsked, IsBroken, IsLoadedOrNot, IsOverlong, WasHindered, WasOverLimit, WasPending, load_given}
 use Rattle.command_laws.specs.NamedFiles.{HasFile}
 use Rattle.command_laws.proofs.Files.{one_content}
 use Rattle.command_laws.proofs.FirstRefused.{Earlier, none_reported}
@@ -205,7 +205,7 @@ module _ {D : Type 0} (device : Device D) (e : Call D) (files : Files) (clock : 
 
       -- the one that is reported comes by no other link
       module _ (NotWhole : IsWholeDump files name → ⊥) where
-        broken_here : (other place : ℕ) (kind : BadKind) → IsBroken device e files clock words before other place kind → other ≡ link
+        broken_here : (other place : ℕ) (kind : BadKind) → IsBroken device e (load_given files clock words before) other place kind → other ≡ link
         broken_here other place kind bad = elim (compare other link) [
           | inl below ↦ absurd (read_not_bad files bad.received.name bad.d.packets bad.d.rest place kind (whole other bad.received.name bad.received.comes below) bad.received.has bad.to_end bad.bad)
           | inr more ↦ elim more [
@@ -214,7 +214,7 @@ module _ {D : Type 0} (device : Device D) (e : Call D) (files : Files) (clock : 
           ]
         ]
 
-        overlong_here : (other : ℕ) → IsOverlong device e files clock words before other → other ≡ link
+        overlong_here : (other : ℕ) → IsOverlong device e (load_given files clock words before) other → other ≡ link
         overlong_here other long = elim (compare other link) [
           | inl below ↦ absurd (whole_not_long files long.received.name (whole other long.received.name long.received.comes below) long.long)
           | inr more ↦ elim more [
@@ -226,10 +226,10 @@ module _ {D : Type 0} (device : Device D) (e : Call D) (files : Files) (clock : 
       -- it is too long
 
       abbrev OverlongDue : Type 0
-      OverlongDue = IsOverlong device e files clock words before link ⊎ (((at : ℕ) × IsBroken device e files clock words before link at Version) ⊎ Hindered)
+      OverlongDue = IsOverlong device e (load_given files clock words before) link ⊎ (((at : ℕ) × IsBroken device e (load_given files clock words before) link at Version) ⊎ Hindered)
 
       -- its last packet isn't cut off within the limit
-      version_only : IsLongDump files name → (place : ℕ) (kind : BadKind) → IsBroken device e files clock words before link place kind → (at : ℕ) × IsBroken device e files clock words before link at Version
+      version_only : IsLongDump files name → (place : ℕ) (kind : BadKind) → IsBroken device e (load_given files clock words before) link place kind → (at : ℕ) × IsBroken device e (load_given files clock words before) link at Version
       version_only long place bad.Version is = (place, is)
       version_only long place bad.Truncated is =
           let same = comes_once words link is.received.name name is.received.comes comes in
@@ -242,9 +242,9 @@ module _ {D : Type 0} (device : Device D) (e : Call D) (files : Files) (clock : 
         | inl broken ↦
             let bad = broken.3 in
             let here = broken_here (λ is_whole. whole_not_long files name is_whole long) broken.0 broken.1 broken.2 bad in
-            inr (inl (version_only long broken.1 broken.2 (subst (λ (n : ℕ). IsBroken device e files clock words before n broken.1 broken.2) here bad)))
+            inr (inl (version_only long broken.1 broken.2 (subst (λ (n : ℕ). IsBroken device e (load_given files clock words before) n broken.1 broken.2) here bad)))
         | inr others ↦ elim others [
-          | inl overlong ↦ inl (subst (IsOverlong device e files clock words before) (overlong_here (λ is_whole. whole_not_long files name is_whole long) overlong.0 overlong.1) overlong.1)
+          | inl overlong ↦ inl (subst (IsOverlong device e (load_given files clock words before)) (overlong_here (λ is_whole. whole_not_long files name is_whole long) overlong.0 overlong.1) overlong.1)
           | inr cut_or ↦ elim cut_or [
             | inl is_cut ↦ inr (inr (inl (cut is_cut)))
             | inr why ↦ inr (inr (hindered why.1))
@@ -258,17 +258,17 @@ module _ {D : Type 0} (device : Device D) (e : Call D) (files : Files) (clock : 
         not_whole : IsWholeDump files name → ⊥
         not_whole is_whole = whole_not_bad files name packets rest place kind is_whole has bad
 
-        broken_same : (other at : ℕ) (how : BadKind) → IsBroken device e files clock words before other at how → IsBroken device e files clock words before link place kind
+        broken_same : (other at : ℕ) (how : BadKind) → IsBroken device e (load_given files clock words before) other at how → IsBroken device e (load_given files clock words before) link place kind
         broken_same other at how is =
             let here = broken_here not_whole other at how is in
             let same = comes_once words other is.received.name name is.received.comes (comes_to other here) in
             let file : HasFile files DumpOctets is.received.name has.dump = subst (λ (n : List ℕ). HasFile files DumpOctets n has.dump) (sym same) has.file in
             let all = read_has files is.received.name is.d.packets is.d.rest at how has.dump file is.received.has is.to_end is.bad in
             let ending = one_ending files is.received.name name same is.d.packets packets all.0 rest at place how kind all.1 has all.2 bad in
-            subst (λ (n : ℕ). IsBroken device e files clock words before n place kind) here
-            (subst (λ (k : BadKind). IsBroken device e files clock words before other place k) ending.1 (subst (λ (n : ℕ). IsBroken device e files clock words before other n how) ending.0 is))
+            subst (λ (n : ℕ). IsBroken device e (load_given files clock words before) n place kind) here
+            (subst (λ (k : BadKind). IsBroken device e (load_given files clock words before) other place k) ending.1 (subst (λ (n : ℕ). IsBroken device e (load_given files clock words before) other n how) ending.0 is))
 
-        broken_so : AreReportedSo device e files clock words before ready.asks c came → IsBroken device e files clock words before link place kind ⊎ Hindered
+        broken_so : AreReportedSo device e files clock words before ready.asks c came → IsBroken device e (load_given files clock words before) link place kind ⊎ Hindered
         broken_so (inl none) = absurd (not_whole (reported_all (none_reported files clock words before facts ready.asks c came none.0)))
         broken_so (inr (t, said, cause, cut)) = elim cause [
           | inl broken ↦ inl (broken_same broken.0 broken.1 broken.2 broken.3)
@@ -338,10 +338,10 @@ module _ {D : Type 0} (device : Device D) (e : Call D) (files : Files) (clock : 
         by_session (Succeeded e ⊎ WasHindered device e files clock words before) before ready there (λ cut. inr (inl cut))
         (λ c came so. complete_so device e files clock words before ready c came whole so);
     overlong = λ before link name ready there whole comes long.
-        by_session (IsOverlong device e files clock words before link ⊎ (((at : ℕ) × IsBroken device e files clock words before link at Version) ⊎ WasHindered device e files clock words before)) before ready there
+        by_session (IsOverlong device e (load_given files clock words before) link ⊎ (((at : ℕ) × IsBroken device e (load_given files clock words before) link at Version) ⊎ WasHindered device e files clock words before)) before ready there
         (λ cut. inr (inr (inl cut))) (λ c came so. overlong_so device e files clock words before ready c came link name comes whole long so);
     broken = λ before link name packets rest place kind ready there whole comes has bad.
-        by_session (IsBroken device e files clock words before link place kind ⊎ WasHindered device e files clock words before) before ready there (λ cut. inr (inl cut))
+        by_session (IsBroken device e (load_given files clock words before) link place kind ⊎ WasHindered device e files clock words before) before ready there (λ cut. inr (inl cut))
         (λ c came so. broken_so device e files clock words before ready c came link name comes whole packets rest has place kind bad so);
     only_overlong = (only_reported device e files clock words run).overlong;
     only_broken = (only_reported device e files clock words run).broken;

@@ -28,7 +28,7 @@ use Rattle.command_runs.specs.Command.{ArchiveFound, DiskOutcome, EndedAt, HasEf
 use Rattle.command_runs.specs.FillingPlan.{after_filling, fill_failed, filled_to}
 use Rattle.ask_answers.specs.Asks.{asked_plan, with_sources}
 use Rattle.load_command.specs.Load.{after_jobs, after_links, after_route, answering_asks_plan, archive_load_plan, history_extended, job_refused, jobs_plan, load_printing_plan, loading_plan, read_load_plan, routed_load_plan, routed_plan, write_failed}
-use Rattle.load_command.specs.Loading.{IsRouteAnswer, is_unread}
+use Rattle.load_command.specs.Loading.{IsRouteAnswer, is_unread, load_asked}
 use Rattle.command_laws.specs.Answers.{sheet_refusal}
 use Rattle.command_laws.specs.Calls.{Call, IsInterruption, IsNoArchive, IsRefusedBy, Succeeded, WasInterrupted, effects}
 use Rattle.command_laws.specs.Links.{AreThere, HasAsks, HasRouteText, IsFirstMissing, load_files}
@@ -142,7 +142,7 @@ module _ {D : Type 0} (device : Device D) (e : Call D) (files : Files) (clock : 
 
   module _ (text : Option (List ℕ)) (sheet : Result (List Ask) Refusal) (begun : IsBegun files words text sheet) where
     abbrev opening : CommandPlan Progress ⊥
-    opening = opened_plan dumps device e.disk (λ records. loading_plan facts (Some files) clock words text sheet)
+    opening = opened_plan dumps device e.disk (λ records. loading_plan facts (Some files) clock (load_asked words text sheet))
 
     -- a dump that isn't there is missing
     pub lacking_due : (refusal : Refusal) → IsFirstMissing files words.dumps refusal → Reads → IsRefusedBy device e refusal
@@ -172,10 +172,10 @@ module _ {D : Type 0} (device : Device D) (e : Call D) (files : Files) (clock : 
       where
         go : (f : Progress → Progress) → KeepsDone device e f → Requires (map_done f opening) way → IsRefusedBy device e refusal
         go f keeps (inl cut) = inr (no_memory e way at _ cut)
-        go f keeps (inr d) = no_archive_due e way at f keeps.disk dumps (loading_plan facts (Some files) clock words text sheet) refusal is d
+        go f keeps (inr d) = no_archive_due e way at f keeps.disk dumps (loading_plan facts (Some files) clock (load_asked words text sheet)) refusal is d
 
     -- one that is
-    to_archive : (before : FilledArchive) → StandsFilled (device.reads e.disk) before → AreThere files words.dumps → Reads → IsDueSo (loading_plan facts (Some files) clock words text sheet before) ⊎ WasInterrupted device e
+    to_archive : (before : FilledArchive) → StandsFilled (device.reads e.disk) before → AreThere files words.dumps → Reads → IsDueSo (loading_plan facts (Some files) clock (load_asked words text sheet) before) ⊎ WasInterrupted device e
     to_archive before stands there d = elim (to_opening there d) [
       | inl went ↦ go went.0 went.1 went.2
       | inr cut ↦ inr cut
@@ -184,7 +184,7 @@ module _ {D : Type 0} (device : Device D) (e : Call D) (files : Files) (clock : 
         sought : ◌≡◌ {A = DiskOutcome} SeekingFailed NotAsked → ⊥
         sought never = cc (never)
 
-        go : (f : Progress → Progress) → KeepsDone device e f → Requires (map_done f opening) way → IsDueSo (loading_plan facts (Some files) clock words text sheet before) ⊎ WasInterrupted device e
+        go : (f : Progress → Progress) → KeepsDone device e f → Requires (map_done f opening) way → IsDueSo (loading_plan facts (Some files) clock (load_asked words text sheet) before) ⊎ WasInterrupted device e
         go f keeps (inl cut) = inr (no_memory e way at _ cut)
         go f keeps (inr (inl cut)) = inr (no_memory e way at _ cut)
         go f keeps (inr (inr (inl cut))) = inr (disk_call e way at (f (seeking_failed dumps)) (λ none. sought (sym (keeps.disk (seeking_failed dumps)) ∙ none)) cut)
@@ -204,12 +204,12 @@ module _ {D : Type 0} (device : Device D) (e : Call D) (files : Files) (clock : 
         asks_refused f route (Ok asks) is (inr asked) = refused e way at _ refusal (asked (Some refusal) (sym is))
 
         linked : (f : Progress → Progress) → IsRouteAnswer before.plain text (Err refusal) ⊎ ((route : List RouteStatement) × IsRouteAnswer before.plain text (Ok route) × (sheet_refusal before.plain sheet ≡ Some refusal))
-            → Requires (map_done f (after_links facts (Some files) clock words text sheet before None)) way → IsRefusedBy device e refusal
+            → Requires (map_done f (after_links facts (Some files) clock (load_asked words text sheet) before None)) way → IsRefusedBy device e refusal
         linked f is (inl cut) = inr (no_memory e way at _ cut)
         linked f (inl of_route) (inr answered) = refused e way at _ refusal (answered (Err refusal) of_route)
         linked f (inr (route, routed, of_asks)) (inr answered) = asks_refused f route sheet of_asks (answered (Ok route) routed)
 
-        found : (f : Progress → Progress) → IsLoadRefusal before.plain words text sheet refusal → Requires (map_done f (loading_plan facts (Some files) clock words text sheet before)) way → IsRefusedBy device e refusal
+        found : (f : Progress → Progress) → IsLoadRefusal before.plain words text sheet refusal → Requires (map_done f (loading_plan facts (Some files) clock (load_asked words text sheet) before)) way → IsRefusedBy device e refusal
         found f (inl of_links) d = refused e way at _ refusal (d (Some refusal) (sym of_links))
         found f (inr (none, others)) d = linked f others (d None (sym none))
 
@@ -229,7 +229,7 @@ module _ {D : Type 0} (device : Device D) (e : Call D) (files : Files) (clock : 
         checked f keeps (inl cut) = inr (no_memory e way at _ cut)
         checked f keeps (inr asked) = inl (f, keeps, asked None (sym ready.answerable))
 
-        linked : (f : Progress → Progress) → KeepsDone device e f → Requires (map_done f (after_links facts (Some files) clock words ready.text (Ok ready.asks) before None)) way → IsJobsDue
+        linked : (f : Progress → Progress) → KeepsDone device e f → Requires (map_done f (after_links facts (Some files) clock (load_asked words ready.text (Ok ready.asks)) before None)) way → IsJobsDue
         linked f keeps (inl cut) = inr (no_memory e way at _ cut)
         linked f keeps (inr answered) = checked f keeps (answered (Ok ready.route) ready.routed)
 

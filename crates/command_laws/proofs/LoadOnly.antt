@@ -35,10 +35,10 @@ use Rattle.command_runs.specs.Command.{ArchiveFound, DamageFound, HasEffects, No
 use Rattle.command_runs.specs.FillingPlan.{after_filling, filled_to}
 use Rattle.ask_answers.specs.Asks.{after_asks_check, archive_asks_refusal, asked_plan, with_sources}
 use Rattle.load_command.specs.Load.{after_jobs, after_limits, after_links, after_route, answering_asks_plan, archive_load_plan, history_extended, job_refused, jobs_plan, load_plan, load_printing_plan, loading_plan, read_load_plan, routed_load_plan, routed_plan}
-use Rattle.load_command.specs.Loading.{IsRouteAnswer}
+use Rattle.load_command.specs.Loading.{IsRouteAnswer, load_asked}
 use Rattle.command_laws.specs.Calls.{Call, HeldArchive, IsRun, effects}
 use Rattle.command_laws.specs.Links.{AreThere, ComesBy, HasAsks, HasRouteText, IsFirstMissing, IsLoadUnread, dump_files, load_files}
-use Rattle.command_laws.specs.Load.{ArePassed, AreRecordsPassed, IsBroken, IsOverlong, WasOverLimit, WasPending}
+use Rattle.command_laws.specs.Load.{ArePassed, AreRecordsPassed, IsBroken, IsOverlong, WasOverLimit, WasPending, load_given}
 use Rattle.command_laws.specs.NamedFiles.{HasFile, IsFirstUnread, IsReadingRefusal, IsUnreadFor, named_file}
 use Rattle.command_laws.proofs.FileRefusals.{TellsOfOutside, no_asks, no_asks_sheet, no_interruption, no_script, reading_tells}
 use Rattle.command_laws.proofs.Files.{have_read}
@@ -86,8 +86,8 @@ module _ {D : Type 0} (device : Device D) (e : Call D) (files : Files) (clock : 
   -- what it says of files, of a dump or of the disk is so
   pub record IsOnlyReported : Type 0 where
     pub unread : (refusal : Refusal) → e.report.refusal ≡ Some refusal → IsReadingRefusal refusal → IsLoadUnread files words refusal
-    pub overlong : (number : ℕ) → e.report.refusal ≡ Some (Limit DumpOctets number) → HeldArchive device e (λ before. (link : ℕ) × IsOverlong device e files clock words before link)
-    pub broken : (at : ℕ) (kind : BadKind) → e.report.refusal ≡ Some (BadPacket at kind) → HeldArchive device e (λ before. (link : ℕ) × IsBroken device e files clock words before link at kind)
+    pub overlong : (number : ℕ) → e.report.refusal ≡ Some (Limit DumpOctets number) → HeldArchive device e (λ before. (link : ℕ) × IsOverlong device e (load_given files clock words before) link)
+    pub broken : (at : ℕ) (kind : BadKind) → e.report.refusal ≡ Some (BadPacket at kind) → HeldArchive device e (λ before. (link : ℕ) × IsBroken device e (load_given files clock words before) link at kind)
     pub pending : (faults : ℕ) → e.report.refusal ≡ Some (NeedsReopen faults) → (e.report.opened ≡ true) × IsCountedSince device e.disk e.disk' (Some faults)
 
   -- its refusal is another
@@ -169,7 +169,7 @@ module _ {D : Type 0} (device : Device D) (e : Call D) (files : Files) (clock : 
                 (λ other m comes low high. earlier other m comes (omega (arith, low)) (omega (arith, high))) refusal unread,
           )
 
-      overlong_unread : (link : ℕ) → IsOverlong device e files clock words before link → IsLoadUnread files words (Limit DumpOctets (limit_of DumpOctets))
+      overlong_unread : (link : ℕ) → IsOverlong device e (load_given files clock words before) link → IsLoadUnread files words (Limit DumpOctets (limit_of DumpOctets))
       overlong_unread link long =
           let number = long.received.comes.number in inr (
             have_read files words came.text (Ok asks) came.named came.sheet,
@@ -183,7 +183,7 @@ module _ {D : Type 0} (device : Device D) (e : Call D) (files : Files) (clock : 
             ),
           )
 
-      reported_overlong : StandsFilled (device.reads e.disk) before → (link : ℕ) → IsOverlong device e files clock words before link → IsOnlyReported
+      reported_overlong : StandsFilled (device.reads e.disk) before → (link : ℕ) → IsOverlong device e (load_given files clock words before) link → IsOnlyReported
       reported_overlong stands link long =
           let is = long.refusal in
           let too_long = Limit DumpOctets (limit_of DumpOctets) in record {
@@ -193,7 +193,7 @@ module _ {D : Type 0} (device : Device D) (e : Call D) (files : Files) (clock : 
             pending = λ faults said. let never = same_refusal e.report.refusal too_long (NeedsReopen faults) is said in absurd (cc (never));
           }
 
-      reported_broken : StandsFilled (device.reads e.disk) before → (link place : ℕ) (kind : BadKind) → IsBroken device e files clock words before link place kind → IsOnlyReported
+      reported_broken : StandsFilled (device.reads e.disk) before → (link place : ℕ) (kind : BadKind) → IsBroken device e (load_given files clock words before) link place kind → IsOnlyReported
       reported_broken stands link place kind bad =
           let is = bad.refusal in record {
             unread = λ reported said reading. absurd (subst IsReadingRefusal (sym (same_refusal e.report.refusal (BadPacket place kind) reported is said)) reading);
@@ -202,7 +202,7 @@ module _ {D : Type 0} (device : Device D) (e : Call D) (files : Files) (clock : 
                 let same = same_refusal e.report.refusal (BadPacket place kind) (BadPacket at other) is said in
                 let at_is : place ≡ at = cc (same) in
                 let kind_is : kind ≡ other = cc (same) in
-                (before, stands, (link, subst (λ (k : BadKind). IsBroken device e files clock words before link at k) kind_is (subst (λ (n : ℕ). IsBroken device e files clock words before link n kind) at_is bad)));
+                (before, stands, (link, subst (λ (k : BadKind). IsBroken device e (load_given files clock words before) link at k) kind_is (subst (λ (n : ℕ). IsBroken device e (load_given files clock words before) link n kind) at_is bad)));
             pending = λ faults said. let never = same_refusal e.report.refusal (BadPacket place kind) (NeedsReopen faults) is said in absurd (cc (never));
           }
 
@@ -298,7 +298,7 @@ module _ {D : Type 0} (device : Device D) (e : Call D) (files : Files) (clock : 
         route_only (Ok route) routed = asks_only route routed sheet has
         route_only (Err refusal) answer = λ did. reported_other refusal (ap (λ (r : Report). r.refusal) did.report) (no_route files words.route text filled refusal named answer)
 
-        links_only : (found : Option Refusal) → found ≡ links_refusal words → EachEnd Leaves (after_links facts (Some files) clock words text sheet filled found)
+        links_only : (found : Option Refusal) → found ≡ links_refusal words → EachEnd Leaves (after_links facts (Some files) clock (load_asked words text sheet) filled found)
         links_only None is = (λ did. reported_cut OutOfMemory (ap (λ (r : Report). r.refusal) did.report) refl, λ answer routed. route_only answer routed)
         links_only (Some refusal) is = λ did. reported_other refusal (ap (λ (r : Report). r.refusal) did.report) (no_links words refusal (sym is))
 
@@ -308,10 +308,10 @@ module _ {D : Type 0} (device : Device D) (e : Call D) (files : Files) (clock : 
     opening_only (ArchiveFound filled) = tt
 
     module _ (text : Option (List ℕ)) (named : HasRouteText files words.route text) (sheet : Result (List Ask) Refusal) (has : HasAsks files words.asks sheet) where
-      opened_only : AreThere files words.dumps → EachEnd Leaves (opened_plan dumps device e.disk (λ records. loading_plan facts (Some files) clock words text sheet))
+      opened_only : AreThere files words.dumps → EachEnd Leaves (opened_plan dumps device e.disk (λ records. loading_plan facts (Some files) clock (load_asked words text sheet)))
       opened_only there = (
         λ did. reported_cut OutOfMemory (ap (λ (r : Report). r.refusal) did.report) refl,
-        each_end Leaves (opening_plan dumps device e.disk) (loading_plan facts (Some files) clock words text sheet) (
+        each_end Leaves (opening_plan dumps device e.disk) (loading_plan facts (Some files) clock (load_asked words text sheet)) (
           λ did. reported_cut OutOfMemory (ap (λ (r : Report). r.refusal) did.report) refl,
           (λ did. reported_cut DiskFault (ap (λ (r : Report). r.refusal) did.report) refl, λ held h. opening_only held),
         ) (λ filled found is. links_only text named there filled sheet has found is),
@@ -323,7 +323,7 @@ module _ {D : Type 0} (device : Device D) (e : Call D) (files : Files) (clock : 
       unopened_only refusal is (inr off) = reported_cut refusal (ap (λ (r : Report). r.refusal) is.report) off
 
       archive_only : EachEnd Leaves (archive_load_plan device e.disk (Some files) clock words text sheet)
-      archive_only = each_opened device e IsOnlyReported files words.dumps 0 (λ done. opened_plan dumps device e.disk (λ records. loading_plan facts (Some files) clock words text sheet)) unopened_only opened_only
+      archive_only = each_opened device e IsOnlyReported files words.dumps 0 (λ done. opened_plan dumps device e.disk (λ records. loading_plan facts (Some files) clock (load_asked words text sheet))) unopened_only opened_only
 
     -- the files that are read first
     abbrev AmongFirst : List (Which × List ℕ) → Type 0

@@ -37,7 +37,7 @@ use Rattle.load_command.specs.LoadLine.{line_of_load, load_line, load_text}
 use Rattle.command_laws.specs.Answers.{AreAnswersBetween, IsAnswerBetween}
 use Rattle.command_laws.specs.Calls.{Call}
 use Rattle.command_laws.specs.Links.{arrived_of, packets_of}
-use Rattle.command_laws.specs.Load.{IsLoadText, line_of_dumps}
+use Rattle.command_laws.specs.Load.{AreLoadAnswers, line_of_dumps}
 use Rattle.command_laws.proofs.JobsLoaded.{AreWholeFrom, CameToJobs}
 
 -- ---- histories between two
@@ -163,12 +163,16 @@ module _ (files : Files) (clock : Option ℤ) (words : LoadWords) (before : Fill
       ∙ ap (λ (n : ℕ). load_line (packets_of whole.dumps) new (n - new) counts.idle rows) whole.arrived_are
       ∙ ap (λ (n : ℕ). load_line (packets_of whole.dumps) new (arrived_of whole.dumps - new) n rows) whole.idle
 
-  pub whole_text : IsLoadText device e files words before c.reached whole.dumps (load_text before.plain asks c)
-  whole_text = record {
+  abbrev pub answers : List ℕ
+  answers = collected_answers_text before.plain 1 asks c.answers
+
+  pub whole_text : load_text before.plain asks c ≡ answers ++ line_of_dumps before c.reached whole.dumps
+  whole_text = ap (λ (l : List ℕ). answers ++ l) line_is
+
+  pub load_answers : AreLoadAnswers device e files words before c.reached answers
+  load_answers = record {
     asks = asks;
     sheet = came.sheet;
-    answers = collected_answers_text before.plain 1 asks c.answers;
     answered = subst (λ (l : List Ask). AreAnswersBetween (IsSoundImage (device.reads e.disk)) before c.reached 1 l (collected_answers_text before.plain 1 l c.answers)) came.given.asked
         (answers_between device e known before c.reached came.outcome.more came.outcome.grown 1 came.g.asks c.answers each);
-    text_is = ap (λ (l : List ℕ). collected_answers_text before.plain 1 asks c.answers ++ l) line_is;
   }

@@ -37,7 +37,7 @@ use Rattle.ask_answers.specs.Asks.{after_asks_check, asked_plan, with_sources}
 use Rattle.script_answers.specs.Scripts.{after_answer}
 use Rattle.load_command.specs.Load.{after_jobs, after_limits, after_links, after_route, answering_asks_plan, archive_load_plan, history_extended, job_refused, jobs_plan, load_plan, load_printing_plan, loading_plan, read_load_plan, routed_load_plan, routed_plan}
 use Rattle.load_command.specs.LoadLine.{load_text, whole_report}
-use Rattle.load_command.specs.Loading.{IsRouteAnswer}
+use Rattle.load_command.specs.Loading.{IsRouteAnswer, load_asked}
 use Rattle.command_laws.specs.Calls.{Call, HasSameHistory, IsRun, IsUnopened, LeavesDisk, Prints, PrintsSome, Succeeded, effects}
 use Rattle.command_laws.specs.Links.{AreReceived, AreReceivedWhole, AreThere, HasAsks, HasRouteText, IsGrown, arrived_of, load_files}
 use Rattle.command_laws.specs.Load.{IsLoadPrinted, IsLoaded, IsOnTheWay, IsRefusedLoad, IsSilent, IsWholeLoad, TellsOfDump}
@@ -47,7 +47,7 @@ use Rattle.command_laws.proofs.FirstRefused.{link_of_dump}
 use Rattle.command_laws.proofs.JobsEnds.{filled_end, written_end}
 use Rattle.command_laws.proofs.JobsLoaded.{AreWholeFrom, CameToJobs, all_whole, grown, moment, only_rows}
 use Rattle.command_laws.proofs.Left.{is_unopened, kept_back, not_asked, opened_once, since_opening, sound_moments, untouched}
-use Rattle.command_laws.proofs.LoadTexts.{whole_text}
+use Rattle.command_laws.proofs.LoadTexts.{answers as printed_answers, load_answers, whole_text}
 use Rattle.command_laws.proofs.OnTheWay.{IsDiskLoaded, extended_disk, read_only_disk, unfilled_disk}
 use Rattle.command_laws.proofs.Readings.{IsUnread, each_behind, each_opened, each_read, read_or_not}
 use Rattle.command_laws.proofs.Runs.{all_is_some, by_job, none_or_some, same_refusal}
@@ -221,13 +221,13 @@ module _ {D : Type 0} (device : Device D) (e : Call D) (files : Files) (clock : 
         text = load_text before.plain asks c
 
         printed_so : PrintsSome e text → (Succeeded e → Prints e text) → IsLoadPrinted device e files now words before c.reached
-        printed_so some all = record {
+        printed_so some all = let is = whole_text files clock words before device e known asks c came none all_came in record {
           dumps = all_came.dumps;
           received = received_whole;
-          text = text;
-          text_is = whole_text files clock words before device e known asks c came none all_came;
-          some = some;
-          all = all;
+          answers = printed_answers files clock words before device e known asks c came none all_came;
+          answered = load_answers files clock words before device e known asks c came none all_came;
+          some = subst (PrintsSome e) is some;
+          all = λ ok. subst (Prints e) is (all ok);
         }
 
         -- some of it was
@@ -327,7 +327,7 @@ module _ {D : Type 0} (device : Device D) (e : Call D) (files : Files) (clock : 
         route_left (Ok route) routed = asks_left route routed sheet has
         route_left (Err refusal) refused = λ did. left_as_was filled (did.disk.1 known) refusal did.report did.printed
 
-        links_left : (found : Option Refusal) → EachEnd Leaves (after_links facts (Some files) clock words text sheet filled found)
+        links_left : (found : Option Refusal) → EachEnd Leaves (after_links facts (Some files) clock (load_asked words text sheet) filled found)
         links_left None = (λ did. left_as_was filled (did.disk.1 known) OutOfMemory did.report did.printed, λ answer is. route_left answer is)
         links_left (Some refusal) = λ did. left_as_was filled (did.disk.1 known) refusal did.report did.printed
 
@@ -337,17 +337,17 @@ module _ {D : Type 0} (device : Device D) (e : Call D) (files : Files) (clock : 
     opening_left (ArchiveFound filled) = tt
 
     module _ (text : Option (List ℕ)) (named : HasRouteText files words.route text) (sheet : Result (List Ask) Refusal) (has : HasAsks files words.asks sheet) where
-      opened_left : AreThere files words.dumps → EachEnd Leaves (opened_plan dumps device e.disk (λ records. loading_plan facts (Some files) clock words text sheet))
+      opened_left : AreThere files words.dumps → EachEnd Leaves (opened_plan dumps device e.disk (λ records. loading_plan facts (Some files) clock (load_asked words text sheet)))
       opened_left there = (
         λ did. left_unopened OutOfMemory did.report did.printed (not_asked device e did.disk),
-        each_end Leaves (opening_plan dumps device e.disk) (loading_plan facts (Some files) clock words text sheet) (
+        each_end Leaves (opening_plan dumps device e.disk) (loading_plan facts (Some files) clock (load_asked words text sheet)) (
           λ did. left_unopened OutOfMemory did.report did.printed (did.disk.1 known),
           (λ did. left_unopened DiskFault did.report did.printed (did.disk.1 known), λ held h. opening_left held),
         ) (λ filled found is. links_left text named there filled sheet has found),
       )
 
       archive_left : EachEnd Leaves (archive_load_plan device e.disk (Some files) clock words text sheet)
-      archive_left = each_opened device e Left files words.dumps 0 (λ done. opened_plan dumps device e.disk (λ records. loading_plan facts (Some files) clock words text sheet))
+      archive_left = each_opened device e Left files words.dumps 0 (λ done. opened_plan dumps device e.disk (λ records. loading_plan facts (Some files) clock (load_asked words text sheet)))
           (λ refusal unread cause. left_unread refusal unread) opened_left
 
     asked_left : (name : Option (List ℕ)) (next : Result (List Ask) Refusal → CommandPlan Progress ⊥) → ((sheet : Result (List Ask) Refusal) → HasAsks files name sheet → EachEnd Leaves (next sheet))

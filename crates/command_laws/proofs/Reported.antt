@@ -41,7 +41,7 @@ use Rattle.command_runs.specs.DumpRest.{IsBadRest, dump_limit}
 use Rattle.command_runs.proofs.DumpRest.{bad_rest, why_bad}
 use Rattle.load_command.specs.Loading.{is_unread}
 use Rattle.command_laws.specs.Calls.{Call}
-use Rattle.command_laws.specs.Load.{ArePassed, AreRecordsPassed, IsBroken, IsOverlong, IsReached, IsReportedOf, WasOverLimit, WasPending}
+use Rattle.command_laws.specs.Load.{ArePassed, AreRecordsPassed, IsBroken, IsOverlong, IsReached, IsReportedOf, WasOverLimit, WasPending, load_given}
 use Rattle.command_laws.proofs.FirstRefused.{Earlier, IsFirstRefused, IsOtherRefused}
 use Rattle.command_laws.proofs.JobsLoaded.{CameToJobs, comes_of, dump_there, fault_of_one, moment, only_rows, place_within, sent_dump, sent_received, sent_there, some_left, to}
 
@@ -106,10 +106,10 @@ module _ (files : Files) (clock : Option ℤ) (words : LoadWords) (before : Fill
     pub earlier : Earlier files clock words before facts asks c came upto
 
   abbrev pub IsBrokenSome : Type 0
-  IsBrokenSome = (link : ℕ) × (place : ℕ) × (kind : BadKind) × IsBroken device e files clock words before link place kind
+  IsBrokenSome = (link : ℕ) × (place : ℕ) × (kind : BadKind) × IsBroken device e (load_given files clock words before) link place kind
 
   abbrev pub IsOverlongSome : Type 0
-  IsOverlongSome = (link : ℕ) × IsOverlong device e files clock words before link
+  IsOverlongSome = (link : ℕ) × IsOverlong device e (load_given files clock words before) link
 
   -- Why it is reported: a dump has a rest that is no packet, or is too long; the load was cut off; or a write had failed, or a limit is passed.
   abbrev pub IsReportedCause : ReportedRefusal → Type 0
@@ -137,7 +137,7 @@ module _ (files : Files) (clock : Option ℤ) (words : LoadWords) (before : Fill
       abbrev Sent : Type 0
       Sent = IsSentInto before.plain.exponent c.failed c.reached (to files clock words before facts asks c came first.link) (get files first.name) first.loads.put first.end
 
-      abbrev reported_of_dump : is_of_dump first.end ≡ true → (t.refusal ≡ DiskFault → ⊥) → IsReportedOf device e files clock words before first.link
+      abbrev reported_of_dump : is_of_dump first.end ≡ true → (t.refusal ≡ DiskFault → ⊥) → IsReportedOf device e (load_given files clock words before) first.link
       reported_of_dump of_dump apart = record {
         moment = now;
         known = came.given.moment;

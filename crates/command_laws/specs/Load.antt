@@ -49,25 +49,24 @@ line_of_dumps before reached dumps =
     let new = length reached - length before.plain.history in
     load_line (packets_of dumps) new (arrived_of dumps - new) (idle_of dumps) (length (rows_in reached))
 
--- The text of a load of dumps that are whole: the answers to the asks of the sheet, each over a prefix of the history
--- that was reached, no shorter than the one handed in, by the fills that were there or right ones since, and the line.
-pub record IsLoadText {D : Type 0} (device : Device D) (e : Call D) (files : Files) (words : LoadWords)
-    (before : FilledArchive) (reached : List Item) (dumps : List ReceivedDump) (text : List ℕ) : Type 0 where
+-- The answers of a load to the asks of its sheet: each over a prefix of the history that was reached, no shorter than
+-- the one handed in, by the fills that were there or right ones since.
+pub record AreLoadAnswers {D : Type 0} (device : Device D) (e : Call D) (files : Files) (words : LoadWords)
+    (before : FilledArchive) (reached : List Item) (answers : List ℕ) : Type 0 where
   pub asks : List Ask
   pub sheet : HasAsks files words.asks (Ok asks)
-  pub answers : List ℕ
   pub answered : AreAnswersBetween (IsSoundImage (device.reads e.disk)) before reached 1 asks answers
-  pub text_is : text ≡ answers ++ line_of_dumps before reached dumps
 
--- Some of the text of a load of dumps that are whole was printed, and all of it at status 0.
+-- Some of the text of a load of dumps that are whole was printed, and all of it at status 0: the answers to the asks of
+-- the sheet, and the line.
 pub record IsLoadPrinted {D : Type 0} (device : Device D) (e : Call D) (files : Files) (moment : ℤ)
     (words : LoadWords) (before : FilledArchive) (reached : List Item) : Type 0 where
   pub dumps : List ReceivedDump
   pub received : AreReceivedWhole files moment words before reached dumps
-  pub text : List ℕ
-  pub text_is : IsLoadText device e files words before reached dumps text
-  pub some : PrintsSome e text
-  pub all : Succeeded e → Prints e text
+  pub answers : List ℕ
+  pub answered : AreLoadAnswers device e files words before reached answers
+  pub some : PrintsSome e (answers ++ line_of_dumps before reached dumps)
+  pub all : Succeeded e → Prints e (answers ++ line_of_dumps before reached dumps)
 
 -- ---- 4. what is reported at status 0
 
@@ -151,38 +150,48 @@ WasPending device e =
     (faults : ℕ) × (e.report.refusal ≡ Some (NeedsReopen faults)) × (e.report.opened ≡ true)
     × IsCountedSince device e.disk e.disk' (Some faults)
 
+-- what a load was given: the files, what is known of the clock, the words, and the archive of the disk
+pub record LoadGiven : Type 0 where
+  pub files : Files
+  pub clock : Option ℤ
+  pub words : LoadWords
+  pub before : FilledArchive
+
+-- that was given
+abbrev pub load_given : Files → Option ℤ → LoadWords → FilledArchive → LoadGiven
+load_given files clock words before = record { files = files; clock = clock; words = words; before = before }
+
 -- It is reported of the dump of the link of this number, which is named: the dumps of the links before it are whole,
 -- and the table and key of each of their arrivals are in the history that was reached.
-pub record IsReportedOf {D : Type 0} (device : Device D) (e : Call D) (files : Files) (clock : Option ℤ)
-    (words : LoadWords) (before : FilledArchive) (link : ℕ) : Type 0 where
+pub record IsReportedOf {D : Type 0} (device : Device D) (e : Call D) (given : LoadGiven) (link : ℕ) : Type 0 where
   pub moment : ℤ
-  pub known : IsMomentOf clock moment
+  pub known : IsMomentOf given.clock moment
   pub reached : List Item
-  pub holds : IsReached device e files moment words before reached
-  pub earlier : (other : ℕ) → words.link ≤ other → other < link → CameWhole files moment words before reached other
+  pub holds : IsReached device e given.files moment given.words given.before reached
+  pub earlier : (other : ℕ) → given.words.link ≤ other → other < link
+      → CameWhole given.files moment given.words given.before reached other
   pub named : e.report.link ≡ Some link
 
 -- Its rest is no packet: all of its packets were ingested, and the table and key of each of its arrivals are in that
 -- history. The refusal names the octet of the dump at which no packet begins. It was read to that octet, or to its end
 -- where its last packet is cut off.
-pub record IsBroken {D : Type 0} (device : Device D) (e : Call D) (files : Files) (clock : Option ℤ)
-    (words : LoadWords) (before : FilledArchive) (link at : ℕ) (kind : BadKind) : Type 0 where
-  pub reported : IsReportedOf device e files clock words before link
+pub record IsBroken {D : Type 0} (device : Device D) (e : Call D) (given : LoadGiven) (link at : ℕ) (kind : BadKind)
+    : Type 0 where
+  pub reported : IsReportedOf device e given link
   pub d : ReceivedDump
-  pub received : IsReceived files reported.moment words before link d
+  pub received : IsReceived given.files reported.moment given.words given.before link d
   pub there : All (HasKeyIn reported.reached) (arrivals_of d)
   pub bad : IsBadRest received.has.read d.rest at kind
-  pub to_end : kind ≡ Truncated → get files received.name ≡ Some received.has.read
+  pub to_end : kind ≡ Truncated → get given.files received.name ≡ Some received.has.read
   pub refusal : e.report.refusal ≡ Some (BadPacket at kind)
 
 -- It is longer than a dump may be, and no octets of another version wait within the limit: all of its packets up to
 -- there were ingested, and the table and key of each of their arrivals are in that history.
-pub record IsOverlong {D : Type 0} (device : Device D) (e : Call D) (files : Files) (clock : Option ℤ)
-    (words : LoadWords) (before : FilledArchive) (link : ℕ) : Type 0 where
-  pub reported : IsReportedOf device e files clock words before link
+pub record IsOverlong {D : Type 0} (device : Device D) (e : Call D) (given : LoadGiven) (link : ℕ) : Type 0 where
+  pub reported : IsReportedOf device e given link
   pub d : ReceivedDump
-  pub received : IsReceived files reported.moment words before link d
-  pub long : IsLongDump files received.name
+  pub received : IsReceived given.files reported.moment given.words given.before link d
+  pub long : IsLongDump given.files received.name
   pub to_limit : length received.has.read ≡ dump_limit
   pub no_version : why_of d.rest ≡ why.Version → ⊥
   pub there : All (HasKeyIn reported.reached) (arrivals_of d)
@@ -302,18 +311,21 @@ pub record IsLoadedOrNot {D : Type 0} (device : Device D) (e : Call D) (files : 
       → Succeeded e ⊎ WasHindered device e files clock words before
   pub overlong : (before : FilledArchive) (link : ℕ) (name : List ℕ) → IsAsked device e files words before
       → AreThere files words.dumps → AreWholeBefore files words link → ComesBy words link name
-      → IsLongDump files name → IsOverlong device e files clock words before link
-      ⊎ (((at : ℕ) × IsBroken device e files clock words before link at Version)
+      → IsLongDump files name → IsOverlong device e (load_given files clock words before) link
+      ⊎ (((at : ℕ) × IsBroken device e (load_given files clock words before) link at Version)
       ⊎ WasHindered device e files clock words before)
   pub broken : (before : FilledArchive) (link : ℕ) (name : List ℕ) (packets : List (List ℕ)) (rest : List ℕ)
       → (at : ℕ) (kind : BadKind) → IsAsked device e files words before → AreThere files words.dumps
       → AreWholeBefore files words link → ComesBy words link name → (has : HasDump files name packets rest)
       → IsBadRest has.dump rest at kind
-      → IsBroken device e files clock words before link at kind ⊎ WasHindered device e files clock words before
+      → IsBroken device e (load_given files clock words before) link at kind
+      ⊎ WasHindered device e files clock words before
   pub only_overlong : (number : ℕ) → e.report.refusal ≡ Some (Limit DumpOctets number)
-      → HeldArchive device e (λ before. (link : ℕ) × IsOverlong device e files clock words before link)
+      → HeldArchive device e (λ before. (link : ℕ)
+      × IsOverlong device e (load_given files clock words before) link)
   pub only_broken : (at : ℕ) (kind : BadKind) → e.report.refusal ≡ Some (BadPacket at kind)
-      → HeldArchive device e (λ before. (link : ℕ) × IsBroken device e files clock words before link at kind)
+      → HeldArchive device e (λ before. (link : ℕ)
+      × IsBroken device e (load_given files clock words before) link at kind)
   pub only_pending : (faults : ℕ) → e.report.refusal ≡ Some (NeedsReopen faults)
       → (e.report.opened ≡ true) × IsCountedSince device e.disk e.disk' (Some faults)
 
