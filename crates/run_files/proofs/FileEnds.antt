@@ -1,5 +1,5 @@
 -- A file whose end is no index and footer.
-use Rattle.std.proofs.Common.{◌≡◌, ℕ, ◌+◌, ◌-◌, ◌*◌, true, false, List, length, take, drop, Option, Some, sym, ap, ◌∙◌, subst}
+use Rattle.std.proofs.Common.{◌≡◌, ℕ, ◌+◌, ◌-◌, ◌*◌, false, List, length, take, drop, Option, Some, sym, ap, ◌∙◌, subst}
 use Rattle.std.specs.Prelude.{IfSome}
 use Rattle.arch_disk.specs.Image.{Image}
 use Rattle.run_pages.specs.Index.{AreEntries, index_octets, is_index}

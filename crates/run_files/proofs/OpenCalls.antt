@@ -1,10 +1,10 @@
 -- What an opening of all pages is refused for.
-use Rattle.std.proofs.Common.{◌≡◌, ◌⊎◌, inl, inr, ℕ, ◌<◌, ◌≤◌, true, false, List, length, Result, Ok, Err, refl, sym, ap, ◌∙◌, subst, arith}
+use Rattle.std.proofs.Common.{◌≡◌, inl, inr, ℕ, ◌<◌, ◌≤◌, true, false, List, length, Result, Ok, Err, sym, ap, ◌∙◌, subst, arith}
 use Rattle.std.specs.Prelude.{IfErr, IfOk, IsErrAnd, IsTrue}
 use Rattle.arch_disk.specs.Image.{Image}
 use Rattle.arch_disk.specs.Disk.{AddsNoImage, Device, IsDurable, NoFault, NoWriteFailed, raised}
 use Rattle.run_pages.specs.Placed.{Placed}
-use Rattle.run_pages.specs.Runs.{IsRun, entries_from, footer_of_pages}
+use Rattle.run_pages.specs.Runs.{entries_from, footer_of_pages}
 use Rattle.run_pages.specs.Damage.{IsBrokenPage}
 use Rattle.run_pages.specs.declared.footer.Footer.{Footer}
 use Rattle.run_pages.proofs.Ends.{index_once}

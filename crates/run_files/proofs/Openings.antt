@@ -1,7 +1,6 @@
 -- One page more of a run that is opened.
-use Rattle.std.proofs.Common.{◌≡◌, ◌⊎◌, inl, inr, ⊎_elim, ℕ, zero, suc, pos, ◌+◌, ◌<◌, ◌≤◌, Bool, true, List, [], ◌∷◌, ◌++◌, length, get_or, take, drop, Option, Some, None, refl, sym, ap, ◌∙◌, subst, append-nil, add-one, length-append, arith}
+use Rattle.std.proofs.Common.{◌≡◌, ℕ, zero, suc, pos, ◌+◌, ◌<◌, ◌≤◌, Bool, true, List, [], ◌∷◌, ◌++◌, length, get_or, take, drop, Option, Some, None, refl, sym, ap, ◌∙◌, subst, append-nil, add-one, length-append, arith}
 use Rattle.std.specs.Prelude.{slice_get, ◌==◌, nat_le}
-use Rattle.std.specs.List.{flat_map}
 use Rattle.std.proofs.lemmas.Grind.{flat_map-append}
 use Rattle.arch_types.specs.declared.row.Row.{Row}
 use Rattle.arch_types.specs.declared.key.Key.{Key}
@@ -11,7 +10,7 @@ use Rattle.run_pages.specs.Order.{are_ordered}
 use Rattle.run_pages.specs.Pages.{IsPage, page_octets, rows_of_page}
 use Rattle.run_pages.specs.Index.{are_joined, index_octets, is_above_last}
 use Rattle.run_pages.specs.Footer.{footer_octets}
-use Rattle.run_pages.specs.Damage.{HasIndex, HasPages, IsBrokenPage, IsPageOf, count_at, first_of_entry}
+use Rattle.run_pages.specs.Damage.{HasIndex, IsBrokenPage, IsPageOf, count_at, first_of_entry}
 use Rattle.run_pages.specs.declared.index.PageEntry.{PageEntry}
 use Rattle.run_pages.specs.declared.footer.Footer.{Footer}
 use Rattle.run_pages.specs.declared.page_rows.PageRows.{PageRows}

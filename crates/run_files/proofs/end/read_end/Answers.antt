@@ -1,4 +1,4 @@
-use Rattle.std.proofs.Common.{◌≡◌, ℕ, ◌*◌, false, List, sym, ap, ◌∙◌, subst, arith}
+use Rattle.std.proofs.Common.{◌≡◌, ◌*◌, false, List, sym, ap, ◌∙◌, subst, arith}
 use Rattle.arch_disk.specs.Image.{Image}
 use Rattle.run_pages.specs.Index.{is_index}
 use Rattle.run_pages.specs.Damage.{HasNoIndex}

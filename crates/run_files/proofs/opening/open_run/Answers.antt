@@ -1,4 +1,4 @@
-use Rattle.std.proofs.Common.{◌≡◌, ◌≤◌, None, sym, ◌∙◌, subst}
+use Rattle.std.proofs.Common.{◌≤◌, sym, ◌∙◌, subst}
 use Rattle.run_files.specs.Opening.{IsNextPage, IsOpenRefusal, pages_in, pages_read}
 use Rattle.run_files.specs.declared.opening.RunOpening.{RunOpening}
 use Rattle.run_files.proofs.OpenCalls.{err_too, handed_on, not_begun, ok_too, opened, too_many}

@@ -1,4 +1,4 @@
-use Rattle.std.proofs.Common.{◌≡◌, ◌-◌, length}
+use Rattle.std.proofs.Common.{◌≡◌, ◌-◌}
 use Rattle.arch_disk.specs.Disk.{NoFault, OnlyReads}
 use Rattle.run_files.specs.Opening.{StandsInRun, file_read, pages_in, pages_read}
 use Rattle.run_files.proofs.opening.open_run.Given as goal

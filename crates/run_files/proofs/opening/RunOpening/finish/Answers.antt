@@ -1,4 +1,4 @@
-use Rattle.std.proofs.Common.{length, refl, ◌∙◌, arith}
+use Rattle.std.proofs.Common.{length, refl, arith}
 use Rattle.run_pages.specs.Runs.{entries_from, footer_of_pages}
 use Rattle.run_pages.proofs.Ends.{index_once}
 use Rattle.run_pages.proofs.RunIndex.{run_has_index}

@@ -1,4 +1,4 @@
-use Rattle.std.proofs.Common.{◌≡◌, ℕ, [], ◌∷◌, ◌++◌, List, length, take, drop, refl, sym, ap, ◌∙◌, subst, arith}
+use Rattle.std.proofs.Common.{◌≡◌, ℕ, [], ◌∷◌, ◌++◌, List, length, take, drop, refl, sym, ap, subst, arith}
 use Rattle.std.specs.Prelude.{IfSome, Option}
 use Rattle.arch_disk.specs.Image.{Image}
 use Rattle.run_pages.specs.Pages.{IsPage, page_octets, rows_of_page}

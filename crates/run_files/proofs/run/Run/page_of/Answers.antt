@@ -1,4 +1,4 @@
-use Rattle.std.proofs.Common.{◌≡◌, ◌-◌, true, None, Some, List, length, sym, ap, ◌∙◌, subst, arith, rules}
+use Rattle.std.proofs.Common.{◌≡◌, ◌-◌, true, None, Some, List, length, ap, ◌∙◌, subst, arith, rules}
 use Rattle.std.proofs.lemmas.List.Sorted.{IsPartitionPoint-from_clause}
 use Rattle.run_pages.specs.Index.{are_joined}
 use Rattle.run_pages.specs.declared.index.PageEntry.{PageEntry}

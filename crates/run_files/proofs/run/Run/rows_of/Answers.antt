@@ -1,11 +1,6 @@
-use Rattle.std.proofs.Common.{◌≡◌, ℕ, suc, List, take, drop, None, refl, sym, ap, ◌∙◌, subst, add-one}
-use Rattle.std.specs.Prelude.{IfSome, Option, slice_get}
-use Rattle.arch_types.specs.declared.key.Key.{Key}
-use Rattle.arch_types.specs.declared.row.Row.{Row}
-use Rattle.run_pages.specs.Order.{are_ordered}
+use Rattle.std.proofs.Common.{◌≡◌, take, drop, refl, sym, ◌∙◌, subst}
+use Rattle.std.specs.Prelude.{IfSome, Option}
 use Rattle.run_pages.specs.Pages.{IsPage, page_octets, rows_of_page}
-use Rattle.run_pages.specs.Damage.{first_of_entry}
-use Rattle.run_pages.specs.declared.index.PageEntry.{PageEntry}
 use Rattle.run_pages.specs.declared.page_rows.PageRows.{PageRows}
 use Rattle.run_files.proofs.Openings.{order_told}
 use Rattle.run_files.proofs.RunPages.{found, in_order, same_rows, spelled, there_is}
