@@ -48,7 +48,7 @@ abbrev pub intervals_of : List PublishedMark → List Interval
 intervals_of marks = map (λ mark. mark.interval) marks
 
 -- the marks of a history and its fills: one for each interval that has rows, in the order of the intervals
-pub record AreMarksOf (archive : StayingFacts) (history : List Item) (fills : List Fill) (marks : List PublishedMark) : Type 0 where
+pub record AreListedMarks (archive : StayingFacts) (history : List Item) (fills : List Fill) (marks : List PublishedMark) : Type 0 where
   pub each : AllByRecursion (IsMarkOf archive history fills) marks
   pub rising : IntervalsRise (intervals_of marks)
   pub cover : (interval : Interval) (position : ℕ) → StandsIn archive.exponent interval position history →
@@ -61,4 +61,4 @@ pub record IsListing {X : Type 0} (stays : X → StayingFacts) (at : Sighting X)
   pub front : contents.front ≡ length at.history
   pub exponent : contents.exponent ≡ (stays archive).exponent
   pub database : arc_value contents.mdb ≡ database_of (stays archive) at.history
-  pub marks : AreMarksOf (stays archive) at.history at.fills contents.marks
+  pub marks : AreListedMarks (stays archive) at.history at.fills contents.marks

@@ -9,6 +9,7 @@ pub record ShelfView (X : Type 0) : Type 0 where
   pub shown : Sighting X
   pub made : Sighting X
 
+-- a shelf that shows one and has made another
 abbrev pub shelf_of : {X : Type 0} → Sighting X → Sighting X → ShelfView X
 shelf_of shown made = record { shown = shown; made = made }
 

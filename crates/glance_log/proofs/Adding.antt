@@ -6,7 +6,7 @@ use mathlib.Core.List.{IsPrefix}
 use prog.Atomic.{either}
 use Rattle.logbook.specs.Pages.{Book, Cell, cell, keeps, no_nib, step, Moves, Goes}
 use Rattle.glance_log.specs.declared.publication.Publication.{Publication}
-use Rattle.glance_log.specs.Rules.{IsKept, IsChain, IsSight, IsAdded}
+use Rattle.glance_log.specs.Rules.{IsLogOf, ArePublished, IsSight, IsPublished}
 use Rattle.glance_log.specs.Sightings.{MayFollow, sighting, sighting_of}
 use Rattle.glance_log.proofs.Prefixes.{prefix_whole}
 use Rattle.glance_log.proofs.Chains.{chain_more, sighting_more}
@@ -18,14 +18,14 @@ module _ {X : Type 0} where
   abbrev pub moved : List (Publication X) → List (Publication X) → ℕ → Type 0
   moved xs ys n = Unit {0}
 
-  pub adds_goes : (book : Book) (log v : List (Publication X)) (e : Publication X) (number old : ℕ) → length v ≡ old + 1 → length log ≡ number + 1 → MayFollow (sighting_of book v) e → IsChain log → IsPrefix v log
+  pub adds_goes : (book : Book) (log v : List (Publication X)) (e : Publication X) (number old : ℕ) → length v ≡ old + 1 → length log ≡ number + 1 → MayFollow (sighting_of book v) e → ArePublished log → IsPrefix v log
       → (b : Bool) → (number == old) ≡ b
-      → Goes IsKept shown moved 0 (v, (no_nib, None)) (λ n. either (n == old) (old + 1) n) (IsAdded (step 0 old (old + 1) e) (v, (no_nib, None))) ((number, true) ∷ []) log
+      → Goes IsLogOf shown moved 0 (v, (no_nib, None)) (λ n. either (n == old) (old + 1) n) (IsPublished (step 0 old (old + 1) e) (v, (no_nib, None))) ((number, true) ∷ []) log
   adds_goes book log v e number old len count may chain pre true is =
       let here : number ≡ old = grind (arith, nat_tests) in
       let same : v ≡ log = prefix_whole v log pre (omega arith) in
       let follows : MayFollow (sighting_of book log) e = subst (λ (l : List (Publication X)). MayFollow (sighting_of book l) e) same may in
-      let more : IsChain (log ++ e ∷ []) = chain_more book log e (omega arith) chain follows in
+      let more : ArePublished (log ++ e ∷ []) = chain_more book log e (omega arith) chain follows in
       let n : either (number == old) (old + 1) number ≡ old + 1 = rw is refl in (
         keeps,
         e ∷ [],
@@ -37,7 +37,7 @@ module _ {X : Type 0} where
       )
   adds_goes book log v e number old len count may chain pre false is =
       let all : log ++ [] ≡ log = append-nil log in
-      let same : IsChain (log ++ []) = subst IsChain (sym all) chain in
+      let same : ArePublished (log ++ []) = subst ArePublished (sym all) chain in
       let n : either (number == old) (old + 1) number ≡ number = rw is refl in (
         keeps,
         [],
@@ -50,9 +50,9 @@ module _ {X : Type 0} where
 
   -- whatever the book is, the exchange adds the publication to all that was seen, or finds another number
   pub adds_moves : (book : Book) (v : List (Publication X)) (e : Publication X) (old : ℕ) → length v ≡ old + 1 → MayFollow (sighting_of book v) e
-      → Moves IsKept shown moved 0 (v, (no_nib, None)) (λ n. either (n == old) (old + 1) n) (IsAdded (step 0 old (old + 1) e) (v, (no_nib, None)))
+      → Moves IsLogOf shown moved 0 (v, (no_nib, None)) (λ n. either (n == old) (old + 1) n) (IsPublished (step 0 old (old + 1) e) (v, (no_nib, None)))
   adds_moves book v e old len may cs log kept pre away =
-      let P : List Cell → Type 0 = λ c. (0 < length c) × ((cell c 0).1 ≡ true) × Goes IsKept shown moved 0 (v, (no_nib, None)) (λ n. either (n == old) (old + 1) n) (IsAdded (step 0 old (old + 1) e) (v, (no_nib, None))) c log in
+      let P : List Cell → Type 0 = λ c. (0 < length c) × ((cell c 0).1 ≡ true) × Goes IsLogOf shown moved 0 (v, (no_nib, None)) (λ n. either (n == old) (old + 1) n) (IsPublished (step 0 old (old + 1) e) (v, (no_nib, None))) c log in
       subst P (sym kept.words) (omega arith, refl, adds_goes book log v e kept.number old len kept.count may kept.chain pre (kept.number == old) refl)
 
   -- the list that is seen then ends with it
@@ -61,7 +61,7 @@ module _ {X : Type 0} where
   added_sight book v w p number found sight may same told =
       let here : (found == number) ≡ true = grind (arith, nat_tests, same) in
       let is : w ≡ v ++ p ∷ [] = subst (λ (b : Bool). MatchBool b (w ≡ v ++ p ∷ []) (Unit {0})) here told in
-      let chain : IsChain (v ++ p ∷ []) = chain_more book v p (omega (arith, sight.count)) sight.chain may in (
-        record { count = omega (arith, ap length is, length-append v (p ∷ []), sight.count); chain = subst IsChain (sym is) chain },
+      let chain : ArePublished (v ++ p ∷ []) = chain_more book v p (omega (arith, sight.count)) sight.chain may in (
+        record { count = omega (arith, ap length is, length-append v (p ∷ []), sight.count); chain = subst ArePublished (sym is) chain },
         ap (sighting_of book) is ∙ sighting_more book v p,
       )

@@ -21,9 +21,9 @@ pub struct LogRule;
 impl<X> Rule<Publication<X>, u64> for LogRule {
     ghost use Rattle.std.specs.Prelude.{[]};
     ghost use base.Fml.{ftrue};
-    ghost use Rattle.glance_log.specs.Rules.{IsKept};
+    ghost use Rattle.glance_log.specs.Rules.{IsLogOf};
 
-    ghost holds = { λ cells log. IsKept cells log };
+    ghost holds = { λ cells log. IsLogOf cells log };
 
     ghost first = { [] };
 
@@ -49,7 +49,7 @@ impl<X> Gain<Publication<X>, u64> for Nothing {
 pub(crate) struct Adds;
 
 impl<X> Play<Publication<X>, u64> for Adds {
-    ghost use Rattle.glance_log.specs.Rules.{IsAdded};
+    ghost use Rattle.glance_log.specs.Rules.{IsPublished};
 
-    ghost then = { IsAdded };
+    ghost then = { IsPublished };
 }

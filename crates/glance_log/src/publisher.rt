@@ -18,14 +18,14 @@ pub struct Publisher<X> {
 
 impl<X> Model for Publisher<X> {
     ghost use Rattle.std.specs.Prelude.{◌≡◌};
-    ghost use Rattle.glance_log.specs.Rules.{head_of};
+    ghost use Rattle.glance_log.specs.Rules.{log_head};
     ghost use Rattle.glance_log.specs.Sightings.{Sighting};
 
     ghost Value = { Sighting X };
 
     ghost view = { λ p. p.last };
 
-    ghost invariant = { λ p. p.head ≡ head_of p.last.book };
+    ghost invariant = { λ p. p.head ≡ log_head p.last.book };
 }
 
 impl<X> Publisher<X> {

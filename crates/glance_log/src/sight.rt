@@ -1,7 +1,7 @@
 //! A publication that was seen.
 
 ghost use Rattle.std.specs.Prelude.{◌≡◌, true, IfSome};
-ghost use Rattle.glance_log.specs.Rules.{head_of};
+ghost use Rattle.glance_log.specs.Rules.{log_head};
 ghost use Rattle.glance_log.specs.Sightings.{IsFollowedBy, MayFollow, sighting};
 
 use crate::publication::{Adds, LogRule, Nothing, Publication};
@@ -57,7 +57,7 @@ impl<X> Sight<X> {
         head: &Word<Publication<X>, u64, LogRule>,
         about: &A,
     ) -> Option<Sight<X>>
-        requires head { head.now ≡ head_of self.now.book }
+        requires head { head.now ≡ log_head self.now.book }
         requires may { MayFollow self.now (M.publication about.now) }
         ensures { IfSome result (λ s. s ≡ sighting self.now.book (M.publication about.now)) }
     {

@@ -18,7 +18,7 @@ use Rattle.run_pages.proofs.Beside.{placed_rows_len, rows_back}
 use Rattle.run_pages.proofs.Joins.{both_true, joined_forward}
 use Rattle.run_pages.proofs.OrderedRows.{eq_true}
 use Rattle.run_pages.proofs.TakenPages.{no_page, other_page, takes_page}
-use Rattle.run_files.specs.Opening.{IsReading, rows_of_pages}
+use Rattle.run_files.specs.Opening.{IsReadingRun, rows_of_pages}
 use Rattle.run_files.specs.Run.{last_from, last_key}
 use Rattle.run_files.specs.declared.opening.RunOpening.{RunOpening}
 
@@ -85,7 +85,7 @@ inside content entries footer i entry has there =
     let before = entry_within 0 footer.at None entries i entry joined there in
     omega (arith, before, has.at_is, ap length has.content_is, length-append has.before (index_octets entries ++ footer_octets footer))
 
-module _ (content : List ℕ) (opening : RunOpening) (pages : List (List Placed)) (r : IsReading opening content pages) (entry : PageEntry) (there : slice_get opening.index.entries.items opening.read ≡ Some entry) where
+module _ (content : List ℕ) (opening : RunOpening) (pages : List (List Placed)) (r : IsReadingRun opening content pages) (entry : PageEntry) (there : slice_get opening.index.entries.items opening.read ≡ Some entry) where
   abbrev entries : List PageEntry
   entries = opening.index.entries.items
 
@@ -111,7 +111,7 @@ module _ (content : List ℕ) (opening : RunOpening) (pages : List (List Placed)
 
     -- a page that is as the index says
     pub taken : (t : ℕ) (new : RunOpening) → length page.rows ≡ count → are_ordered t entry.first next None page.rows ≡ true → (1 ≤ opening.read → opening.table ≡ t)
-        → new.index ≡ opening.index → new.read ≡ opening.read + 1 → new.table ≡ t → new.last ≡ last_key (rows_of_page page) → IsReading new content (pages ++ rows_of_page page ∷ [])
+        → new.index ≡ opening.index → new.read ≡ opening.read + 1 → new.table ≡ t → new.last ≡ last_key (rows_of_page page) → IsReadingRun new content (pages ++ rows_of_page page ∷ [])
     taken t new count_is ordered later index read table last =
         let is : IsPageOf content t (count_at opening.index.footer.rows (length pages)) entry (slice_get entries (suc (length pages))) (rows_of_page page) =
         subst (λ (n : ℕ). IsPageOf content t (count_at opening.index.footer.rows n) entry (slice_get entries (suc n)) (rows_of_page page)) (sym r.count)

@@ -14,13 +14,13 @@ use Rattle.run_pages.proofs.Beside.{rows_back}
 use Rattle.run_pages.proofs.Ends.{once}
 use Rattle.run_pages.proofs.FoundPages.{FoundPage, found_page}
 use Rattle.run_pages.proofs.PageSpelling.{page_exact}
-use Rattle.run_files.specs.Run.{IsRunOf}
+use Rattle.run_files.specs.Run.{IsRunInMemory}
 use Rattle.run_files.specs.declared.run.Run.{Run}
 
 pub there_is : (entries : List PageEntry) (page : ℕ) (entry : PageEntry) → page < length entries → entry ≡ get_or entries page entry → slice_get entries page ≡ Some entry
 there_is entries page entry lt is = slice_get_read entries (length entries) page entry refl lt is
 
-module _ (content : List ℕ) (run : Run) (rows : List Placed) (k : IsRunOf content run rows) (page : ℕ) (entry : PageEntry) (there : slice_get run.index.entries.items page ≡ Some entry) where
+module _ (content : List ℕ) (run : Run) (rows : List Placed) (k : IsRunInMemory content run rows) (page : ℕ) (entry : PageEntry) (there : slice_get run.index.entries.items page ≡ Some entry) where
   pub found : FoundPage run.table content run.index.entries.items rows page entry
   found = subst (λ (l : List PageEntry). FoundPage run.table content l rows page entry) (sym k.entries) (found_page content run.table rows k.is page entry (sym (ap (λ (l : List PageEntry). slice_get l page) k.entries) ∙ there))
 

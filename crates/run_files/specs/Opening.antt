@@ -5,11 +5,11 @@ use Rattle.arch_disk.specs.Disk.{Device, IsDurable, NoFault, NoWriteFailed}
 use Rattle.disk_journal.specs.Faults.{IsDiskFault}
 use Rattle.run_pages.specs.Placed.{Placed}
 use Rattle.run_pages.specs.Pages.{rows_of_page}
-use Rattle.run_pages.specs.Runs.{IsRun}
-use Rattle.run_pages.specs.Damage.{HasIndex, HasNoIndex, HasPages, IsBrokenPage, IsDamagedAt}
+use Rattle.run_pages.specs.Runs.{IsRunFile}
+use Rattle.run_pages.specs.Damage.{HasIndex, HasNoIndex, HasWholePages, IsBrokenPage, IsRunDamagedAt}
 use Rattle.run_pages.specs.declared.page_rows.PageRows.{PageRows}
 use Rattle.run_files.specs.Faults.{IsLookFault}
-use Rattle.run_files.specs.Run.{IsRunOf, IsRunOn, file_of, last_key, row_count}
+use Rattle.run_files.specs.Run.{IsRunInMemory, IsRunOn, file_of, last_key, row_count}
 use Rattle.run_files.specs.declared.opening.RunOpening.{RunOpening}
 use Rattle.run_files.specs.declared.run.Run.{Run}
 use Rattle.run_files.specs.declared.fault.RunFault.{RunFault}
@@ -19,16 +19,19 @@ use Rattle.run_files.specs.declared.fault.RunFault.TheVariants.{Damaged, DiskFau
 abbrev pub most_rows : ℕ
 most_rows = 4194304
 
--- the file that is read, how many of its pages were, and how many pages and rows it has
+-- the file that is read
 abbrev pub file_read : RunOpening → ℕ
 file_read opening = opening.file
 
+-- how many of its pages were read
 abbrev pub pages_read : RunOpening → ℕ
 pages_read opening = opening.read
 
+-- how many pages it has
 abbrev pub pages_in : RunOpening → ℕ
 pages_in opening = length opening.index.entries.items
 
+-- how many rows it has
 abbrev pub rows_in : RunOpening → ℕ
 rows_in opening = opening.index.footer.rows
 
@@ -41,21 +44,21 @@ abbrev pub rows_of_pages : List (List Placed) → List Placed
 rows_of_pages pages = flat_map (λ page. page) pages
 
 -- what an opening knows of the file's content: its index, and its first pages, all whole, with these rows
-pub record IsReading (opening : RunOpening) (content : List ℕ) (pages : List (List Placed)) : Type 0 where
+pub record IsReadingRun (opening : RunOpening) (content : List ℕ) (pages : List (List Placed)) : Type 0 where
   pub has : HasIndex content opening.index.entries.items opening.index.footer
-  pub are : HasPages content opening.index.entries.items opening.index.footer.rows opening.table pages
+  pub are : HasWholePages content opening.index.entries.items opening.index.footer.rows opening.table pages
   pub count : length pages ≡ opening.read
   pub last : opening.last ≡ last_key (rows_of_pages pages)
 
 -- the opening has read the file on this disk up to a page
 abbrev pub StandsInRun : {D : Type 0} → Device D → RunOpening → D → Type 0
-StandsInRun device opening disk = IsTrue device.is_transparent → (pages : List (List Placed)) × IsReading opening (device.reads disk (file_read opening)) pages
+StandsInRun device opening disk = IsTrue device.is_transparent → (pages : List (List Placed)) × IsReadingRun opening (device.reads disk (file_read opening)) pages
 
 -- the file has an index, no page was read yet, and what it reads as is durable
 pub record IsRunBegun {D : Type 0} (device : Device D) (file : ℕ) (before after : D) (opening : RunOpening) : Type 0 where
   pub in_file : file_read opening ≡ file
   pub none_read : pages_read opening ≡ 0
-  pub reading : IsTrue device.is_transparent → IsReading opening (device.reads before file) []
+  pub reading : IsTrue device.is_transparent → IsReadingRun opening (device.reads before file) []
   pub durable : IsDurable device file (device.reads after file) after
   pub no_failed_write : NoWriteFailed device before after
 
@@ -64,31 +67,31 @@ abbrev pub NoCallFailed : {D : Type 0} → Device D → D → D → Type 0
 NoCallFailed device before after = NoFault device before after × NoWriteFailed device before after
 
 -- why a run isn't begun: it has no index; or one call failed, or memory is wanting
-abbrev pub IsBeginRefusal : {D : Type 0} → Device D → ℕ → D → D → RunFault → Type 0
-IsBeginRefusal device file before after (Damaged f at) =
+abbrev pub IsRunBeginRefusal : {D : Type 0} → Device D → ℕ → D → D → RunFault → Type 0
+IsRunBeginRefusal device file before after (Damaged f at) =
     (f ≡ file) × (at ≡ 0) × (IsTrue device.is_transparent → HasNoIndex (device.reads before file)) × NoCallFailed device before after
-IsBeginRefusal device file before after (DiskFault wrote) = IsDiskFault device before after wrote
-IsBeginRefusal device file before after OutOfMemory = NoCallFailed device before after
-IsBeginRefusal device file before after Limit = ⊥
+IsRunBeginRefusal device file before after (DiskFault wrote) = IsDiskFault device before after wrote
+IsRunBeginRefusal device file before after OutOfMemory = NoCallFailed device before after
+IsRunBeginRefusal device file before after Limit = ⊥
 
 -- the next page, whole; or none, where all were read
 abbrev pub IsNextPage : {D : Type 0} → Device D → RunOpening → RunOpening → D → Option PageRows → Type 0
 IsNextPage device old new before None = (pages_in old ≤ pages_read old) × (new ≡ old)
 IsNextPage device old new before (Some page) = (pages_read old < pages_in old) × (pages_read new ≡ pages_read old + 1) × (pages_in new ≡ pages_in old)
-    × (IsTrue device.is_transparent → (pages : List (List Placed)) → IsReading old (device.reads before (file_read old)) pages →
-    IsReading new (device.reads before (file_read old)) (pages ++ rows_of_page page ∷ []))
+    × (IsTrue device.is_transparent → (pages : List (List Placed)) → IsReadingRun old (device.reads before (file_read old)) pages →
+    IsReadingRun new (device.reads before (file_read old)) (pages ++ rows_of_page page ∷ []))
 
 -- why the next page isn't given: it is broken, the first that is; or a look failed, or memory is wanting
-abbrev pub IsNextRefusal : {D : Type 0} → Device D → RunOpening → D → D → RunFault → Type 0
-IsNextRefusal device old before after (Damaged file at) =
+abbrev pub IsPageReadRefusal : {D : Type 0} → Device D → RunOpening → D → D → RunFault → Type 0
+IsPageReadRefusal device old before after (Damaged file at) =
     (file ≡ file_read old) × (IsTrue device.is_transparent → IsBrokenPage (device.reads before (file_read old)) at) × NoFault device before after
-IsNextRefusal device old before after fault = IsLookFault device before after fault
+IsPageReadRefusal device old before after fault = IsLookFault device before after fault
 
 -- the run of all pages that were read
-pub record IsFinished (opening : RunOpening) (run : Run) : Type 0 where
+pub record IsRunFinished (opening : RunOpening) (run : Run) : Type 0 where
   pub in_file : file_of run ≡ file_read opening
   pub within : row_count run ≤ most_rows
-  pub is_run : (content : List ℕ) (pages : List (List Placed)) → IsReading opening content pages → IsRunOf content run (rows_of_pages pages)
+  pub is_run : (content : List ℕ) (pages : List (List Placed)) → IsReadingRun opening content pages → IsRunInMemory content run (rows_of_pages pages)
 
 -- ---- all at once
 
@@ -102,8 +105,8 @@ pub record IsRunOpened {D : Type 0} (device : Device D) (file : ℕ) (before aft
 -- why a file isn't opened as a run: it is damaged there; or it is a run of more rows than a history may have; or one call failed, or memory is wanting
 abbrev pub IsOpenRefusal : {D : Type 0} → Device D → ℕ → D → D → RunFault → Type 0
 IsOpenRefusal device file before after (Damaged f at) =
-    (f ≡ file) × (IsTrue device.is_transparent → IsDamagedAt (device.reads before file) at) × NoCallFailed device before after
+    (f ≡ file) × (IsTrue device.is_transparent → IsRunDamagedAt (device.reads before file) at) × NoCallFailed device before after
 IsOpenRefusal device file before after Limit =
-    (IsTrue device.is_transparent → (table : ℕ) × (rows : List Placed) × IsRun (device.reads before file) table rows × (most_rows < length rows)) × NoCallFailed device before after
+    (IsTrue device.is_transparent → (table : ℕ) × (rows : List Placed) × IsRunFile (device.reads before file) table rows × (most_rows < length rows)) × NoCallFailed device before after
 IsOpenRefusal device file before after (DiskFault wrote) = IsDiskFault device before after wrote
 IsOpenRefusal device file before after OutOfMemory = NoCallFailed device before after

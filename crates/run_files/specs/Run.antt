@@ -3,21 +3,24 @@ use Rattle.std.specs.Prelude.{◌≡◌, ℕ, pos, List, [], ◌∷◌, length, 
 use Rattle.arch_disk.specs.Disk.{Device, IsDurable}
 use Rattle.arch_types.specs.declared.key.Key.{Key}
 use Rattle.run_pages.specs.Placed.{Placed}
-use Rattle.run_pages.specs.Runs.{IsRun, entries_from, footer_of_pages}
+use Rattle.run_pages.specs.Runs.{IsRunFile, entries_from, footer_of_pages}
 use Rattle.run_pages.specs.Damage.{first_of_entry}
 use Rattle.run_pages.specs.declared.index.PageEntry.{PageEntry}
 use Rattle.run_files.specs.declared.run.Run.{Run}
 
--- the file of a run, its table, and how many pages and rows it has
+-- the file of a run
 abbrev pub file_of : Run → ℕ
 file_of run = run.file
 
+-- its table
 abbrev pub table_of : Run → ℕ
 table_of run = run.table
 
+-- how many pages it has
 abbrev pub page_count : Run → ℕ
 page_count run = length run.index.entries.items
 
+-- how many rows it has
 abbrev pub row_count : Run → ℕ
 row_count run = run.index.footer.rows
 
@@ -43,15 +46,15 @@ abbrev pub last_key : List Placed → Key
 last_key rows = last_from (record { time = pos 0; seq = 0 }) rows
 
 -- the file is a run of these rows, and this is what is known of it in memory
-pub record IsRunOf (content : List ℕ) (run : Run) (rows : List Placed) : Type 0 where
-  pub is : IsRun content run.table rows
+pub record IsRunInMemory (content : List ℕ) (run : Run) (rows : List Placed) : Type 0 where
+  pub is : IsRunFile content run.table rows
   pub entries : run.index.entries.items ≡ entries_from 0 is.pages
   pub footer : run.index.footer ≡ footer_of_pages is.pages (length rows)
   pub last : run.last ≡ last_key rows
 
 -- the run has these rows on this disk, durably
 pub record HoldsRun {D : Type 0} (device : Device D) (run : Run) (rows : List Placed) (disk : D) : Type 0 where
-  pub reads : IsRunOf (device.reads disk run.file) run rows
+  pub reads : IsRunInMemory (device.reads disk run.file) run rows
   pub durable : IsDurable device run.file (device.reads disk run.file) disk
 
 -- the run has its rows on this disk, whatever these are

@@ -8,7 +8,7 @@
 //! An opening answers Damaged exactly where the file is damaged, and what was opened is damaged at no later read: over a
 //! disk that tells what it holds. Whatever a disk tells, the rows of a page are of the run's table and in order.
 //!
-//! The one idea of the proof: an opening knows the first pages of the file (`IsReading`), each page one more or the first
+//! The one idea of the proof: an opening knows the first pages of the file (`IsReadingRun`), each page one more or the first
 //! that is broken, and a file whose pages are all whole is a run (`whole_pages_are_runs` of run_pages). To touch together:
 //! what a page must be stands in run_pages alone; a call of the disk more goes into steps.rt, with its fault.
 #![tactic(auto)]

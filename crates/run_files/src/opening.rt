@@ -40,7 +40,7 @@ impl RunOpening {
     ghost use Rattle.run_pages.specs.Pages.{IsPage, page_octets, rows_of_page};
     ghost use Rattle.run_pages.specs.Damage.{IsBrokenPage, count_at};
     ghost use Rattle.run_pages.specs.Placed.{Placed};
-    ghost use Rattle.run_files.specs.Opening.{IsBeginRefusal, IsFinished, IsNextPage, IsNextRefusal, IsReading, IsRunBegun, StandsInRun, file_read, most_rows, pages_in, pages_read, rows_in, table_read};
+    ghost use Rattle.run_files.specs.Opening.{IsRunBeginRefusal, IsRunFinished, IsNextPage, IsPageReadRefusal, IsReadingRun, IsRunBegun, StandsInRun, file_read, most_rows, pages_in, pages_read, rows_in, table_read};
 
     /// Begins before the first page, with a sync, and reads the index whole: 32 octets of memory a page.
     pub fn begin<D: Disk>(alloc: Global, disk: &mut D, file: u32) -> Result<RunOpening, RunFault>
@@ -48,7 +48,7 @@ impl RunOpening {
         ensures begun { IfOk result (IsRunBegun D.device file disk.old disk.new) }
 
         // Refused: it has none, which is damage at octet 0; or the disk failed; or memory is wanting.
-        ensures refused { IfErr result (IsBeginRefusal D.device file disk.old disk.new) }
+        ensures refused { IfErr result (IsRunBeginRefusal D.device file disk.old disk.new) }
 
         // A failed call of the disk is never passed over.
         ensures told { OnOk result (NoFault D.device disk.old disk.new) }
@@ -80,7 +80,7 @@ impl RunOpening {
         ensures reading { OnOk result (StandsInRun D.device self.new disk.new) }
 
         // Refused: the page is broken, and it is the first that is; or a read failed; or memory is wanting.
-        ensures refused { IfErr result (IsNextRefusal D.device self.old disk.old disk.new) }
+        ensures refused { IfErr result (IsPageReadRefusal D.device self.old disk.old disk.new) }
 
         // A failed call of the disk is never passed over.
         ensures told { OnOk result (NoFault D.device disk.old disk.new) }
@@ -104,10 +104,10 @@ impl RunOpening {
     /// Whether a page is as the index says of the next one; then it was read.
     fn take_in(&mut self, page: &PageRows, entry: PageEntry) -> bool
         requires there { slice_get self.old.index.entries.items self.old.read ≡ Some entry }
-        ensures yes { result ≡ true → (content : List ℕ) (pages : List (List Placed)) → IsReading self.old content pages →
+        ensures yes { result ≡ true → (content : List ℕ) (pages : List (List Placed)) → IsReadingRun self.old content pages →
             IsPage (rows_of_page page.now) → take entry.len (drop entry.at content) ≡ page_octets (rows_of_page page.now) →
-            IsReading self.new content (pages ++ rows_of_page page.now ∷ []) }
-        ensures no { result ≡ false → (content : List ℕ) (pages : List (List Placed)) → IsReading self.old content pages →
+            IsReadingRun self.new content (pages ++ rows_of_page page.now ∷ []) }
+        ensures no { result ≡ false → (content : List ℕ) (pages : List (List Placed)) → IsReadingRun self.old content pages →
             IsPage (rows_of_page page.now) → take entry.len (drop entry.at content) ≡ page_octets (rows_of_page page.now) →
             IsBrokenPage content entry.at }
         ensures count { result ≡ true → pages_read self.new ≡ pages_read self.old + 1 }
@@ -160,7 +160,7 @@ impl RunOpening {
         requires all { pages_in self ≤ pages_read self }
 
         // Ok: the run of all rows that were read.
-        ensures finished { IfOk result (IsFinished self) }
+        ensures finished { IfOk result (IsRunFinished self) }
 
         // Refused: it has more rows than a history may have.
         ensures refused { IfErr result (λ e. (e ≡ Limit) × (most_rows < rows_in self)) }

@@ -13,8 +13,8 @@ use Rattle.run_pages.specs.Placed.{Placed, rows_of_placed}
 use Rattle.run_pages.specs.Order.{are_ordered}
 use Rattle.run_pages.specs.Index.{is_index}
 use Rattle.run_pages.specs.Footer.{IsFooter, footer_octets}
-use Rattle.run_pages.specs.Runs.{IsRun}
-use Rattle.run_pages.specs.Damage.{HasIndex, HasNoIndex, HasPages, IsBrokenPage, IsDamagedAt, count_at, first_of_entry}
+use Rattle.run_pages.specs.Runs.{IsRunFile}
+use Rattle.run_pages.specs.Damage.{HasIndex, HasNoIndex, HasWholePages, IsBrokenPage, IsRunDamagedAt, count_at, first_of_entry}
 use Rattle.run_pages.specs.declared.index.PageEntry.{PageEntry}
 use Rattle.run_pages.specs.declared.footer.Footer.{Footer}
 use Rattle.run_pages.proofs.PageSpelling.{page_exact}
@@ -118,8 +118,8 @@ module _ (content : List ℕ) (are : IsOctets content) (entries : List PageEntry
   first table (p ∷ pages) page key next none u e = absurd (omega (arith, none))
 
   -- one page more is whole, or the next one is broken
-  one_more : (table : ℕ) (pages : List (List Placed)) → HasPages content entries footer.rows table pages → (entry : PageEntry) → slice_get entries (length pages) ≡ Some entry
-      → ((t : ℕ) × (page : List Placed) × HasPages content entries footer.rows t (pages ++ page ∷ [])) ⊎ IsBrokenPage content entry.at
+  one_more : (table : ℕ) (pages : List (List Placed)) → HasWholePages content entries footer.rows table pages → (entry : PageEntry) → slice_get entries (length pages) ≡ Some entry
+      → ((t : ℕ) × (page : List Placed) × HasWholePages content entries footer.rows t (pages ++ page ∷ [])) ⊎ IsBrokenPage content entry.at
   one_more table pages h entry there =
       let next = slice_get entries (suc (length pages)) in
       let count = count_at footer.rows (length pages) in
@@ -142,8 +142,8 @@ module _ (content : List ℕ) (are : IsOctets content) (entries : List PageEntry
       (spells page_exact (take entry.len (drop entry.at content)) (octets_take entry.len (drop entry.at content) (octets_drop entry.at content are)))
 
   -- all pages are whole, or one is broken
-  all_more : (left table : ℕ) (pages : List (List Placed)) → HasPages content entries footer.rows table pages → length pages + left ≡ length entries
-      → ((t : ℕ) × (rows : List Placed) × IsRun content t rows) ⊎ ((at : ℕ) × IsBrokenPage content at)
+  all_more : (left table : ℕ) (pages : List (List Placed)) → HasWholePages content entries footer.rows table pages → length pages + left ≡ length entries
+      → ((t : ℕ) × (rows : List Placed) × IsRunFile content t rows) ⊎ ((at : ℕ) × IsBrokenPage content at)
   all_more zero table pages h done = inl (table, rows_of_pages pages, whole_run content entries footer table pages has h (omega (arith, done)))
   all_more (suc left) table pages h done =
       let d : PageEntry = record { first = record { time = pos 0; seq = 0 }; at = 0; len = 0 } in
@@ -153,10 +153,10 @@ module _ (content : List ℕ) (are : IsOctets content) (entries : List PageEntry
       (λ broken. inr (entry.at, broken))
       (one_more table pages h entry (slice_get-get_or entries (length pages) d (omega (arith, done))))
 
-no_pages : (content : List ℕ) (entries : List PageEntry) (rows : ℕ) → HasPages content entries rows 0 []
+no_pages : (content : List ℕ) (entries : List PageEntry) (rows : ℕ) → HasWholePages content entries rows 0 []
 no_pages content entries rows = record { within = omega arith; each = λ i page entry at_p at_e. absurd (cc at_p) }
 
-pub run_or_damaged : (content : List ℕ) → IsOctets content → ((table : ℕ) × (rows : List Placed) × IsRun content table rows) ⊎ ((at : ℕ) × IsDamagedAt content at)
+pub run_or_damaged : (content : List ℕ) → IsOctets content → ((table : ℕ) × (rows : List Placed) × IsRunFile content table rows) ⊎ ((at : ℕ) × IsRunDamagedAt content at)
 run_or_damaged content are = ⊎_elim
     (λ there. ⊎_elim (λ run. inl run) (λ broken. inr (broken.0, inr broken.1))
     (all_more content are there.0 there.1 there.2 (length there.0) 0 [] (no_pages content there.0 there.1.rows) (omega arith)))

@@ -11,8 +11,8 @@ use Rattle.run_pages.specs.Order.{are_ordered}
 use Rattle.run_pages.specs.Pages.{FitsPage, IsPage, page_octets}
 use Rattle.run_pages.specs.Index.{index_octets}
 use Rattle.run_pages.specs.Footer.{footer_octets}
-use Rattle.run_pages.specs.Runs.{ArePages, IsRun, entries_from, first_key, footer_of_pages, page_of_rows, pages_octets}
-use Rattle.run_pages.specs.Damage.{HasPages, IsPageOf, count_at, first_of_entry}
+use Rattle.run_pages.specs.Runs.{ArePages, IsRunFile, entries_from, first_key, footer_of_pages, page_of_rows, pages_octets}
+use Rattle.run_pages.specs.Damage.{HasWholePages, IsPageOf, count_at, first_of_entry}
 use Rattle.run_pages.specs.declared.index.PageEntry.{PageEntry}
 use Rattle.run_pages.proofs.OrderedRows.{split_ordered}
 
@@ -121,13 +121,13 @@ pub length-entries : (at : ℕ) (pages : List (List Placed)) → length (entries
 length-entries at [] = refl
 length-entries at (p ∷ pages) = ap suc (length-entries (at + length (page_octets p)) pages)
 
-module _ (content : List ℕ) (table : ℕ) (rows : List Placed) (k : IsRun content table rows) where
+module _ (content : List ℕ) (table : ℕ) (rows : List Placed) (k : IsRunFile content table rows) where
   pub found_page : (page : ℕ) (entry : PageEntry) → slice_get (entries_from 0 k.pages) page ≡ Some entry → FoundPage table content (entries_from 0 k.pages) rows page entry
   found_page page entry there =
       let tail = index_octets (entries_from 0 k.pages) ++ footer_octets (footer_of_pages k.pages (length rows)) in
       subst (λ (l : List ℕ). FoundPage table l (entries_from 0 k.pages) rows page entry) (sym k.content_is) (found table k.pages rows [] tail 0 k.pages_are refl k.run_rows.each (λ some. k.run_rows.ordered) page entry there)
 
-  pub run_has_pages : HasPages content (entries_from 0 k.pages) (length rows) table k.pages
+  pub run_has_pages : HasWholePages content (entries_from 0 k.pages) (length rows) table k.pages
   run_has_pages = record {
     within = omega (arith, length-entries 0 k.pages);
     each = λ i page entry at_p at_e. subst (IsPageOf content table (count_at (length rows) i) entry (slice_get (entries_from 0 k.pages) (suc i))) (page_is k.pages rows i page k.pages_are at_p) (found_page i entry at_e).is;

@@ -15,7 +15,7 @@ use Rattle.run_pages.specs.Placed.{Placed, rows_of_placed}
 use Rattle.run_pages.specs.Order.{are_ordered, follows, is_same_key}
 use Rattle.run_pages.specs.Pages.{page_octets}
 use Rattle.run_pages.specs.Index.{are_joined, is_above_last, is_page_number}
-use Rattle.run_pages.specs.Runs.{ArePages, IsRun, entries_from, first_key, footer_of_pages, pages_octets}
+use Rattle.run_pages.specs.Runs.{ArePages, IsRunFile, entries_from, first_key, footer_of_pages, pages_octets}
 use Rattle.run_pages.specs.Damage.{HasIndex}
 use Rattle.run_pages.proofs.Joins.{both_true}
 use Rattle.run_pages.proofs.FoundPages.{front_ordered, key_if, length-entries}
@@ -102,7 +102,7 @@ joined_pages table (p ∷ pages) (x ∷ rest) at last is ordered above =
     let rising : is_above_last last (first_key p) ≡ true = rw first (above some) in
     rw (here, long, rising) (subst (λ (n : ℕ). are_joined (at + len) n (Some (first_key p)) (entries_from (at + len) pages) ≡ true) end more)
 
-pub run_has_index : (content : List ℕ) (table : ℕ) (rows : List Placed) (k : IsRun content table rows) → HasIndex content (entries_from 0 k.pages) (footer_of_pages k.pages (length rows))
+pub run_has_index : (content : List ℕ) (table : ℕ) (rows : List Placed) (k : IsRunFile content table rows) → HasIndex content (entries_from 0 k.pages) (footer_of_pages k.pages (length rows))
 run_has_index content table rows k =
     let count = page_number k.pages rows k.pages_are in
     let joined : are_joined 0 (0 + length (pages_octets k.pages)) None (entries_from 0 k.pages) ≡ true = joined_pages table k.pages rows 0 None k.pages_are (λ some. k.run_rows.ordered) (λ some. refl) in

@@ -5,7 +5,7 @@ use Rattle.std.proofs.lemmas.List.{length-drop, take-append-drop, nil_from_lengt
 use Rattle.std.proofs.lemmas.Option.{slice_get-get_or}
 use Rattle.run_pages.specs.Placed.{Placed, rows_of_placed}
 use Rattle.run_pages.specs.Order.{are_ordered}
-use Rattle.run_pages.specs.Runs.{IsRun, entries_from, first_key, footer_of_pages, page_of_rows}
+use Rattle.run_pages.specs.Runs.{IsRunFile, entries_from, first_key, footer_of_pages, page_of_rows}
 use Rattle.run_pages.specs.declared.index.PageEntry.{PageEntry}
 use Rattle.run_pages.specs.declared.footer.Footer.{Footer}
 use Rattle.run_pages.proofs.PageSpelling.{page_exact}
@@ -22,7 +22,7 @@ same_pages (suc n) a b long few same =
     (λ i lt. shift i a ∙ same (suc i) (omega (arith, lt)) ∙ sym (shift i b)) in
     sym (take-append-drop 64 a) ∙ ap (λ (l : List Placed). l ++ drop 64 a) (same 0 (omega arith)) ∙ ap (λ (l : List Placed). take 64 b ++ l) rest ∙ take-append-drop 64 b
 
-pub run_once : (content : List ℕ) (table other : ℕ) (rows more : List Placed) → IsRun content table rows → IsRun content other more → (rows ≡ more) × (table ≡ other)
+pub run_once : (content : List ℕ) (table other : ℕ) (rows more : List Placed) → IsRunFile content table rows → IsRunFile content other more → (rows ≡ more) × (table ≡ other)
 run_once content table other rows more a b =
     let f = footer_of_pages a.pages (length rows) in
     let g = footer_of_pages b.pages (length more) in

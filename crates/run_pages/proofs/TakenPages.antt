@@ -6,7 +6,7 @@ use Rattle.octet_fields.proofs.Exact.{some_is}
 use Rattle.run_pages.specs.Placed.{Placed, rows_of_placed}
 use Rattle.run_pages.specs.Order.{are_ordered}
 use Rattle.run_pages.specs.Pages.{IsPage, page_octets}
-use Rattle.run_pages.specs.Damage.{HasIndex, HasPages, IsBrokenPage, IsPageOf, count_at, first_of_entry}
+use Rattle.run_pages.specs.Damage.{HasIndex, HasWholePages, IsBrokenPage, IsPageOf, count_at, first_of_entry}
 use Rattle.run_pages.specs.declared.index.PageEntry.{PageEntry}
 use Rattle.run_pages.specs.declared.footer.Footer.{Footer}
 use Rattle.run_pages.proofs.PageSpelling.{page_exact}
@@ -29,14 +29,14 @@ same_table content t u n m entry next other a b pa pb =
     let same : a ≡ b = page_once content u m entry other a b pa.page pa.spelled pb in
     one_table t u entry.first entry.first (first_of_entry next) (first_of_entry other) (rows_of_placed b) (subst (λ (l : List Placed). are_ordered t entry.first (first_of_entry next) None (rows_of_placed l) ≡ true) same pa.ordered) pb.ordered
 
-first_table : (content : List ℕ) (entries : List PageEntry) (rows t u : ℕ) (pages more : List (List Placed)) → HasPages content entries rows t pages → HasPages content entries rows u more → 1 ≤ length pages → 1 ≤ length more → t ≡ u
+first_table : (content : List ℕ) (entries : List PageEntry) (rows t u : ℕ) (pages more : List (List Placed)) → HasWholePages content entries rows t pages → HasWholePages content entries rows u more → 1 ≤ length pages → 1 ≤ length more → t ≡ u
 first_table content entries rows t u [] more a b some too = absurd (omega (arith, some))
 first_table content entries rows t u (p ∷ pages) [] a b some too = absurd (omega (arith, too))
 first_table content [] rows t u (p ∷ pages) (q ∷ more) a b some too = absurd (omega (arith, a.within))
 first_table content (entry ∷ entries) rows t u (p ∷ pages) (q ∷ more) a b some too =
     same_table content t u (count_at rows 0) (count_at rows 0) entry (slice_get entries 0) (slice_get entries 0) p q (a.each 0 p entry refl refl) (b.each 0 q entry refl refl)
 
-module _ (content : List ℕ) (entries : List PageEntry) (footer : Footer) (table : ℕ) (pages : List (List Placed)) (has : HasIndex content entries footer) (are : HasPages content entries footer.rows table pages)
+module _ (content : List ℕ) (entries : List PageEntry) (footer : Footer) (table : ℕ) (pages : List (List Placed)) (has : HasIndex content entries footer) (are : HasWholePages content entries footer.rows table pages)
     (entry : PageEntry) (there : slice_get entries (length pages) ≡ Some entry) where
   abbrev pub next_entry : Option PageEntry
   next_entry = slice_get entries (suc (length pages))
@@ -45,7 +45,7 @@ module _ (content : List ℕ) (entries : List PageEntry) (footer : Footer) (tabl
   count = count_at footer.rows (length pages)
 
   -- the next page is whole
-  pub takes_page : (t : ℕ) (page : List Placed) → IsPageOf content t count entry next_entry page → (1 ≤ length pages → table ≡ t) → HasPages content entries footer.rows t (pages ++ page ∷ [])
+  pub takes_page : (t : ℕ) (page : List Placed) → IsPageOf content t count entry next_entry page → (1 ≤ length pages → table ≡ t) → HasWholePages content entries footer.rows t (pages ++ page ∷ [])
   takes_page t page whole same = record {
     within = omega (arith, length-append pages (page ∷ []), slice_get_within entries (length pages) entry there);
     each = λ i q e at_q at_e. ⊎_elim

@@ -10,10 +10,10 @@ use Rattle.arch_types.specs.declared.key.Key.{Key}
 use Rattle.run_pages.specs.Placed.{Placed, rows_of_placed}
 use Rattle.run_pages.specs.Order.{are_ordered}
 use Rattle.run_pages.specs.Pages.{FitsPage, page_octets}
-use Rattle.run_pages.specs.Index.{IsEntry, are_joined, index_octets, is_above_last, is_page_number}
+use Rattle.run_pages.specs.Index.{IsPageEntry, are_joined, index_octets, is_above_last, is_page_number}
 use Rattle.run_pages.specs.Footer.{IsFooter, footer_octets}
-use Rattle.run_pages.specs.Runs.{ArePages, AreRunRows, IsRun, entries_from, first_key, footer_of_pages, pages_octets}
-use Rattle.run_pages.specs.Damage.{HasIndex, HasPages, IsPageOf, count_at, first_of_entry}
+use Rattle.run_pages.specs.Runs.{ArePages, AreRunRows, IsRunFile, entries_from, first_key, footer_of_pages, pages_octets}
+use Rattle.run_pages.specs.Damage.{HasIndex, HasWholePages, IsPageOf, count_at, first_of_entry}
 use Rattle.run_pages.specs.declared.index.PageEntry.{PageEntry}
 use Rattle.run_pages.specs.declared.footer.Footer.{Footer}
 use Rattle.run_pages.proofs.FoundPages.{rows_append}
@@ -147,8 +147,8 @@ number_is pages rows e =
     let z : 64 * pages ≤ rows + 63 = grind (arith, nat_tests, b.1) in
     (x, (y, z))
 
-pub whole_run : (content : List ℕ) (entries : List PageEntry) (footer : Footer) (table : ℕ) (pages : List (List Placed)) → HasIndex content entries footer → HasPages content entries footer.rows table pages → length pages ≡ length entries
-    → IsRun content table (rows_of_pages pages)
+pub whole_run : (content : List ℕ) (entries : List PageEntry) (footer : Footer) (table : ℕ) (pages : List (List Placed)) → HasIndex content entries footer → HasWholePages content entries footer.rows table pages → length pages ≡ length entries
+    → IsRunFile content table (rows_of_pages pages)
 whole_run content entries footer table pages has are long =
     let parts = both_true (is_page_number footer.pages footer.rows) _ has.index in
     let number = number_is footer.pages footer.rows parts.0 in
@@ -171,6 +171,6 @@ whole_run content entries footer table pages has are long =
       pages_are = counted.0;
       content_is = has.content_is ∙ ap (λ (l : List ℕ). l ++ (index_octets entries ++ footer_octets footer)) before ∙ ap (λ (l : List PageEntry). pages_octets pages ++ (index_octets l ++ footer_octets footer)) octets.entries_are
           ∙ ap (λ (f : Footer). pages_octets pages ++ (index_octets (entries_from 0 pages) ++ footer_octets f)) footer_is;
-      entries_fit = subst (AllByRecursion IsEntry) octets.entries_are has.fits.each;
+      entries_fit = subst (AllByRecursion IsPageEntry) octets.entries_are has.fits.each;
       footer_fits = subst IsFooter footer_is has.footer_fits;
     }

@@ -35,7 +35,7 @@ pub record IsPageOf (content : List ℕ) (table count : ℕ) (entry : PageEntry)
   pub ordered : are_ordered table entry.first (first_of_entry next) None (rows_of_placed rows) ≡ true
 
 -- the first pages that the index names are whole: they have these rows, all of one table
-pub record HasPages (content : List ℕ) (entries : List PageEntry) (rows table : ℕ) (pages : List (List Placed)) : Type 0 where
+pub record HasWholePages (content : List ℕ) (entries : List PageEntry) (rows table : ℕ) (pages : List (List Placed)) : Type 0 where
   pub within : length pages ≤ length entries
   pub each : (i : ℕ) (page : List Placed) (entry : PageEntry) → slice_get pages i ≡ Some page → slice_get entries i ≡ Some entry →
       IsPageOf content table (count_at rows i) entry (slice_get entries (suc i)) page
@@ -47,10 +47,10 @@ pub record IsBrokenPage (content : List ℕ) (at : ℕ) : Type 0 where
   pub has : HasIndex content entries footer
   pub table : ℕ
   pub pages : List (List Placed)
-  pub before : HasPages content entries footer.rows table pages
+  pub before : HasWholePages content entries footer.rows table pages
   pub entry : PageEntry
   pub there : slice_get entries (length pages) ≡ Some entry
-  pub broken : (other : ℕ) (more : List (List Placed)) → length more ≡ length pages + 1 → HasPages content entries footer.rows other more → ⊥
+  pub broken : (other : ℕ) (more : List (List Placed)) → length more ≡ length pages + 1 → HasWholePages content entries footer.rows other more → ⊥
   pub at_is : at ≡ entry.at
 
 -- no octets in the place of an index and a footer are ones
@@ -58,5 +58,5 @@ abbrev pub HasNoIndex : List ℕ → Type 0
 HasNoIndex content = (entries : List PageEntry) (footer : Footer) → HasIndex content entries footer → ⊥
 
 -- where a run file is damaged: at octet 0 where it has no index and footer, else at its first broken page
-abbrev pub IsDamagedAt : List ℕ → ℕ → Type 0
-IsDamagedAt content at = (HasNoIndex content × (at ≡ 0)) ⊎ IsBrokenPage content at
+abbrev pub IsRunDamagedAt : List ℕ → ℕ → Type 0
+IsRunDamagedAt content at = (HasNoIndex content × (at ≡ 0)) ⊎ IsBrokenPage content at

@@ -12,7 +12,7 @@ use Rattle.run_pages.specs.declared.index.PageEntry.{PageEntry}
 use Rattle.run_pages.specs.declared.footer.Footer.{Footer}
 
 -- a page's first key, the octet at which it begins, and its length
-pub record IsEntry (entry : PageEntry) : Type 0 where
+pub record IsPageEntry (entry : PageEntry) : Type 0 where
   pub time : FitsSigned w64 entry.first.time
   pub seq : entry.first.seq < 2 ^ 32
   pub at : entry.at < 2 ^ 64
@@ -37,7 +37,7 @@ entry_at = mapped_at entry_of (both_at (signed_at w64) (λ _. both_at (number_at
 -- so many entries
 pub record AreEntries (count : ℕ) (entries : List PageEntry) : Type 0 where
   pub count_is : length entries ≡ count
-  pub each : AllByRecursion IsEntry entries
+  pub each : AllByRecursion IsPageEntry entries
 
 -- entry behind entry
 abbrev pub index_octets : List PageEntry → List ℕ

@@ -5,7 +5,7 @@ use Rattle.arch_types.specs.declared.key.Key.{Key}
 use Rattle.run_pages.specs.Placed.{Placed, rows_of_placed}
 use Rattle.run_pages.specs.Order.{are_ordered}
 use Rattle.run_pages.specs.Pages.{FitsPage, page_octets}
-use Rattle.run_pages.specs.Index.{IsEntry, index_octets}
+use Rattle.run_pages.specs.Index.{IsPageEntry, index_octets}
 use Rattle.run_pages.specs.Footer.{IsFooter, footer_octets}
 use Rattle.run_pages.specs.declared.index.PageEntry.{PageEntry}
 use Rattle.run_pages.specs.declared.footer.Footer.{Footer}
@@ -47,10 +47,10 @@ abbrev pub run_octets : List (List Placed) → ℕ → List ℕ
 run_octets pages rows = pages_octets pages ++ (index_octets (entries_from 0 pages) ++ footer_octets (footer_of_pages pages rows))
 
 -- the file is a run of these rows of the table, whose places and counts fit their fields
-pub record IsRun (content : List ℕ) (table : ℕ) (rows : List Placed) : Type 0 where
+pub record IsRunFile (content : List ℕ) (table : ℕ) (rows : List Placed) : Type 0 where
   pub pages : List (List Placed)
   pub run_rows : AreRunRows table rows
   pub pages_are : ArePages pages rows
   pub content_is : content ≡ run_octets pages (length rows)
-  pub entries_fit : AllByRecursion IsEntry (entries_from 0 pages)
+  pub entries_fit : AllByRecursion IsPageEntry (entries_from 0 pages)
   pub footer_fits : IsFooter (footer_of_pages pages (length rows))

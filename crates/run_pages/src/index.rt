@@ -5,7 +5,7 @@ ghost use Rattle.std.specs.List.{AllByRecursion};
 ghost use Rattle.octet_fields.specs.declared.fault.DecodeError.TheVariants.{OutOfMemory};
 ghost use Rattle.octet_fields.specs.Answers.{Gives, ReadsEach, ReadsOnly};
 ghost use Rattle.octet_fields.specs.Reading.{times_at, whole};
-ghost use Rattle.run_pages.specs.Index.{AreEntries, IsEntry, are_joined, entry_at, entry_octets, index_octets, is_above_last, is_index, is_page_number};
+ghost use Rattle.run_pages.specs.Index.{AreEntries, IsPageEntry, are_joined, entry_at, entry_octets, index_octets, is_above_last, is_index, is_page_number};
 
 use crate::footer::Footer;
 use arch_types::key::Key;
@@ -50,7 +50,7 @@ impl Decode for EntryCodec {
 impl Encode for EntryCodec {
     type Value = PageEntry;
 
-    ghost fits = { IsEntry };
+    ghost fits = { IsPageEntry };
 
     ghost spell = { entry_octets };
 
@@ -87,7 +87,7 @@ pub fn read_index(alloc: Global, octets: &[u8], count: u32) -> Result<Vec<PageEn
 
 /// Adds the one spelling of entries to a buffer.
 pub fn put_index(out: &mut Vec<u8>, entries: &[PageEntry]) -> Result<(), AllocError>
-    requires { AllByRecursion IsEntry entries.now }
+    requires { AllByRecursion IsPageEntry entries.now }
     ensures { OnOk result (out.new.items ≡ out.old.items ++ index_octets entries.now) }
 {
     put_each::<EntryCodec>(out, entries)

@@ -1,6 +1,6 @@
 //! Laws of runs, carried by functions that do nothing.
 
-ghost use Rattle.run_pages.specs.Laws.{DamageIsOne, EachIsRunOrDamaged, RunsAreOne, RunsAreWhole, WholePagesAreRuns};
+ghost use Rattle.run_pages.specs.Laws.{RunDamageIsOne, EachIsRunOrDamaged, RunsAreOne, RunsAreWhole, WholePagesAreRuns};
 
 /// The octets of a file are a run of one list of rows at most.
 pub fn runs_are_one()
@@ -14,7 +14,7 @@ pub fn runs_are_whole()
 
 /// A file is damaged at one octet at most: that of the first page that is broken, or 0 where it has no index.
 pub fn damage_is_one()
-    ensures { DamageIsOne }
+    ensures { RunDamageIsOne }
 {}
 
 /// A file that is no run is damaged at some octet.

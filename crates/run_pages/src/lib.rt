@@ -1,7 +1,7 @@
 //! A run of rows as octets, both ways: pages, an index of them, a footer.
 //!
 //! Stands for: rows of one table in the order of their keys, each at its position in the history, as the octets of one
-//! file (`IsRun` of specs/Runs.antt), and the octet at which a file that is no run is damaged (`IsDamagedAt` of
+//! file (`IsRunFile` of specs/Runs.antt), and the octet at which a file that is no run is damaged (`IsRunDamagedAt` of
 //! specs/Damage.antt). A run is read page by page: the footer says where the index stands, the index where each page
 //! does and which key it begins with. docs/FORMATS.md draws the octets. Called by what writes and opens run files; this
 //! crate knows no disk.

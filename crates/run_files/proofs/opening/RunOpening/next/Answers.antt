@@ -3,7 +3,7 @@ use Rattle.std.specs.Prelude.{IfSome, Option}
 use Rattle.arch_disk.specs.Image.{Image}
 use Rattle.run_pages.specs.Pages.{IsPage, page_octets, rows_of_page}
 use Rattle.run_pages.specs.declared.page_rows.PageRows.{PageRows}
-use Rattle.run_files.specs.Opening.{IsReading}
+use Rattle.run_files.specs.Opening.{IsReadingRun}
 use Rattle.run_files.specs.declared.run_index.RunIndex.{RunIndex}
 use Rattle.run_files.proofs.Openings.{inside, not_spelled}
 use Rattle.run_files.proofs.RunPages.{there_is}
@@ -60,6 +60,6 @@ returns-clause-reading g c = λ transparent.
     let pages : List (List _) = r.0 ++ rows_of_page c.in-Some.page ∷ [] in
     let more = c.take_in.ensures.yes c.if-not-take_in.false content r.0 r.1 page.0 page.1 in (
       pages,
-      subst (λ (f : ℕ). IsReading c.take_in.new.self (reads c.page_at.new.disk f) pages) (sym c.take_in.ensures.same.0)
-          (subst (λ (i : Image). IsReading c.take_in.new.self (i self.file) pages) (sym c.in_ok-page.ensures.looked.reads_same) more),
+      subst (λ (f : ℕ). IsReadingRun c.take_in.new.self (reads c.page_at.new.disk f) pages) (sym c.take_in.ensures.same.0)
+          (subst (λ (i : Image). IsReadingRun c.take_in.new.self (i self.file) pages) (sym c.in_ok-page.ensures.looked.reads_same) more),
     )
