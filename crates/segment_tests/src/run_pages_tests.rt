@@ -77,7 +77,7 @@ fn is_worked(alloc: Global, octets: &[u8]) -> bool {
     };
     let (rows, positions) = (page.rows.as_slice(), page.positions.as_slice());
     rows.len() == 1
-        && positions == [0]
+        && positions == [0].as_slice()
         && rows[0].key
             == Key {
                 time: 1_500,
