@@ -1,2 +1,3 @@
 pub mod Following
 pub mod Shelving
+pub mod Sending

@@ -14,6 +14,7 @@
 
 mod archived;
 mod contents;
+pub mod laws;
 mod listing;
 mod reader;
 mod rule;
