@@ -137,12 +137,10 @@ fn is_told(alloc: Global, index: &Index) -> bool {
             return false;
         }
     }
-    let footer = Footer {
-        at,
-        pages: pages.len() as u32,
-        rows,
+    let Ok(pages) = u32::try_from(pages.len()) else {
+        return false;
     };
-    is_index(&entries, footer) == is
+    is_index(&entries, Footer { at, pages, rows }) == is
 }
 
 /// The first index that isn't told rightly.
