@@ -10,12 +10,12 @@ pub record ShelfView (X : Type 0) : Type 0 where
   pub made : Sighting X
 
 -- a shelf that shows one and has made another
-abbrev pub shelf_of : {X : Type 0} → Sighting X → Sighting X → ShelfView X
-shelf_of shown made = record { shown = shown; made = made }
+abbrev pub shelf_view : {X : Type 0} → Sighting X → Sighting X → ShelfView X
+shelf_view shown made = record { shown = shown; made = made }
 
 -- the last of those that the board has still to show, or what is shown
-abbrev pub last_of : {X : Type 0} → Sighting X → List (Sighting X) → Sighting X
-last_of shown pending = fold (λ before next. next) shown pending
+abbrev pub last_to_show : {X : Type 0} → Sighting X → List (Sighting X) → Sighting X
+last_to_show shown pending = fold (λ before next. next) shown pending
 
 -- the last that was made is the one that waits, or else the last that the board has
 abbrev pub IsLastMade : {X : Type 0} → Sighting X → Option (Sighting X) → Sighting X → Type 0
@@ -26,9 +26,9 @@ IsLastMade last (Some waiting) made = waiting ≡ made
 pub record IsShelf {X : Type 0} (v : Watched X) (shown : Sighting X) (pending : List (Sighting X))
     (waiting : Option (Sighting X)) (made : Sighting X) : Type 0 where
   pub seen : v.seen ≡ shown ∷ []
-  pub pends : IsFollowedBy shown (last_of shown pending)
-  pub makes : IsFollowedBy (last_of shown pending) made
-  pub last : IsLastMade (last_of shown pending) waiting made
+  pub pends : IsFollowedBy shown (last_to_show shown pending)
+  pub makes : IsFollowedBy (last_to_show shown pending) made
+  pub last : IsLastMade (last_to_show shown pending) waiting made
 
 -- a publication was made last, or none was
 abbrev pub IsMadeOrSame : {X : Type 0} → ShelfView X → ShelfView X → Publication X → Type 0

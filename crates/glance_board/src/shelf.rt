@@ -40,11 +40,11 @@ where
     Listing<X>: Absorb<Listing<X>, State = Sight<X>>,
 {
     ghost use Rattle.std.specs.Prelude.{drop};
-    ghost use Rattle.glance_board.specs.Shelves.{IsShelf, ShelfView, shelf_of};
+    ghost use Rattle.glance_board.specs.Shelves.{IsShelf, ShelfView, shelf_view};
 
     ghost Value = { ShelfView X };
 
-    ghost view = { λ s. shelf_of s.board.desk.shown.value s.publisher };
+    ghost view = { λ s. shelf_view s.board.desk.shown.value s.publisher };
 
     ghost invariant = { λ s. IsShelf s.board.desk.place.me.0.client s.board.desk.shown.value
         (drop s.board.behind s.board.log.items) s.waiting s.publisher };

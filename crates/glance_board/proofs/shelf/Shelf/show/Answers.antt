@@ -2,7 +2,7 @@ use Rattle.std.proofs.Common.{◌≡◌, ◌∙◌, ◌++◌, None, drop, refl}
 use Rattle.std.specs.Option.{option_to_list}
 use Rattle.glance_log.specs.Sightings.{IsFollowedBy}
 use Rattle.glance_log.proofs.Chains.{follows_self}
-use Rattle.glance_board.specs.Shelves.{IsShelf, last_of}
+use Rattle.glance_board.specs.Shelves.{IsShelf, last_to_show}
 use Rattle.glance_board.proofs.Following.{shows_on}
 use Rattle.glance_board.proofs.Shelving.{handed_follows, handed_only, is_shown, later_shown, still_shelf}
 use Rattle.glance_board.proofs.shelf.Shelf.show.Goals as goal
@@ -14,7 +14,7 @@ pub publish_as-board-requires : goal.publish_as-board-requires
 publish_as-board-requires g c = λ next same.
     let b = c.self.inside.board in
     let n = c.append_waiting.new.board in
-    let all : last_of n.desk.shown.value (drop n.behind n.log.items) ≡ last_of b.desk.shown.value (drop b.behind b.log.items ++ option_to_list c.self.inside.waiting) = rw (c.in-Ok.ensures.desk, c.in-Ok.ensures.pending) refl in
+    let all : last_to_show n.desk.shown.value (drop n.behind n.log.items) ≡ last_to_show b.desk.shown.value (drop b.behind b.log.items ++ option_to_list c.self.inside.waiting) = rw (c.in-Ok.ensures.desk, c.in-Ok.ensures.pending) refl in
     let on = handed_follows b.desk.place.me.0.client b.desk.shown.value (drop b.behind b.log.items) c.self.inside.waiting c.self.inside.publisher c.self.invariant next (same ∙ all) in
     let from : IsFollowedBy n.desk.shown.value next = rw (c.in-Ok.ensures.desk) on in
     shows_on n.desk.place.id n.desk.place.me.0.client n.desk.shown.value next from
