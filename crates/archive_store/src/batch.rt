@@ -7,7 +7,7 @@ ghost use Rattle.arch_types.specs.Packet.{IsPacket};
 use arch_types::inserted::Outcomes;
 use arch_types::octets::Octets;
 use arch_types::row::Row;
-use arch_types::tables::TableList;
+use arch_types::tables::PacketTables;
 use space_packet::key::key_of;
 use std::alloc::{AllocError, Global};
 use std::marker::Model;
@@ -17,7 +17,7 @@ use std::marker::Model;
 pub struct Arrival {
     /// Its row, from which that in any of its tables differs by the table alone.
     pub row: Row,
-    pub tables: TableList,
+    pub tables: PacketTables,
 }
 
 /// The row in table `tm` of a packet that came by a link and was received at a time, in milliseconds since 1970, and

@@ -11,7 +11,6 @@ ghost use Rattle.archive_store.specs.Batches.{arrival_rows, batch_rows, in_table
 
 use crate::batch::{Arrival, Batch};
 use crate::filling::no_rows;
-use crate::packets::packet_is_octets;
 use arch_types::inserted::{Inserted, Outcomes};
 use arch_types::key::Key;
 use arch_types::row::{Row, Rows};
@@ -134,7 +133,7 @@ fn classify_row(
     ensures { (rows : List ARow) → IsClassified history.now.items rows classified.old →
         OnOk result (IsClassified history.now.items (rows ++ in_table row.now table ∷ []) classified.new) }
 {
-    packet_is_octets(&row.packet);
+    row.packet.is_octets();
     let at = TableKey {
         key: row.key,
         table,

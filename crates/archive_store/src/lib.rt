@@ -63,7 +63,6 @@ mod interval_rows;
 mod keeping;
 pub mod laws;
 mod marks;
-mod packets;
 mod reading;
 mod replaying;
 mod retrieving;

@@ -25,7 +25,6 @@ ghost use Rattle.archive_store.specs.PartialArchive.{archive_made, fills_made, f
 ghost use Rattle.archive_store.specs.Stands.{Breaks};
 
 use crate::head::Head;
-use crate::packets::packet_is_octets;
 use arch_disk::Disk;
 use arch_types::octets::Octets;
 use arch_types::row::{Row, Rows};
@@ -80,7 +79,7 @@ fn are_placed(made: &PartialArchive, rows: &[Row]) -> bool
     let tables = made.head.tables.as_slice().len();
     let names = made.head.mdb.containers();
     for row in rows {
-        packet_is_octets(&row.packet);
+        row.packet.is_octets();
         if row.table as usize >= tables || row.pname >= names {
             return false;
         }

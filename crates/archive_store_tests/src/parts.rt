@@ -11,7 +11,7 @@ ghost use Rattle.archive_store.specs.Batches.{IsArrival, IsBatch};
 use arch_disk::{Crash, Disk, MemDisk};
 use arch_types::name::Name;
 use arch_types::octets::Octets;
-use arch_types::tables::TableList;
+use arch_types::tables::PacketTables;
 use archive_store::{Arrival, Arrivals, Batch, Head, Store, received_row};
 use field_codec::{Entry, read_entry};
 use refusals::{Refusal, Which};
@@ -123,7 +123,7 @@ fn packet(alloc: Global, number: u64) -> Option<Octets>
     }
 }
 
-fn tables_of(alloc: Global, head: &Head, tables: &[u8]) -> Option<TableList>
+fn tables_of(alloc: Global, head: &Head, tables: &[u8]) -> Option<PacketTables>
     ensures few { IfSome result (λ list. length list ≤ 16) }
     ensures each { IfSome result (λ list. AllByRecursion (λ table. table < length head.now.tables) list) }
 {
@@ -131,7 +131,7 @@ fn tables_of(alloc: Global, head: &Head, tables: &[u8]) -> Option<TableList>
     if tables.len() > 16 {
         return None;
     }
-    let mut list = TableList::new(alloc);
+    let mut list = PacketTables::new();
     for table in tables {
         if *table as usize >= count {
             return None;

@@ -11,7 +11,7 @@ ghost use Rattle.live_tests.specs.Heads.{HasNames};
 
 use arch_disk::Disk;
 use arch_types::octets::Octets;
-use arch_types::tables::TableList;
+use arch_types::tables::PacketTables;
 use archive_store::{Arrival, Arrivals, Batch, Head, Store, received_row};
 use field_codec::{Entry, read_entry};
 use live_archive::{Live, LivePass};
@@ -83,7 +83,7 @@ fn arrival(alloc: Global, second: u64) -> Option<Arrival>
         IsArrival head history (pos 9000) arrival) }
 {
     let packet = packet_of(alloc, &packet_octets(second))?;
-    let mut tables = TableList::new(alloc);
+    let mut tables = PacketTables::new();
     let row = received_row(packet, 9_000, 1, 0);
     match tables.push(0) {
         Ok(()) => Some(Arrival { row, tables }),

@@ -51,13 +51,6 @@ fn put_hex(line: &mut Vec<u8>, octets: &[u8]) -> Result<(), AllocError>
     Ok(())
 }
 
-/// Octets are below 256. This does nothing but tell a proof so.
-fn are_octets(packet: &[u8])
-    ensures { (i : ℕ) → slice_index packet.now i < 256 }
-{
-    let _ = packet.first();
-}
-
 /// A generation time, which the clock has.
 fn clock_time(packet: &[u8], rectime: i64, time: i64) -> i64
     requires clock { IsClockTime rectime }
@@ -65,7 +58,6 @@ fn clock_time(packet: &[u8], rectime: i64, time: i64) -> i64
     ensures time { result ≡ time }
     ensures clock { IsClockTime result }
 {
-    are_octets(packet);
     time
 }
 

@@ -9,7 +9,7 @@ ghost use Rattle.stream_graph.specs.RouteTables.{route_of};
 use crate::passing::tables_of_row;
 use crate::statement::{RouteStatement, route_statement};
 use arch_types::row::Row;
-use arch_types::tables::TableList;
+use arch_types::tables::PacketTables;
 use item_list::Items;
 use ssql_conditions::condition::Condition;
 use ssql_types::query::TypedFlow;
@@ -87,7 +87,7 @@ impl Graph {
     }
 
     /// The tables that a row goes into, by their numbers. Which table the row itself names doesn't matter.
-    pub fn route(&self, alloc: Global, row: &Row) -> Result<TableList, AllocError>
+    pub fn route(&self, alloc: Global, row: &Row) -> Result<PacketTables, AllocError>
         requires { IsPacket row.now.packet }
 
         // They are those that it reaches: an INSERT names the table, and the row meets each condition on a path from

@@ -7,7 +7,7 @@ ghost use Rattle.stream_graph.specs.RouteTables as spec;
 
 use crate::statement::RouteStatement;
 use arch_types::row::Row;
-use arch_types::tables::TableList;
+use arch_types::tables::PacketTables;
 use ssql_conditions::truth::is_true;
 use ssql_types::query::TypedFlow;
 use ssql_types::sources::RouteSource;
@@ -55,7 +55,7 @@ fn is_among(tables: &[u8], table: u8) -> bool
 }
 
 /// Adds a table that isn't among others yet.
-fn add_table(tables: &mut TableList, table: u8) -> Result<(), AllocError>
+fn add_table(tables: &mut PacketTables, table: u8) -> Result<(), AllocError>
     ensures { OnOk result (tables.new ≡ spec.with_table tables.old table) }
 {
     if is_among(tables.as_slice(), table) {
@@ -69,7 +69,7 @@ fn go_over(
     statement: &RouteStatement,
     row: &Row,
     passed: &mut Vec<bool>,
-    tables: &mut TableList,
+    tables: &mut PacketTables,
 ) -> Result<(), AllocError>
     requires { IsPacket row.now.packet }
     ensures passed { OnOk result (passed.new.items ≡ spec.passed_behind row.now statement.now passed.old.items) }
@@ -96,12 +96,12 @@ pub(crate) fn tables_of_row(
     alloc: Global,
     statements: &[RouteStatement],
     row: &Row,
-) -> Result<TableList, AllocError>
+) -> Result<PacketTables, AllocError>
     requires { IsPacket row.now.packet }
     ensures { IfOk result (λ tables. tables ≡ spec.tables_after row.now statements.now [] []) }
 {
     let mut passed = Vec::new(alloc);
-    let mut tables = TableList::new(alloc);
+    let mut tables = PacketTables::new();
     for statement in statements {
         go_over(statement, row, &mut passed, &mut tables)?;
     }

@@ -44,6 +44,6 @@ returns-in_ok-fresh-in-New c rows s =
       fresh = is ∙ ap (λ (r : Row). old.fresh ++ r ∷ []) c.in_ok-fresh-in-New.ensures ∙ ap (λ (l : List Row). l ++ row ∷ []) s.fresh ∙ sym fresh;
       last = last;
       octets = subst (AllByRecursion (λ r. IsOctets r.packet)) (sym (is ∙ ap (λ (r : Row). old.fresh ++ r ∷ []) c.in_ok-fresh-in-New.ensures))
-          (all_append (λ r. IsOctets r.packet) old.fresh (row ∷ []) s.octets (c.packet_is_octets.ensures, tt));
+          (all_append (λ r. IsOctets r.packet) old.fresh (row ∷ []) s.octets (c.is_octets.ensures, tt));
     })
     c.keep.ensures.fresh c.keep.ensures.last
