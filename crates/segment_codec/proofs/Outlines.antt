@@ -1,11 +1,12 @@
 -- The range of a column, and the outline of a segment, are read as the column and the segment are.
-use Rattle.std.proofs.Common.{◌≡◌, ◌∙◌, ℕ, zero, suc, ℤ, pos, ◌+◌, ◌-◌, ◌<◌, ◌≤◌, ◌^◌, Bool, true, false, cond, eqb, ◌&&◌, List, [], ◌∷◌, ◌++◌, append_assoc, length, drop, Option, Some, None, FitsSigned, inl, refl, sym, ap, subst, arith}
-use Rattle.std.specs.Prelude.{◌+ℤ◌, ◌-ℤ◌, ◌≤ℤ◌, flat_map, fold, int_lt, map, max, replicate}
+use Rattle.std.proofs.Common.{◌≡◌, ◌∙◌, ℕ, zero, suc, ℤ, pos, ◌+◌, ◌-◌, ◌*◌, ◌/◌, ◌%◌, ◌<◌, ◌≤◌, ◌^◌, Bool, true, false, cond, eqb, ◌&&◌, List, [], ◌∷◌, ◌++◌, append_assoc, length, take, take_all, drop, get_or, Option, Some, None, FitsSigned, inl, refl, sym, ap, subst, arith}
+use Rattle.std.specs.Prelude.{◌+ℤ◌, ◌-ℤ◌, ◌≤ℤ◌, flat_map, fold, IfSome, int_lt, map, max, replicate}
 use Rattle.std.specs.Int.{w8, w16, w128, int_max, int_min}
 use Rattle.std.specs.Int.RustNames.{unsigned_abs}
 use Rattle.std.specs.List.{list_any}
-use Rattle.std.proofs.lemmas.Bool.{le-leb, lt-ltb}
+use Rattle.std.proofs.lemmas.Bool.{le-leb, le-ltb, lt-ltb}
 use Rattle.std.proofs.lemmas.Int.{clamps, ints}
+use Rattle.std.proofs.lemmas.List.{drop_all, length-take-le}
 use Rattle.octet_fields.specs.declared.fault.DecodeError.{DecodeError}
 use Rattle.octet_fields.specs.declared.fault.DecodeError.TheVariants as errors
 use Rattle.octet_fields.specs.Answers.{Fails}
@@ -14,9 +15,8 @@ use Rattle.octet_fields.specs.Spelling.{counted, number}
 use Rattle.octet_fields.specs.Reading.{Reader, ◌>>=◌, both_at, mapped_at, number_at, signed_at, tested_at, times_at}
 use Rattle.octet_fields.proofs.Exact.{bind_some, some_is}
 use Rattle.octet_fields.proofs.Numbers.{exact16, exact_counted16}
-use Rattle.octet_fields.proofs.Times.{with_front}
 use Rattle.arch_types.specs.declared.key.Key.{Key}
-use Rattle.segment_codec.specs.Bits.{packed_at}
+use Rattle.segment_codec.specs.Bits.{digits_of, number_from_digits, octet_count, packed_at, spare_bits}
 use Rattle.segment_codec.specs.KeyColumn.{first_key_at, key_after_at, key_column, keys_after_at, keys_at}
 use Rattle.segment_codec.specs.Outline.{IsOutlineOf, front_segment, key_ends, keys_of, last_of, outline, outline_at, outline_of, range_at, range_of, scanned, segment_read, value_range, varied_range_at}
 use Rattle.segment_codec.specs.RawColumn.{ColumnParts, bit_len, column_parts_at, greatest, is_tight, is_width, raw_column, raw_column_at, same_at, unpacked, value_above, values_of_parts}
@@ -29,7 +29,7 @@ use Rattle.segment_codec.specs.declared.segment.Segment.{Segment}
 use Rattle.segment_codec.specs.declared.unpack.Unpacked.{Unpacked}
 use Rattle.segment_codec.proofs.Columns.{all_same, and_true, any_among, fits_between, high_of, least_is, raised_above, refl_le, tight_as, value_fits}
 use Rattle.segment_codec.proofs.Keys.{in_order_rise}
-use Rattle.segment_codec.proofs.Looping.{keys_done, keys_ended, keys_more, keys_none, keys_start}
+use Rattle.segment_codec.proofs.Packing.{AreUnpacked, all_read}
 use Rattle.segment_codec.proofs.Places.{read_at, stands_at}
 use Rattle.segment_codec.proofs.Segments.{keys_exact, row_count_exact, true_rows}
 
@@ -50,6 +50,41 @@ scanned_of w n octets rest low values top has e =
 
 pub none_scanned : (w n : ℕ) (octets : List ℕ) → packed_at w n octets ≡ None → mapped_at scanned (packed_at w n) octets ≡ None
 none_scanned w n octets none = rw none refl
+
+-- what a loop over all numbers of octets ends with
+pub scan_ends : (w i n : ℕ) (octets rest : List ℕ) (b c : ℕ) (values : List ℤ) (top : ℕ) (has : Bool) (numbers : List ℕ) → length octets ≡ octet_count (w * n) → i ≡ n → b < 2 ^ c → c + 8 * length rest + w * i ≡ 8 * octet_count (w * n) →
+    AreUnpacked w (pos 0) i (c + 8 * length rest) (b * 2 ^ (8 * length rest) + number_from_digits 8 rest) (number_from_digits 8 octets) values top has numbers → packed_at w n octets ≡ cond (eqb b 0) (Some (numbers, [])) None
+scan_ends w i n octets rest b c values top has numbers len all below bits are =
+    let k = octet_count (w * n) in
+    let whole : take k octets ≡ octets = take_all k octets (omega (arith, len)) in
+    let none : drop k octets ≡ [] = drop_all k octets (omega (arith, len)) in
+    let e = all_read w n octets numbers rest b c (omega (arith, len)) (are.count ∙ all) are.below below (subst (λ (j : ℕ). c + 8 * length rest + w * j ≡ 8 * k) all bits) (are.ahead ∙ ap (number_from_digits 8) (sym whole)) in
+    e ∙ ap (λ (after : List ℕ). cond (eqb b 0) (Some (numbers, after)) None) none
+
+front_cases : (b : Bool) (numbers after other : List ℕ) → (◌>>=◌ {A = List ℕ × List ℕ} {B = Scanned × List ℕ} (cond b (Some (numbers, after)) None) (λ a. Some (scanned a.0, a.1)))
+    ≡ (◌>>=◌ {A = Scanned × List ℕ} {B = Scanned × List ℕ} (◌>>=◌ {A = List ℕ × List ℕ} {B = Scanned × List ℕ} (cond b (Some (numbers, other)) None) (λ a. Some (scanned a.0, a.1))) (λ x. Some (x.0, after)))
+front_cases true numbers after other = refl
+front_cases false numbers after other = refl
+
+-- numbers are scanned as in the octets that they take alone
+scanned_in_front : (w n : ℕ) (octets front : List ℕ) → octet_count (w * n) ≤ length octets → front ≡ take (octet_count (w * n)) octets →
+    mapped_at scanned (packed_at w n) octets ≡ (◌>>=◌ {A = Scanned × List ℕ} {B = Scanned × List ℕ} (mapped_at scanned (packed_at w n) front) (λ x. Some (x.0, drop (octet_count (w * n)) octets)))
+unfolding packed_at
+scanned_in_front w n octets front long is =
+    let k = octet_count (w * n) in
+    let len : length front ≡ k = ap length is ∙ length-take-le k octets long in
+    let whole : take k front ≡ take k octets = take_all k front (omega (arith, len)) ∙ is in
+    let number = number_from_digits 8 (take k octets) in
+    let unit = 2 ^ spare_bits (w * n) in
+    rw (le-ltb (length octets) k long, le-ltb (length front) k (omega (arith, len)), whole) (front_cases (eqb (number % unit) 0) (digits_of w n (number / unit)) (drop k octets) (drop k front))
+
+pub front_scanned : (w n : ℕ) (octets front : List ℕ) (kept : Scanned) → octet_count (w * n) ≤ length octets → front ≡ take (octet_count (w * n)) octets → mapped_at scanned (packed_at w n) front ≡ Some (kept, []) →
+    mapped_at scanned (packed_at w n) octets ≡ Some (kept, drop (octet_count (w * n)) octets)
+front_scanned w n octets front kept long is e = scanned_in_front w n octets front long is ∙ ap (λ (o : Option (Scanned × List ℕ)). ◌>>=◌ {A = Scanned × List ℕ} {B = Scanned × List ℕ} o (λ x. Some (x.0, drop (octet_count (w * n)) octets))) e
+
+pub front_fails : (w n : ℕ) (octets front : List ℕ) (fault : DecodeError) → octet_count (w * n) ≤ length octets → front ≡ take (octet_count (w * n)) octets → Fails fault (mapped_at scanned (packed_at w n) front) → Fails fault (mapped_at scanned (packed_at w n) octets)
+front_fails w n octets front errors.OutOfMemory long is fails = fails
+front_fails w n octets front errors.Malformed long is fails = scanned_in_front w n octets front long is ∙ ap (λ (o : Option (Scanned × List ℕ)). ◌>>=◌ {A = Scanned × List ℕ} {B = Scanned × List ℕ} o (λ x. Some (x.0, drop (octet_count (w * n)) octets))) fails
 
 -- ---- the range of values above a least one
 
@@ -193,13 +228,10 @@ segment_by octets r1 r2 r3 r4 parameters rows keys columns a b c d = rw (a, b, c
 ranges_read : (rows n : ℕ) (octets rest : List ℕ) (columns : List (List ℤ)) → times_at (raw_column_at rows) n octets ≡ Some (columns, rest) → times_at (range_at rows) n octets ≡ Some (map range_of columns, rest)
 ranges_read rows n octets rest columns e = ranges_mapped rows n octets ∙ rw e refl
 
-outline_by : (octets r1 r2 r3 r4 : List ℕ) (parameters : List ℕ) (rows : ℕ) (ends : KeyEnds) (ranges : List ColumnRange) → parameters_at octets ≡ Some (parameters, r1) → row_count_at r1 ≡ Some (rows, r2) → mapped_at key_ends (keys_at rows) r2 ≡ Some (ends, r3) →
-    times_at (range_at rows) (length parameters) r3 ≡ Some (ranges, r4) → outline_at octets ≡ Some (outline parameters rows ends ranges, r4)
+outline_by : (octets r1 r2 r3 r4 : List ℕ) (parameters : List ℕ) (rows : ℕ) (keys : List Key) (ranges : List ColumnRange) → parameters_at octets ≡ Some (parameters, r1) → row_count_at r1 ≡ Some (rows, r2) → keys_at rows r2 ≡ Some (keys, r3) →
+    times_at (range_at rows) (length parameters) r3 ≡ Some (ranges, r4) → outline_at octets ≡ Some ((outline parameters rows (key_ends keys) ranges, keys), r4)
 unfolding outline_at
-outline_by octets r1 r2 r3 r4 parameters rows ends ranges a b c d = rw (a, b, c, d) refl
-
-ends_read : (rows : ℕ) (octets rest : List ℕ) (keys : List Key) → keys_at rows octets ≡ Some (keys, rest) → mapped_at key_ends (keys_at rows) octets ≡ Some (key_ends keys, rest)
-ends_read rows octets rest keys e = rw e refl
+outline_by octets r1 r2 r3 r4 parameters rows keys ranges a b c d = rw (a, b, c, d) refl
 
 -- so many keys are read
 keys_after_len : (n : ℕ) (last : Key) (octets : List ℕ) (x : List Key × List ℕ) → keys_after_at n last octets ≡ Some x → length x.0 ≡ n
@@ -212,7 +244,7 @@ keys_after_len (suc n) last octets x e =
     let made : List Key × List ℕ = (p.0.0 ∷ q.0.0, q.0.1) in
     ap (λ (y : List Key × List ℕ). length y.0) (sym (some_is made x q.2)) ∙ ap suc (keys_after_len n p.0.0 p.0.1 q.0 q.1)
 
-keys_len : (n : ℕ) (octets : List ℕ) (x : List Key × List ℕ) → keys_at n octets ≡ Some x → length x.0 ≡ n
+pub keys_len : (n : ℕ) (octets : List ℕ) (x : List Key × List ℕ) → keys_at n octets ≡ Some x → length x.0 ≡ n
 unfolding keys_at
 keys_len zero octets x e = absurd cc
 keys_len (suc n) octets x e =
@@ -223,34 +255,33 @@ keys_len (suc n) octets x e =
     let made : List Key × List ℕ = (m.0.0.0 ∷ m.0.0.1, m.0.1) in
     ap (λ (y : List Key × List ℕ). length y.0) (sym (some_is made x m.2)) ∙ ap (λ (y : (Key × List Key) × List ℕ). suc (length y.0.1)) (sym (some_is first m.0 q.2)) ∙ ap suc (keys_after_len n p.0.0 p.0.1 q.0 q.1)
 
+-- an outline and keys are those of a segment
+abbrev pub AreOf : Segment → OutlineParts × List Key → Type 0
+AreOf s x = (x.0 ≡ outline_of s) × (x.1 ≡ s.keys)
+
 -- where an outline was read a segment is, and it is the segment's
-pub outlined : (octets rest : List ℕ) (x : OutlineParts) → outline_at octets ≡ Some (x, rest) → (s : Segment) × (segment_at octets ≡ Some (s, rest)) × (x ≡ outline_of s)
+pub outlined : (octets rest : List ℕ) (x : OutlineParts × List Key) → outline_at octets ≡ Some (x, rest) → (s : Segment) × (segment_at octets ≡ Some (s, rest)) × AreOf s x
 unfolding outline_at
 outlined octets rest x e =
     let p = bind_some (parameters_at octets) _ (x, rest) e in
     let q = bind_some (row_count_at p.0.1) _ (x, rest) p.2 in
-    let ends = bind_some (mapped_at key_ends (keys_at q.0.0) q.0.1) _ (x, rest) q.2 in
-    let t = bind_some (times_at (range_at q.0.0) (length p.0.0) ends.0.1) _ (x, rest) ends.2 in
-    let made : OutlineParts × List ℕ = (outline p.0.0 q.0.0 ends.0.0 t.0.0, t.0.1) in
+    let r = bind_some (keys_at q.0.0 q.0.1) _ (x, rest) q.2 in
+    let t = bind_some (times_at (range_at q.0.0) (length p.0.0) r.0.1) _ (x, rest) r.2 in
+    let made : (OutlineParts × List Key) × List ℕ = ((outline p.0.0 q.0.0 (key_ends r.0.0) t.0.0, r.0.0), t.0.1) in
     let same = some_is made (x, rest) t.2 in
-    let r = bind_some (keys_at q.0.0 q.0.1) (λ y. Some (key_ends y.0, y.1)) ends.0 ends.1 in
-    let both : KeyEnds × List ℕ = (key_ends r.0.0, r.0.1) in
-    let walked = some_is both ends.0 r.2 in
-    let behind : r.0.1 ≡ ends.0.1 = ap (λ (y : KeyEnds × List ℕ). y.1) walked in
-    let c = bind_some (times_at (raw_column_at q.0.0) (length p.0.0) r.0.1) (λ y. Some (map range_of y.0, y.1)) t.0 (sym (ranges_mapped q.0.0 (length p.0.0) r.0.1) ∙ ap (times_at (range_at q.0.0) (length p.0.0)) behind ∙ t.1) in
+    let c = bind_some (times_at (raw_column_at q.0.0) (length p.0.0) r.0.1) (λ y. Some (map range_of y.0, y.1)) t.0 (sym (ranges_mapped q.0.0 (length p.0.0) r.0.1) ∙ t.1) in
     let columns : List ColumnRange × List ℕ = (map range_of c.0.0, c.0.1) in
     let seen = some_is columns t.0 c.2 in
     let s = segment_with p.0.0 r.0.0 c.0.0 in
     let read : segment_at octets ≡ Some (s, c.0.1) = segment_by octets p.0.1 q.0.1 r.0.1 c.0.1 p.0.0 q.0.0 r.0.0 c.0.0 p.1 q.1 r.1 c.1 in
-    let end : c.0.1 ≡ rest = ap (λ (y : List ColumnRange × List ℕ). y.1) seen ∙ ap (λ (y : OutlineParts × List ℕ). y.1) same in
+    let end : c.0.1 ≡ rest = ap (λ (y : List ColumnRange × List ℕ). y.1) seen ∙ ap (λ (y : (OutlineParts × List Key) × List ℕ). y.1) same in
     let rows : length r.0.0 ≡ q.0.0 = keys_len q.0.0 q.0.1 r.0 r.1 in
-    let whole : outline_of s ≡ outline p.0.0 q.0.0 ends.0.0 t.0.0 =
-    ap (λ (n : ℕ). outline p.0.0 n (key_ends r.0.0) (map range_of c.0.0)) rows ∙ ap (λ (y : KeyEnds × List ℕ). outline p.0.0 q.0.0 y.0 (map range_of c.0.0)) walked
-    ∙ ap (λ (y : List ColumnRange × List ℕ). outline p.0.0 q.0.0 ends.0.0 y.0) seen in
-    (s, read ∙ ap (λ (o : List ℕ). Some (s, o)) end, sym (whole ∙ ap (λ (y : OutlineParts × List ℕ). y.0) same))
+    let whole : outline_of s ≡ outline p.0.0 q.0.0 (key_ends r.0.0) t.0.0 =
+    ap (λ (n : ℕ). outline p.0.0 n (key_ends r.0.0) (map range_of c.0.0)) rows ∙ ap (λ (y : List ColumnRange × List ℕ). outline p.0.0 q.0.0 (key_ends r.0.0) y.0) seen in
+    (s, read ∙ ap (λ (o : List ℕ). Some (s, o)) end, (sym (whole ∙ ap (λ (y : (OutlineParts × List Key) × List ℕ). y.0.0) same), sym (ap (λ (y : (OutlineParts × List Key) × List ℕ). y.0.1) same)))
 
 -- the outline of a segment is read where the segment is
-pub outline_read : (octets rest : List ℕ) (s : Segment) → segment_at octets ≡ Some (s, rest) → outline_at octets ≡ Some (outline_of s, rest)
+pub outline_read : (octets rest : List ℕ) (s : Segment) → segment_at octets ≡ Some (s, rest) → outline_at octets ≡ Some ((outline_of s, s.keys), rest)
 unfolding segment_at
 outline_read octets rest s e =
     let m = bind_some (both_at parameters_at (λ parameters. both_at row_count_at (λ rows. both_at (keys_at rows) (λ _. times_at (raw_column_at rows) (length parameters)))) octets) (λ a. Some (segment_of_parts a.0, a.1)) (s, rest) e in
@@ -274,21 +305,29 @@ outline_read octets rest s e =
     ∙ ap (λ (y : SegmentParts × List ℕ). let z : Segment × List ℕ = (segment_of_parts y.0, y.1) in z) e3 ∙ e4 in
     let ranges = ranges_read q.0.0 (length p.0.0) r.0.1 t.0.1 t.0.0 t.1 in
     let rows : q.0.0 ≡ length r.0.0 = sym (keys_len q.0.0 q.0.1 r.0 r.1) in
-    let read : outline_at octets ≡ Some (outline p.0.0 q.0.0 (key_ends r.0.0) (map range_of t.0.0), t.0.1) =
-    outline_by octets p.0.1 q.0.1 r.0.1 t.0.1 p.0.0 q.0.0 (key_ends r.0.0) (map range_of t.0.0) p.1 q.1 (ends_read q.0.0 q.0.1 r.0.1 r.0.0 r.1) ranges in
-    read ∙ ap (λ (n : ℕ). Some (outline p.0.0 n (key_ends r.0.0) (map range_of t.0.0), t.0.1)) rows ∙ ap (λ (y : Segment × List ℕ). Some (outline_of y.0, y.1)) whole
+    let read : outline_at octets ≡ Some ((outline p.0.0 q.0.0 (key_ends r.0.0) (map range_of t.0.0), r.0.0), t.0.1) =
+    outline_by octets p.0.1 q.0.1 r.0.1 t.0.1 p.0.0 q.0.0 r.0.0 (map range_of t.0.0) p.1 q.1 r.1 ranges in
+    read ∙ ap (λ (n : ℕ). Some ((outline p.0.0 n (key_ends r.0.0) (map range_of t.0.0), r.0.0), t.0.1)) rows ∙ ap (λ (y : Segment × List ℕ). Some ((outline_of y.0, y.0.keys), y.1)) whole
 
 -- ---- at a place
 
+kept_are : (kept : Option (List Key)) (keys own : List Key) → IfSome kept (λ ks. ks ≡ keys) → keys ≡ own → IfSome kept (λ ks. ks ≡ own)
+kept_are None keys own is e = tt
+kept_are (Some ks) keys own is e = is ∙ e
+
 -- the outline that was read is that of the segment at the front, which stands there, and ends where the rest begins
-pub outline_stands : (octets front : List ℕ) (at : ℕ) (x : OutlineParts) (rest : List ℕ) → at ≤ length octets → IsOctets octets → front ≡ drop at octets → outline_at front ≡ Some (x, rest) →
-    IsOutlineOf x front × HasSegmentAt octets at (front_segment front) × (length octets - length rest ≡ at + length (segment_octets (front_segment front))) × (length rest ≤ length octets)
-outline_stands octets front at x rest le are is read =
+pub outline_stands : (octets front : List ℕ) (at : ℕ) (x : OutlineParts × List Key) (rest : List ℕ) (kept : Option (List Key)) → at ≤ length octets → IsOctets octets → front ≡ drop at octets → outline_at front ≡ Some (x, rest) → IfSome kept (λ keys. keys ≡ x.1) →
+    IsOutlineOf x.0 kept front × HasSegmentAt octets at (front_segment front) × (length octets - length rest ≡ at + length (segment_octets (front_segment front))) × (length rest ≤ length octets)
+outline_stands octets front at x rest kept le are is read keeps =
     let o = outlined front rest x read in
     let t = stands_at octets front at o.0 rest le are is o.1 in
     let same : front_segment front ≡ o.0 = ap segment_read o.1 in
     let there : HasSegmentAt octets at (front_segment front) = subst (HasSegmentAt octets at) (sym same) t.0 in (
-      record { parts = o.2 ∙ ap outline_of (sym same); stands = (there.0, there.1, is ∙ there.2) },
+      record {
+        parts = o.2.0 ∙ ap outline_of (sym same);
+        keys = kept_are kept x.1 (front_segment front).keys keeps (o.2.1 ∙ ap (λ (s : Segment). s.keys) (sym same));
+        stands = (there.0, there.1, is ∙ there.2);
+      },
       there,
       t.1 ∙ ap (λ (s : Segment). at + length (segment_octets s)) (sym same),
       t.2,
@@ -316,44 +355,26 @@ keys_of_segment s rest is =
 pub front_keys_are : (octets : List ℕ) (s : Segment) (keys : List Key) → HasSegmentAt octets 0 s → keys_of octets ≡ Some keys → keys ≡ s.keys
 front_keys_are octets s keys has given = some_is keys s.keys (sym given ∙ ap keys_of has.2 ∙ keys_of_segment s has.1 has.0)
 
--- ---- while keys are gone through
+-- the last of keys
+pub last_at : (k : Key) (ks : List Key) (d : Key) → last_of (k ∷ ks) ≡ get_or (k ∷ ks) (length ks) d
+last_at k [] d = refl
+last_at k (j ∷ ks) d = last_at j ks d
 
-last_put : (x : Key) (xs : List Key) (k : Key) → last_of (x ∷ (xs ++ k ∷ [])) ≡ k
-last_put x [] k = refl
-last_put x (y ∷ xs) k = last_put y xs k
-
--- the last of so many keys, of which the first is given
-abbrev pub HasWalked : Key → Key → Option (List Key × List ℕ) → Option (List Key × List ℕ) → Type 0
-HasWalked first last total left = (before : List Key) × (total ≡ with_front (first ∷ before) left) × (last_of (first ∷ before) ≡ last)
-
-pub walk_begins : (count : ℕ) (octets rest : List ℕ) (first : Key) → 1 ≤ count → first_key_at octets ≡ Some (first, rest) → HasWalked first first (keys_at count octets) (keys_after_at (count - 1) first rest)
-walk_begins count octets rest first some e = ([], keys_start count octets first rest some e, refl)
-
-pub walk_none : (count : ℕ) (octets : List ℕ) → first_key_at octets ≡ None → mapped_at key_ends (keys_at count) octets ≡ None
-walk_none count octets e = rw (keys_none count octets e) refl
-
-pub walk_more : (count i : ℕ) (first last key : Key) (octets after : List ℕ) (total : Option (List Key × List ℕ)) → i < count → key_after_at last octets ≡ Some (key, after) → HasWalked first last total (keys_after_at (count - i) last octets) →
-    HasWalked first key total (keys_after_at (count - (i + 1)) key after)
-walk_more count i first last key octets after total lt e so_far =
-    (so_far.0 ++ key ∷ [], keys_more count i (first ∷ so_far.0) last key octets after total lt e so_far.1, last_put first so_far.0 key)
-
-pub walk_fails : (count i : ℕ) (first last : Key) (octets whole : List ℕ) → i < count → key_after_at last octets ≡ None → HasWalked first last (keys_at count whole) (keys_after_at (count - i) last octets) → mapped_at key_ends (keys_at count) whole ≡ None
-walk_fails count i first last octets whole lt e so_far = rw (keys_ended count i (first ∷ so_far.0) last octets (keys_at count whole) lt e so_far.1) refl
-
-pub walk_ends : (count i : ℕ) (first last : Key) (octets whole : List ℕ) → count ≤ i → HasWalked first last (keys_at count whole) (keys_after_at (count - i) last octets) →
-    (let ends : KeyEnds = record { first = first; last = last } in mapped_at key_ends (keys_at count) whole ≡ Some (ends, octets))
-walk_ends count i first last octets whole le so_far =
-    let read = keys_done count i (first ∷ so_far.0) last octets (keys_at count whole) le so_far.1 in
-    ends_read count whole octets (first ∷ so_far.0) read ∙ ap (λ (k : Key). let ends : KeyEnds = record { first = first; last = k } in Some (ends, octets)) so_far.2
+pub ends_are : (keys : List Key) (first last d : Key) → 1 ≤ length keys → first ≡ get_or keys 0 d → last ≡ get_or keys (length keys - 1) d → (let ends : KeyEnds = record { first = first; last = last } in ends ≡ key_ends keys)
+ends_are [] first last d some a b = absurd (omega (arith, some))
+ends_are (k ∷ ks) first last d some a b =
+    let n : length (k ∷ ks) - 1 ≡ length ks = omega arith in
+    let behind : last ≡ last_of (k ∷ ks) = b ∙ ap (λ (i : ℕ). get_or (k ∷ ks) i d) n ∙ sym (last_at k ks d) in
+    ap (λ (x : Key). let ends : KeyEnds = record { first = x; last = last } in ends) a ∙ ap (λ (x : Key). let ends : KeyEnds = record { first = k; last = x } in ends) behind
 
 -- and is the one that stands there
 pub front_is : (octets front : List ℕ) (at : ℕ) (s : Segment) → HasSegmentAt octets at s → front ≡ drop at octets → front_segment front ≡ s
 front_is octets front at s has is = ap segment_read (read_at octets front at s has is)
 
-outline_there : (octets front : List ℕ) (at : ℕ) (s : Segment) (has : HasSegmentAt octets at s) → front ≡ drop at octets → outline_at front ≡ Some (outline_of s, has.1)
+outline_there : (octets front : List ℕ) (at : ℕ) (s : Segment) (has : HasSegmentAt octets at s) → front ≡ drop at octets → outline_at front ≡ Some ((outline_of s, s.keys), has.1)
 outline_there octets front at s has is = outline_read front has.1 s (read_at octets front at s has is)
 
 pub outline_memory : (octets front : List ℕ) (at : ℕ) (s : Segment) (fault : DecodeError) → HasSegmentAt octets at s → front ≡ drop at octets → Fails fault (outline_at front) → fault ≡ errors.OutOfMemory
 outline_memory octets front at s errors.OutOfMemory has is fails = refl
 outline_memory octets front at s errors.Malformed has is fails =
-    absurd (let bad : ◌≡◌ {A = Option (OutlineParts × List ℕ)} None (Some (outline_of s, has.1)) = sym fails ∙ outline_there octets front at s has is in cc)
+    absurd (let bad : ◌≡◌ {A = Option ((OutlineParts × List Key) × List ℕ)} None (Some ((outline_of s, s.keys), has.1)) = sym fails ∙ outline_there octets front at s has is in cc)

@@ -1,5 +1,5 @@
 -- What of a segment tells whether it may stand in a set.
-use Rattle.std.specs.Prelude.{◌≡◌, ◌==◌, ◌+ℤ◌, ℕ, ℤ, pos, List, [], ◌∷◌, length, fold, map, Option, Some, None}
+use Rattle.std.specs.Prelude.{◌≡◌, ◌==◌, ◌+ℤ◌, ℕ, ℤ, pos, List, [], ◌∷◌, length, fold, map, IfSome, Option, Some, None}
 use Rattle.std.specs.Int.{w8, w16, int_max, int_min}
 use Rattle.std.specs.List.{list_any}
 use Rattle.octet_fields.specs.Reading.{Reader, ◌>>=◌, both_at, counted_at, mapped_at, number_at, tested_at, times_at}
@@ -55,9 +55,10 @@ segment_read (Some read) = read.0
 abbrev pub front_segment : List ℕ → Segment
 front_segment octets = segment_read (segment_at octets)
 
--- a segment stands at the front of octets, and this is its outline
-pub record IsOutlineOf (x : OutlineParts) (octets : List ℕ) : Type 0 where
+-- a segment stands at the front of octets, this is its outline, and these are its keys, where they were kept
+pub record IsOutlineOf (x : OutlineParts) (kept : Option (List Key)) (octets : List ℕ) : Type 0 where
   pub parts : x ≡ outline_of (front_segment octets)
+  pub keys : IfSome kept (λ ks. ks ≡ (front_segment octets).keys)
   pub stands : HasSegmentAt octets 0 (front_segment octets)
 
 -- ---- reading
@@ -81,9 +82,9 @@ varied_range_at rows low =
     mapped_at (λ p. value_range low (low +ℤ pos (greatest p.1)))
     (tested_at (λ p. is_tight (low, p)) (both_at (tested_at is_width (number_at w8)) (λ width. packed_at width rows)))
 
--- reads the outline of a segment
-unfoldable pub outline_at : Reader OutlineParts
+-- reads the outline of a segment, and its keys
+unfoldable pub outline_at : Reader (OutlineParts × List Key)
 outline_at octets =
-    parameters_at octets >>= λ parameters. row_count_at parameters.1 >>= λ rows. mapped_at key_ends (keys_at rows.0) rows.1 >>= λ ends.
-    times_at (range_at rows.0) (length parameters.0) ends.1 >>= λ ranges.
-    Some (outline parameters.0 rows.0 ends.0 ranges.0, ranges.1)
+    parameters_at octets >>= λ parameters. row_count_at parameters.1 >>= λ rows. keys_at rows.0 rows.1 >>= λ keys.
+    times_at (range_at rows.0) (length parameters.0) keys.1 >>= λ ranges.
+    Some ((outline parameters.0 rows.0 (key_ends keys.0) ranges.0, keys.0), ranges.1)

@@ -1,14 +1,14 @@
 //! Reads how far the values of a raw column reach. No value is kept.
 
-ghost use Rattle.std.specs.Prelude.{◌≤◌};
+ghost use Rattle.std.specs.Prelude.{◌≡◌, ◌*◌, ◌≤◌, [], length};
 ghost use Rattle.octet_fields.specs.Answers.{Gives};
 ghost use Rattle.octet_fields.specs.Reading.{mapped_at};
-ghost use Rattle.segment_codec.specs.Bits.{packed_at};
+ghost use Rattle.segment_codec.specs.Bits.{octet_count, packed_at};
 ghost use Rattle.segment_codec.specs.Outline.{range_at, scanned, varied_range_at};
 ghost use Rattle.segment_codec.specs.Segment.{most_rows};
 
 use crate::bits::Pending;
-use crate::unpack::take_wide;
+use crate::unpack::{take, take_wide};
 use octet_fields::{DecodeError, i128_at, u8_at};
 
 /// How far the values of a raw column reach.
@@ -27,6 +27,67 @@ pub(crate) struct Scanned {
     pub(crate) has_zero: bool,
 }
 
+/// What is kept of so many numbers of up to 64 bits that octets are: each is looked at in a word, which takes half the
+/// time.
+fn scanned_words(octets: &[u8], width: u32, count: usize) -> Result<Scanned, DecodeError>
+    requires width { width ≤ 64 }
+    requires len { length octets.now ≡ octet_count (width * count) }
+    ensures { Gives (λ x. (x, [])) result (mapped_at scanned (packed_at width count) octets.now) }
+{
+    let mut top: u64 = 0;
+    let mut has_zero = false;
+    let mut pending = Pending { bits: 0, count: 0 };
+    let mut rest = octets;
+    for _ in 0..count {
+        let (number, next, behind) = take(rest, pending, width);
+        top = top.max(number);
+        has_zero |= number == 0;
+        pending = next;
+        rest = behind;
+    }
+    if pending.bits != 0 {
+        return Err(DecodeError::Malformed);
+    }
+    let top = u128::from(top);
+    Ok(Scanned { top, has_zero })
+}
+
+/// The same of numbers of up to 128 bits.
+#[inline(never)]
+fn scanned_wide(octets: &[u8], width: u32, count: usize) -> Result<Scanned, DecodeError>
+    requires width { width ≤ 128 }
+    requires len { length octets.now ≡ octet_count (width * count) }
+    ensures { Gives (λ x. (x, [])) result (mapped_at scanned (packed_at width count) octets.now) }
+{
+    let mut top = 0;
+    let mut has_zero = false;
+    let mut pending = Pending { bits: 0, count: 0 };
+    let mut rest = octets;
+    for _ in 0..count {
+        let (number, next, behind) = take_wide(rest, pending, width);
+        top = top.max(number);
+        has_zero |= number == 0;
+        pending = next;
+        rest = behind;
+    }
+    if pending.bits != 0 {
+        return Err(DecodeError::Malformed);
+    }
+    Ok(Scanned { top, has_zero })
+}
+
+/// What is kept of so many numbers that octets are.
+fn scan(octets: &[u8], width: u32, count: usize) -> Result<Scanned, DecodeError>
+    requires width { width ≤ 128 }
+    requires len { length octets.now ≡ octet_count (width * count) }
+    ensures { Gives (λ x. (x, [])) result (mapped_at scanned (packed_at width count) octets.now) }
+{
+    if width <= 64 {
+        return scanned_words(octets, width, count);
+    }
+    scanned_wide(octets, width, count)
+}
+
 /// What is kept of so many numbers of a width, and the octets after them.
 fn scanned_at(octets: &[u8], width: u32, count: usize) -> Result<(Scanned, &[u8]), DecodeError>
     requires width { width ≤ 128 }
@@ -38,21 +99,8 @@ fn scanned_at(octets: &[u8], width: u32, count: usize) -> Result<(Scanned, &[u8]
         return Err(DecodeError::Malformed);
     }
     let (front, after) = octets.split_at(octet_len);
-    let mut top = 0;
-    let mut has_zero = false;
-    let mut pending = Pending { bits: 0, count: 0 };
-    let mut rest = front;
-    for _ in 0..count {
-        let (number, next, behind) = take_wide(rest, pending, width);
-        top = top.max(number);
-        has_zero |= number == 0;
-        pending = next;
-        rest = behind;
-    }
-    if pending.bits != 0 {
-        return Err(DecodeError::Malformed);
-    }
-    Ok((Scanned { top, has_zero }, after))
+    let kept = scan(front, width, count)?;
+    Ok((kept, after))
 }
 
 /// The range of a column of form 1 behind its least value, and the octets after it.

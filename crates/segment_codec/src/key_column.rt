@@ -2,7 +2,6 @@
 
 ghost use Rattle.std.specs.Prelude.{◌≡◌, ◌≤◌, ◌++◌, length, true, IfOk, IfSome, OnOk, Some};
 ghost use Rattle.octet_fields.specs.Answers.{Answers, Gives};
-ghost use Rattle.octet_fields.specs.Reading.{mapped_at};
 ghost use Rattle.segment_codec.specs.KeyColumn.{first_key_at, is_gap, key_after, key_after_at, key_column, key_gap, key_gaps, keys_at};
 ghost use Rattle.segment_codec.specs.Outline.{key_ends};
 ghost use Rattle.segment_codec.specs.Varint.{varint};
@@ -111,21 +110,14 @@ pub(crate) struct KeyEnds {
     pub(crate) last: Key,
 }
 
-/// The ends of so many keys, and the octets after them. No key is kept.
-pub(crate) fn key_ends_at(count: u16, octets: &[u8]) -> Result<(KeyEnds, &[u8]), Short>
-    requires { 1 ≤ count }
-    ensures { Answers (λ x. (x.0, x.1.now)) result (mapped_at key_ends (keys_at count) octets.now) }
+/// The ends of some keys.
+pub(crate) fn key_ends(keys: &[Key]) -> KeyEnds
+    requires { 1 ≤ length keys.now }
+    ensures { result ≡ key_ends keys.now }
 {
-    let (first, after_first) = first_key_at(octets)?;
-    let mut last = first;
-    let mut rest = after_first;
-    for _ in 1..count {
-        let (key, after) = key_after_at(last, rest)?;
-        last = key;
-        rest = after;
-    }
-    let ends = KeyEnds { first, last };
-    Ok((ends, rest))
+    let first = keys[0];
+    let last = keys[keys.len() - 1];
+    KeyEnds { first, last }
 }
 
 /// How far a key lies behind another.

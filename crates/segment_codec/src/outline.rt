@@ -1,6 +1,6 @@
 //! Reads the outline of a segment: what tells whether it may stand in a set, in little more room than its octets take.
 
-ghost use Rattle.std.specs.Prelude.{◌≡◌, ◌+◌, ◌≤◌, length, map, IfErr, IfOk};
+ghost use Rattle.std.specs.Prelude.{◌≡◌, ◌+◌, ◌≤◌, length, map, IfErr, IfOk, IfSome};
 ghost use Rattle.octet_fields.specs.Answers.{Gives};
 ghost use Rattle.octet_fields.specs.Reading.{times_at};
 ghost use Rattle.octet_fields.specs.declared.fault.DecodeError.TheVariants.{OutOfMemory};
@@ -10,7 +10,7 @@ ghost use Rattle.segment_codec.specs.declared.segment.Segment.{Segment as ASegme
 
 use crate::column_range::{ColumnRange, range_at};
 use crate::fault::NotASegment;
-use crate::key_column::{KeyEnds, key_ends_at, keys_at};
+use crate::key_column::{KeyEnds, key_ends, keys_at};
 use crate::parameters::{counted_parameters_at, parameters_at};
 use crate::reading::row_count_at;
 use crate::segment::{KeyList, ParameterList};
@@ -42,6 +42,8 @@ struct OutlineParts {
 #[derive(Debug, Drop)]
 pub struct SegmentOutline<'a> {
     parts: OutlineParts,
+    /// The key of each row, where these take little room beside its spelling.
+    keys: Option<KeyList>,
     /// Its spelling, and what stands behind it.
     octets: &'a [u8],
 }
@@ -54,7 +56,7 @@ impl<'a> Model for SegmentOutline<'a> {
 
     ghost view = { λ o. front_segment o.octets.now };
 
-    ghost invariant = { λ o. IsOutlineOf o.parts o.octets.now };
+    ghost invariant = { λ o. IsOutlineOf o.parts o.keys o.octets.now };
 }
 
 impl<'a> SegmentOutline<'a> {
@@ -85,10 +87,13 @@ impl<'a> SegmentOutline<'a> {
         self.parts.ends.last
     }
 
-    /// The key of each row, read where they stand.
+    /// The key of each row, read once more where they weren't kept.
     pub fn keys(&self, alloc: Global) -> Result<KeyList, AllocError>
         ensures { IfOk result (λ keys. keys ≡ self.now.keys) }
     {
+        if let Some(keys) = &self.keys {
+            return keys.copy(alloc);
+        }
         match front_keys(alloc, self.octets) {
             Ok(keys) => Ok(keys),
             // a segment stands there, so nothing but memory can have been wanting
@@ -137,14 +142,15 @@ fn ranges_at(
     Ok((ranges, rest))
 }
 
-/// The outline of the segment at the front, and the octets after it.
+/// The outline of the segment at the front, its keys, and the octets after it.
 #[tactic(auto, unfolding(crate::specs::Outline::outline_at))]
-fn outline_at(alloc: Global, octets: &[u8]) -> Result<(OutlineParts, &[u8]), DecodeError>
-    ensures { Gives (λ x. (x.0, x.1.now)) result (outline_at octets.now) }
+fn outline_at(alloc: Global, octets: &[u8]) -> Result<(OutlineParts, KeyList, &[u8]), DecodeError>
+    ensures { Gives (λ x. ((x.0, x.1), x.2.now)) result (outline_at octets.now) }
 {
     let (parameters, rest) = parameters_at(alloc, octets)?;
     let (rows, rest) = row_count_at(rest)?;
-    let (ends, rest) = key_ends_at(rows, rest)?;
+    let (keys, rest) = keys_at(alloc, rows, rest)?;
+    let ends = key_ends(keys.as_slice());
     let (ranges, rest) = ranges_at(alloc, parameters.len(), rows, rest)?;
     let parts = OutlineParts {
         parameters,
@@ -152,13 +158,24 @@ fn outline_at(alloc: Global, octets: &[u8]) -> Result<(OutlineParts, &[u8]), Dec
         ends,
         ranges,
     };
-    Ok((parts, rest))
+    Ok((parts, keys, rest))
+}
+
+/// Keys, where each took four octets or more of a spelling: kept so, they take at most four times its room.
+fn kept_keys(keys: KeyList, octet_len: usize) -> Option<KeyList>
+    ensures { IfSome result (λ kept. kept ≡ keys) }
+{
+    if keys.len() <= octet_len / 4 {
+        return Some(keys);
+    }
+    None
 }
 
 /// The outline of the segment whose spelling stands in octets from a place on, and the place where it ends.
 ///
 /// Any octets may be given, and any place, also past their end: what isn't a spelling to the last bit is Malformed.
-/// Room is made for its parameters and for two values a column alone, each of which takes octets.
+/// Room is made for its parameters and for two values a column, each of which takes octets, and for its keys, which are
+/// kept only where its rows took four octets each.
 pub fn read_outline(
     alloc: Global,
     octets: &[u8],
@@ -174,10 +191,11 @@ pub fn read_outline(
         return Err(NotASegment::Malformed);
     }
     let (_, front) = octets.split_at(at);
-    let (parts, rest) = outline_at(alloc, front)?;
+    let (parts, keys, rest) = outline_at(alloc, front)?;
     let end = octets.len() - rest.len();
     let outline = SegmentOutline {
         parts,
+        keys: kept_keys(keys, end - at),
         octets: front,
     };
     Ok((outline, end))

@@ -76,7 +76,7 @@ fn take_at_hand(pending: Pending, width: u32) -> (u64, Pending)
 
 /// The next number of up to 64 bits.
 #[inline(always)]
-fn take(rest: &[u8], pending: Pending, width: u32) -> (u64, Pending, &[u8])
+pub(crate) fn take(rest: &[u8], pending: Pending, width: u32) -> (u64, Pending, &[u8])
     requires pending { IsPending pending }
     requires width { width ≤ 64 }
     requires enough { width ≤ unread_bits pending rest.now }

@@ -1,4 +1,4 @@
-use Rattle.std.proofs.Common.{arith}
+use Rattle.std.proofs.Common.{None, arith}
 use Rattle.std.proofs.lemmas.Result.{err_from_is_err_and}
 use Rattle.segment_codec.proofs.Outlines.{front_is, outline_memory, outline_stands}
 use Rattle.segment_codec.proofs.Places.{at_within}
@@ -14,19 +14,25 @@ returns-in_err-parts-clause-memory c = λ s has.
 
 pub overflow_sub-end : goal.overflow_sub-end
 overflow_sub-end c =
-    (outline_stands c.args.octets.now c.split_at.result.1.now c.args.at c.in_ok-parts.parts c.in_ok-parts.rest.now c.if-octets-at.false (λ i. omega (arith, c.type_inv.octets i)) c.split_at.ensures.back c.in_ok-parts.ensures).3
+    (outline_stands c.args.octets.now c.split_at.result.1.now c.args.at (c.in_ok-parts.parts, c.in_ok-parts.keys) c.in_ok-parts.rest.now None c.if-octets-at.false (λ i. omega (arith, c.type_inv.octets i)) c.split_at.ensures.back c.in_ok-parts.ensures tt).3
 
 pub invariant_of-outline : goal.invariant_of-outline
 invariant_of-outline c =
-    (outline_stands c.args.octets.now c.split_at.result.1.now c.args.at c.in_ok-parts.parts c.in_ok-parts.rest.now c.if-octets-at.false (λ i. omega (arith, c.type_inv.octets i)) c.split_at.ensures.back c.in_ok-parts.ensures).0
+    (outline_stands c.args.octets.now c.split_at.result.1.now c.args.at (c.in_ok-parts.parts, c.in_ok-parts.keys) c.in_ok-parts.rest.now c.kept_keys.result c.if-octets-at.false (λ i. omega (arith, c.type_inv.octets i)) c.split_at.ensures.back c.in_ok-parts.ensures c.kept_keys.ensures).0
 
 pub returns-clause-found : goal.returns-clause-found
 returns-clause-found c =
-    (outline_stands c.args.octets.now c.split_at.result.1.now c.args.at c.in_ok-parts.parts c.in_ok-parts.rest.now c.if-octets-at.false (λ i. omega (arith, c.type_inv.octets i)) c.split_at.ensures.back c.in_ok-parts.ensures).1
+    (outline_stands c.args.octets.now c.split_at.result.1.now c.args.at (c.in_ok-parts.parts, c.in_ok-parts.keys) c.in_ok-parts.rest.now None c.if-octets-at.false (λ i. omega (arith, c.type_inv.octets i)) c.split_at.ensures.back c.in_ok-parts.ensures tt).1
 
 pub returns-clause-end : goal.returns-clause-end
 returns-clause-end c =
-    (outline_stands c.args.octets.now c.split_at.result.1.now c.args.at c.in_ok-parts.parts c.in_ok-parts.rest.now c.if-octets-at.false (λ i. omega (arith, c.type_inv.octets i)) c.split_at.ensures.back c.in_ok-parts.ensures).2
+    (outline_stands c.args.octets.now c.split_at.result.1.now c.args.at (c.in_ok-parts.parts, c.in_ok-parts.keys) c.in_ok-parts.rest.now None c.if-octets-at.false (λ i. omega (arith, c.type_inv.octets i)) c.split_at.ensures.back c.in_ok-parts.ensures tt).2
 
 pub returns-clause-same : goal.returns-clause-same
 returns-clause-same c = λ s has. front_is c.args.octets.now c.split_at.result.1.now c.args.at s has c.split_at.ensures.back
+
+pub overflow_sub-end-2 : goal.overflow_sub-end-2
+overflow_sub-end-2 c =
+    let end =
+    (outline_stands c.args.octets.now c.split_at.result.1.now c.args.at (c.in_ok-parts.parts, c.in_ok-parts.keys) c.in_ok-parts.rest.now None c.if-octets-at.false (λ i. omega (arith, c.type_inv.octets i)) c.split_at.ensures.back c.in_ok-parts.ensures tt).2 in
+    omega arith

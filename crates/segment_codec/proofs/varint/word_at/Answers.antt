@@ -1,4 +1,4 @@
-use Rattle.std.proofs.Common.{ℕ, ◌+◌, ◌*◌, ◌<◌, List, ap, drop, get_or, ◌∙◌, rules, arith, length, refl}
+use Rattle.std.proofs.Common.{ℕ, ◌+◌, ◌*◌, ◌<◌, List, ap, drop, get_or, ◌∙◌, arith}
 use Rattle.segment_codec.specs.Varint.{varint_at}
 use Rattle.segment_codec.proofs.Varints.{behind, behind-more, behind_last, octet_next, short_of, word_weight_le, word_digit_fits, first_small, weight_more, low_more}
 use Rattle.segment_codec.proofs.varint.word_at.Goals as goal
