@@ -8,6 +8,7 @@ use Rattle.refusals.specs.Limits.{limit_of}
 use Rattle.csv.specs.Reading.{default_config, records, strip_bom}
 use Rattle.mdb_items.specs.declared.sheet.RawMdb.{RawMdb}
 use Rattle.outer_traits.specs.Outside.{Files, HasRisen, IsOneMoreAtMost, Stays, one_more}
+use Rattle.outer_traits.specs.States.{InputsState}
 use Rattle.outer_traits.specs.Whole.{IsThere}
 use Rattle.command_plans.specs.Ledger.{given_more}
 
@@ -54,11 +55,13 @@ IsSheetRefused files name faults faults' given given' refusal =
     IsSheetRefusal files name faults faults' refusal × SourcesOfSheet refusal given given'
 
 -- the refusal is that of the first sheet that isn't read, and each sheet before it gave one source
-abbrev pub IsRefusal : Option Files → List ℕ → List ℕ → List ℕ → ℕ → ℕ → ℕ → ℕ → Refusal → Type 0
-IsRefusal files parameters calibrations containers faults faults' given given' refusal =
-    IsSheetRefused files parameters faults faults' given given' refusal
-    ⊎ (HasSheet files parameters × IsSheetRefused files calibrations faults faults' (given_more 1 given) given' refusal)
-    ⊎ (HasSheet files parameters × HasSheet files calibrations × IsSheetRefused files containers faults faults' (given_more 2 given) given' refusal)
+abbrev pub IsRefusal : InputsState → InputsState → List ℕ → List ℕ → List ℕ → Refusal → Type 0
+IsRefusal old new parameters calibrations containers refusal =
+    IsSheetRefused old.files parameters old.faults new.faults old.given new.given refusal
+    ⊎ (HasSheet old.files parameters
+    × IsSheetRefused old.files calibrations old.faults new.faults (given_more 1 old.given) new.given refusal)
+    ⊎ (HasSheet old.files parameters × HasSheet old.files calibrations
+    × IsSheetRefused old.files containers old.faults new.faults (given_more 2 old.given) new.given refusal)
 
 -- a count of reads that failed has risen where the refusal is ReadFault, and else is as before
 abbrev pub ReadsCounted : Option Refusal → ℕ → ℕ → Type 0

@@ -30,9 +30,8 @@ pub fn read_mdb<I: Inputs>(
         containers.now) result (I.state inputs.old) (I.state inputs.new) }
 
     ensures sheets { IfOk result (AreSheets (I.state inputs.old).files parameters.now calibrations.now containers.now) }
-    ensures refused { IfErr result (IsRefusal (I.state inputs.old).files parameters.now calibrations.now
-        containers.now (I.state inputs.old).faults (I.state inputs.new).faults (I.state inputs.old).given
-        (I.state inputs.new).given) }
+    ensures refused { IfErr result (IsRefusal (I.state inputs.old) (I.state inputs.new) parameters.now
+        calibrations.now containers.now) }
     ensures gave { OnOk result ((I.state inputs.new).given ≡ given_more 3 (I.state inputs.old).given) }
     ensures same { (I.state inputs.new).files ≡ (I.state inputs.old).files }
     ensures closed { (I.state inputs.old).open_sources + 1 < 2 ^ 64 →
