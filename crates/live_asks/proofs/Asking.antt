@@ -1,5 +1,5 @@
 -- Asks that are answered in a turn.
-use Rattle.std.proofs.Common.{◌≡◌, ◌⊎◌, inl, inr, ℕ, ◌≤◌, ℤ, ◌≤ℤ◌, false, List, length, Result, Ok, Err, MatchResult, Option, Some, None, refl, sym, ap, ◌∙◌, subst, arith}
+use Rattle.std.proofs.Common.{◌≡◌, ◌⊎◌, inl, inr, ℕ, ◌≤◌, ℤ, ◌≤ℤ◌, false, List, [], length, Result, Ok, Err, IfOk, IfErr, MatchResult, Option, Some, None, refl, sym, ap, ◌∙◌, subst, arith, append-nil}
 use Rattle.std.specs.Prelude.{IsTrue, int_lt}
 use Rattle.std.proofs.lemmas.Int.{ints}
 use Rattle.arch_disk.specs.Disk.{Device}
@@ -31,16 +31,24 @@ use Rattle.archive_store.specs.Finding.{IsNotFound, IsRequestFound}
 use Rattle.archive_store.specs.Replays.{IsReplayOpened, rows_below}
 use Rattle.archive_store.specs.Stands.{IsSoundImage}
 use Rattle.archive_store.specs.StoreView.{StoreView, filled_of}
-use Rattle.archive_store.proofs.UnreadRows.{refusal_is_memory}
+use Rattle.archive_store.specs.UnreadRows.{IsLeftByAnswer}
+use Rattle.archive_store.proofs.UnreadRows.{answer_same, refusal_is_memory}
 use Rattle.retrieval.specs.FilledAnswer.{IsFilledAnswer}
+use Rattle.retrieval.specs.declared.found_asks.FoundAsk.{FoundAsk}
 use Rattle.retrieval.specs.declared.found_asks.FoundAsk.TheVariants as looked_up
 use Rattle.live_archive.specs.GoesOn.{GoesOn, HasFillOrNew}
-use Rattle.live_archive.specs.Retrievals.{IsAnswerIn, IsNotAnswered, in_force}
+use Rattle.live_archive.specs.Retrievals.{IsAnswerIn, IsNotAnswered, in_force, steps_allowed}
 use Rattle.live_archive.specs.Turns.{TookTurn}
 use Rattle.live_archive.proofs.Going.{prefix_trans}
+use Rattle.live_asks.specs.declared.answered.AskAnswer.{AskAnswer}
 use Rattle.live_asks.specs.declared.answered.AskAnswer.TheVariants as answered
-use Rattle.live_asks.specs.LiveAsks.{AreFillsSince, IsAnsweredInTurn, OnlySees, disk_facts}
-use Rattle.live_asks.proofs.Sees.{found_begins, found_is_seen, sees_turn}
+use Rattle.live_asks.specs.LiveAsks.{AreFillsSince, HasCellsOf, IsAnsweredInTurn, IsAskedInTurn, OnlySees, TurnBetween, behind_ask, disk_facts, reader_view, steps_allowed_behind}
+use Rattle.live_asks.proofs.Sees.{found_begins, found_is_seen, sees_turn, turn_between}
+
+-- the steps that were counted before are among those that are allowed
+at_least : {D : Type 0} (store : StoreView D) (ask : FoundAsk) (taken : ℕ) → taken ≤ steps_allowed_behind store ask taken
+at_least store (looked_up.Values found) taken = omega arith
+at_least store (looked_up.Replay found) taken = omega arith
 
 -- a request that was found has an answer
 found_is_answered : (db : Database) (found : FoundRequest) → IsRequestFound db found → request_refusal db found.request ≡ None
@@ -68,47 +76,103 @@ fills_since device first now goes known interval = go (goes.sets known interval)
     go (inr new) = inr (new.fill, new.has, new.right)
 
 module _ {D T : Type 0} (device : Device D) (first : StoreView D) (old new : PassView Item Fill T) where
+  -- ---- asks that took no steps
+
+  -- one for which there was no memory
+  pub unasked : (taken : ℕ) (ask : FoundAsk) (refusal : Refusal) → OnlySees old new → refusal ≡ OutOfMemory → IsAskedInTurn device first (reader_view old taken) (reader_view new taken) ask (Err refusal)
+  unasked taken ask refusal sees memory = record {
+    turn = record {
+      history = old.history.seen;
+      fills = old.fills.seen;
+      later = ([], append-nil old.history.seen);
+      fills_later = ([], append-nil old.fills.seen);
+      begins = sees.begins;
+      fills_begin = sees.fills_begin;
+    };
+    said = memory;
+    steps = at_least (record first { history = old.history.seen; fills = old.fills.seen }) ask taken;
+  }
+
+  -- one that takes none
+  pub replay_asked : (taken : ℕ) (found : FoundReplay) (result : Result AskAnswer Refusal) → OnlySees old new
+      → IfOk result (IsAnsweredInTurn (disk_facts device first.opened) (filled_of first) old.history.seen new.history.seen (looked_up.Replay found)) → IfErr result (λ refusal. refusal ≡ OutOfMemory)
+      → IsAskedInTurn device first (reader_view old taken) (reader_view new taken) (looked_up.Replay found) result
+  replay_asked taken found (Ok answer) sees is refused = record {
+    turn = record {
+      history = is.over;
+      fills = old.fills.seen;
+      later = is.later;
+      fills_later = ([], append-nil old.fills.seen);
+      begins = is.begins;
+      fills_begin = sees.fills_begin;
+    };
+    said = is.answers;
+    steps = at_least (record first { history = is.over; fills = old.fills.seen }) (looked_up.Replay found) taken;
+  }
+  replay_asked taken found (Err refusal) sees is refused = unasked taken (looked_up.Replay found) refusal sees refused
+
   -- ---- values
-  module _ (found : FoundRequest) where
-    values_answered : (answer : Answer) (turn : TookTurn device first old new (λ before after. (after ≡ before) × IsAnswerIn device before found.request answer))
-        → IsAnsweredInTurn (disk_facts device first.opened) (filled_of first) old.history.seen new.history.seen (looked_up.Values found) (answered.Values answer)
-    values_answered answer turn =
+  module _ (found : FoundRequest) (taken taken' : ℕ) where
+    -- what a retrieval says in its turn, of either answer
+    abbrev Says : Request → Result Answer Refusal → StoreView D → StoreView D → Type 0
+    Says request result before after =
+        IsLeftByAnswer device before after result
+        × MatchResult result (IsAnswerIn device before request) (IsNotAnswered device before after request)
+        × (taken' ≤ steps_allowed before request taken)
+
+    module _ (result : Result Answer Refusal) (turn : TookTurn device first old new (Says found.request result)) where
+      abbrev same : turn.after ≡ turn.before
+      same = answer_same device turn.before turn.after result turn.said.0
+
+      abbrev found_between : TurnBetween (reader_view old taken) (reader_view new taken')
+      found_between = turn_between device first turn.before turn.after old new turn.turned same taken taken'
+
+      -- the rows that were late in the turn
+      few_steps : taken' ≤ (behind_ask first taken turn.before.history turn.before.fills (looked_up.Values found)).steps
+      few_steps =
+          let before = turn.before in
+          let request = found.request in
+          subst (λ (exponent : ℕ). taken' ≤ steps_allowed (record first { exponent = exponent; history = before.history; fills = before.fills }) request taken) turn.turned.found.appends.exponent turn.said.2
+
+    has_cells : (answer : Answer) (turn : TookTurn device first old new (Says found.request (Ok answer))) → HasCellsOf (disk_facts device first.opened) (filled_of first) turn.before.history found.request answer
+    has_cells answer turn =
         let before = turn.before in
         let request = found.request in
         let goes = turn.turned.found.appends in record {
-          over = before.history;
-          later = turn.turned.begins;
-          begins = found_begins device first before turn.after old new turn.turned turn.said.0;
-          answers = record {
-            fillings = fillings_in before.filled;
-            since = fills_since device first before turn.turned.found;
-            filled = subst (λ (head : Head). IsFilledAnswer (database_in head.mdb before.history) first.exponent before.history (fillings_in before.filled) request answer) goes.head
-                (subst (λ (exponent : ℕ). IsFilledAnswer (in_force before) exponent before.history (fillings_in before.filled) request answer) goes.exponent turn.said.1.filled);
-            cells = λ clear sound. subst
-                (λ (head : Head). (number : ℕ) × (parameter_number (database_in head.mdb before.history) request.parameter ≡ Some number)
-                × (answer.cells ≡ answer_of (database_in head.mdb before.history) number request (rows_in before.history)))
-                goes.head (turn.said.1.answered clear (subst (λ (disk : D). IsSoundImage (device.reads disk)) (sym goes.opened) sound));
-          };
+          fillings = fillings_in before.filled;
+          since = fills_since device first before turn.turned.found;
+          filled = subst (λ (head : Head). IsFilledAnswer (database_in head.mdb before.history) first.exponent before.history (fillings_in before.filled) request answer) goes.head
+              (subst (λ (exponent : ℕ). IsFilledAnswer (in_force before) exponent before.history (fillings_in before.filled) request answer) goes.exponent turn.said.1.filled);
+          cells = λ clear sound. subst
+              (λ (head : Head). (number : ℕ) × (parameter_number (database_in head.mdb before.history) request.parameter ≡ Some number)
+              × (answer.cells ≡ answer_of (database_in head.mdb before.history) number request (rows_in before.history)))
+              goes.head (turn.said.1.answered clear (subst (λ (disk : D). IsSoundImage (device.reads disk)) (sym goes.opened) sound));
         }
 
-    -- what a retrieval of an equal request says in its turn, of either answer
-    module _ (request : Request) (same : request ≡ found.request) where
+    -- of an equal request
+    module _ (request : Request) (equal : request ≡ found.request) where
       abbrev Retrieves : Result Answer Refusal → Type 0
-      Retrieves result = TookTurn device first old new (λ before after. (after ≡ before) × MatchResult result (IsAnswerIn device before request) (IsNotAnswered device before after request))
+      Retrieves result = TookTurn device first old new (Says request result)
 
-      of_found : (result : Result Answer Refusal) → Retrieves result → TookTurn device first old new (λ before after. (after ≡ before) × MatchResult result (IsAnswerIn device before found.request) (IsNotAnswered device before after found.request))
-      of_found result turn = subst (λ (r : Request). TookTurn device first old new (λ before after. (after ≡ before) × MatchResult result (IsAnswerIn device before r) (IsNotAnswered device before after r))) same turn
+      abbrev of_found : (result : Result Answer Refusal) → Retrieves result → TookTurn device first old new (Says found.request result)
+      of_found result turn = subst (λ (r : Request). TookTurn device first old new (Says r result)) equal turn
 
       pub retrieval_sees : (result : Result Answer Refusal) → Retrieves result → OnlySees old new
-      retrieval_sees result turn = sees_turn device first turn.before turn.after old new turn.turned turn.said.0
+      retrieval_sees result turn = sees_turn device first turn.before turn.after old new turn.turned (answer_same device turn.before turn.after result turn.said.0)
 
-      pub retrieval_answers : (answer : Answer) → Retrieves (Ok answer) → IsAnsweredInTurn (disk_facts device first.opened) (filled_of first) old.history.seen new.history.seen (looked_up.Values found) (answered.Values answer)
-      retrieval_answers answer turn = values_answered answer (of_found (Ok answer) turn)
+      pub retrieval_answers : (answer : Answer) → Retrieves (Ok answer) → IsAskedInTurn device first (reader_view old taken) (reader_view new taken') (looked_up.Values found) (Ok (answered.Values answer))
+      retrieval_answers answer turn =
+          let t = of_found (Ok answer) turn in
+          record { turn = found_between (Ok answer) t; said = has_cells answer t; steps = few_steps (Ok answer) t }
 
-      pub retrieval_refuses : (refusal : Refusal) → IsRequestFound (database_in first.head.mdb first.history) found → Retrieves (Err refusal) → refusal ≡ OutOfMemory
+      pub retrieval_refuses : (refusal : Refusal) → IsRequestFound (database_in first.head.mdb first.history) found → Retrieves (Err refusal)
+          → IsAskedInTurn device first (reader_view old taken) (reader_view new taken') (looked_up.Values found) (Err refusal)
       retrieval_refuses refusal is turn =
-          let t = of_found (Err refusal) turn in
-          memory_alone device t.before t.after found refusal (subst (λ (db : Database). IsRequestFound db found) (sym t.turned.found.database.in_force) is) t.said.1
+          let t = of_found (Err refusal) turn in record {
+            turn = found_between (Err refusal) t;
+            said = memory_alone device t.before t.after found refusal (subst (λ (db : Database). IsRequestFound db found) (sym t.turned.found.database.in_force) is) t.said.1;
+            steps = few_steps (Err refusal) t;
+          }
 
   -- ---- replays
   abbrev Opens : FoundReplay → CursorView → Type 0

@@ -1,58 +1,26 @@
 -- Asks that are answered one after the other.
-use Rattle.std.proofs.Common.{◌≡◌, ℕ, zero, suc, ◌-◌, ◌<◌, List, [], ◌∷◌, ◌++◌, Option, Some, None, refl, sym, ap, ◌∙◌, subst, arith, append_assoc, append-nil}
+use Rattle.std.proofs.Common.{◌≡◌, ℕ, zero, suc, ◌-◌, ◌<◌, ◌≤◌, List, [], ◌∷◌, ◌++◌, Ok, Err, Option, Some, None, refl, sym, ap, ◌∙◌, subst, arith, append_assoc, append-nil}
 use mathlib.Core.List.{IsPrefix}
+use Rattle.arch_disk.specs.Disk.{Device}
 use Rattle.refusals.specs.declared.refusal.Refusal.{Refusal}
 use Rattle.refusals.specs.declared.refusal.Refusal.TheVariants.{OutOfMemory}
+use Rattle.history_items.specs.declared.fills.Fill.{Fill}
 use Rattle.history_items.specs.declared.items.Item.{Item}
+use Rattle.turn_cell.specs.Pass.{PassView}
 use Rattle.archive_store.specs.Entries.{FilledArchive}
+use Rattle.archive_store.specs.StoreView.{StoreView, filled_of}
 use Rattle.retrieval.specs.declared.found_asks.FoundAsk.{FoundAsk}
+use Rattle.retrieval.specs.declared.found_asks.FoundAsk.TheVariants as looked_up
 use Rattle.live_archive.proofs.Going.{prefix_trans}
 use Rattle.live_asks.specs.declared.answered.AskAnswer.{AskAnswer}
-use Rattle.live_asks.specs.LiveAsks.{AreAnswered, DiskFacts, IsAnsweredInTurn, every_fourth}
+use Rattle.live_asks.specs.LiveAsks.{AreAnswered, AreAskedInTurns, DiskFacts, IsAnsweredInTurn, IsAskedInTurn, OnlySees, ReaderView, TurnBetween, behind_ask, disk_facts, every_fourth, reader_view, steps_allowed_behind}
+
+-- ---- what was answered stays so
 
 module _ (facts : DiskFacts) (opened : FilledArchive) where
-  -- each of these is answered, over a history that goes on from that of the one before
-  abbrev pub EachAnswered : List Item → List Item → List FoundAsk → List AskAnswer → Type 0
-  EachAnswered old seen [] [] = Unit {0}
-  EachAnswered old seen [] (answer ∷ answers) = ⊥
-  EachAnswered old seen (ask ∷ asks) [] = ⊥
-  EachAnswered old seen (ask ∷ asks) (answer ∷ answers) = (turn : IsAnsweredInTurn facts opened old seen ask answer) × EachAnswered turn.over seen asks answers
-
   -- as the pass sees more
   abbrev pub answer_stays : (old seen later : List Item) (ask : FoundAsk) (answer : AskAnswer) → IsPrefix seen later → IsAnsweredInTurn facts opened old seen ask answer → IsAnsweredInTurn facts opened old later ask answer
   answer_stays old seen later ask answer more is = record { over = is.over; later = is.later; begins = prefix_trans is.over seen later is.begins more; answers = is.answers }
-
-  -- behind an older history
-  answer_since : (old mid seen : List Item) (ask : FoundAsk) (answer : AskAnswer) → IsPrefix old mid → IsAnsweredInTurn facts opened mid seen ask answer → IsAnsweredInTurn facts opened old seen ask answer
-  answer_since old mid seen ask answer more is = record { over = is.over; later = prefix_trans old mid is.over more is.later; begins = is.begins; answers = is.answers }
-
-  pub each_stays : (old seen later : List Item) (asks : List FoundAsk) (answers : List AskAnswer) → IsPrefix seen later → EachAnswered old seen asks answers → EachAnswered old later asks answers
-  each_stays old seen later [] [] more each = tt
-  each_stays old seen later [] (answer ∷ answers) more each = absurd each
-  each_stays old seen later (ask ∷ asks) [] more each = absurd each
-  each_stays old seen later (ask ∷ asks) (answer ∷ answers) more each = (answer_stays old seen later ask answer more each.0, each_stays each.0.over seen later asks answers more each.1)
-
-  -- with one more, in a turn that found more than was seen
-  pub each_more : (old seen later : List Item) (asks : List FoundAsk) (answers : List AskAnswer) (ask : FoundAsk) (answer : AskAnswer) → IsPrefix old seen → IsPrefix seen later → EachAnswered old seen asks answers
-      → IsAnsweredInTurn facts opened seen later ask answer → EachAnswered old later (asks ++ ask ∷ []) (answers ++ answer ∷ [])
-  each_more old seen later [] [] ask answer begins more each is = (answer_since old seen later ask answer begins is, tt)
-  each_more old seen later [] (answer' ∷ answers) ask answer begins more each is = absurd each
-  each_more old seen later (ask' ∷ asks) [] ask answer begins more each is = absurd each
-  each_more old seen later (ask' ∷ asks) (answer' ∷ answers) ask answer begins more each is =
-      (answer_stays old seen later ask' answer' more each.0, each_more each.0.over seen later asks answers ask answer each.0.begins more each.1 is)
-
-  pub all_answered : (old seen : List Item) (asks : List FoundAsk) (answers : List AskAnswer) → EachAnswered old seen asks answers → AreAnswered facts opened old seen asks answers None
-  all_answered old seen [] [] each = tt
-  all_answered old seen [] (answer ∷ answers) each = absurd each
-  all_answered old seen (ask ∷ asks) [] each = absurd each
-  all_answered old seen (ask ∷ asks) (answer ∷ answers) each = (each.0, all_answered each.0.over seen asks answers each.1)
-
-  pub one_unanswered : (old seen : List Item) (asks : List FoundAsk) (answers : List AskAnswer) (ask : FoundAsk) (more : List FoundAsk) (refusal : Refusal) → EachAnswered old seen asks answers
-      → refusal ≡ OutOfMemory → AreAnswered facts opened old seen (asks ++ ask ∷ more) answers (Some refusal)
-  one_unanswered old seen [] [] ask more refusal each is = is
-  one_unanswered old seen [] (answer ∷ answers) ask more refusal each is = absurd each
-  one_unanswered old seen (ask' ∷ asks) [] ask more refusal each is = absurd each
-  one_unanswered old seen (ask' ∷ asks) (answer ∷ answers) ask more refusal each is = (each.0, one_unanswered each.0.over seen asks answers ask more refusal each.1 is)
 
   -- what a reader was answered stays so
   pub are_answered_later : (old seen later : List Item) (asks : List FoundAsk) (answers : List AskAnswer) (refusal : Option Refusal) → IsPrefix seen later → AreAnswered facts opened old seen asks answers refusal
@@ -64,18 +32,112 @@ module _ (facts : DiskFacts) (opened : FilledArchive) where
   are_answered_later old seen later (ask ∷ asks) [] (Some refusal) more are = are
   are_answered_later old seen later (ask ∷ asks) (answer ∷ answers) refusal more are = (answer_stays old seen later ask answer more are.0, are_answered_later are.0.over seen later asks answers refusal more are.1)
 
+-- ---- turns
+
+-- the lists of one reader begin those of another
+pub record SeesMore (old new : ReaderView) : Type 0 where
+  pub history : IsPrefix old.history new.history
+  pub fills : IsPrefix old.fills new.fills
+
+-- those of a pass that only sees
+pub lists_seen : {T : Type 0} (old new : PassView Item Fill T) (taken taken' : ℕ) → OnlySees old new → SeesMore (reader_view old taken) (reader_view new taken')
+lists_seen old new taken taken' sees = record { history = sees.begins; fills = sees.fills_begin }
+
+-- a turn stays between as the reader sees more
+abbrev turn_stays : (old new later : ReaderView) → SeesMore new later → TurnBetween old new → TurnBetween old later
+turn_stays old new later more turn = record {
+  history = turn.history;
+  fills = turn.fills;
+  later = turn.later;
+  fills_later = turn.fills_later;
+  begins = prefix_trans turn.history new.history later.history turn.begins more.history;
+  fills_begin = prefix_trans turn.fills new.fills later.fills turn.fills_begin more.fills;
+}
+
+-- and behind an older one
+abbrev turn_since : (older old new : ReaderView) → SeesMore older old → TurnBetween old new → TurnBetween older new
+turn_since older old new more turn = record {
+  history = turn.history;
+  fills = turn.fills;
+  later = prefix_trans older.history old.history turn.history more.history turn.later;
+  fills_later = prefix_trans older.fills old.fills turn.fills more.fills turn.fills_later;
+  begins = turn.begins;
+  fills_begin = turn.fills_begin;
+}
+
+-- what is allowed behind a count is allowed behind a higher one
+allowed_since : {D : Type 0} (store : StoreView D) (ask : FoundAsk) (older old new : ℕ) → old ≤ older → new ≤ steps_allowed_behind store ask old → new ≤ steps_allowed_behind store ask older
+allowed_since store (looked_up.Values found) older old new fewer few = omega (arith, fewer, few)
+allowed_since store (looked_up.Replay found) older old new fewer few = omega (arith, fewer, few)
+
+module _ {D : Type 0} (device : Device D) (first : StoreView D) where
+  -- an ask behind an older view, of as many steps at least
+  asked_since : (older old new : ReaderView) (ask : FoundAsk) → SeesMore older old → old.steps ≤ older.steps → (turn : TurnBetween old new)
+      → new.steps ≤ (behind_ask first old.steps turn.history turn.fills ask).steps → new.steps ≤ (behind_ask first older.steps turn.history turn.fills ask).steps
+  asked_since older old new ask more fewer turn few = allowed_since (record first { history = turn.history; fills = turn.fills }) ask older.steps old.steps new.steps fewer few
+
+  -- one that was answered, for whose answer there is no room
+  pub not_kept : (old new : ReaderView) (ask : FoundAsk) (answer : AskAnswer) → IsAskedInTurn device first old new ask (Ok answer) → IsAskedInTurn device first old new ask (Err OutOfMemory)
+  not_kept old new ask answer is = record { turn = is.turn; said = refl; steps = is.steps }
+
+  -- with one more, in a turn that found more than was seen
+  pub asked_more : (old seen later : ReaderView) (asks : List FoundAsk) (answers : List AskAnswer) (ask : FoundAsk) (answer : AskAnswer) → SeesMore old seen → SeesMore seen later
+      → AreAskedInTurns device first old seen asks answers None → IsAskedInTurn device first seen later ask (Ok answer)
+      → AreAskedInTurns device first old later (asks ++ ask ∷ []) (answers ++ answer ∷ []) None
+  asked_more old seen later [] [] ask answer begins more each is = (turn_since old seen later begins is.turn, is.said, asked_since old seen later ask begins each is.turn is.steps)
+  asked_more old seen later [] (answer' ∷ answers) ask answer begins more each is = absurd each
+  asked_more old seen later (ask' ∷ asks) [] ask answer begins more each is = absurd each
+  asked_more old seen later (ask' ∷ asks) (answer' ∷ answers) ask answer begins more each is = (
+    turn_stays old seen later more each.0,
+    each.1,
+    asked_more (behind_ask first old.steps each.0.history each.0.fills ask') seen later asks answers ask answer (record { history = each.0.begins; fills = each.0.fills_begin }) more each.2 is,
+  )
+
+  pub one_unanswered : (old seen later : ReaderView) (asks : List FoundAsk) (answers : List AskAnswer) (ask : FoundAsk) (left : List FoundAsk) (refusal : Refusal) → SeesMore old seen → SeesMore seen later
+      → AreAskedInTurns device first old seen asks answers None → IsAskedInTurn device first seen later ask (Err refusal)
+      → AreAskedInTurns device first old later (asks ++ ask ∷ left) answers (Some refusal)
+  one_unanswered old seen later [] [] ask left refusal begins more each is = record {
+    turn = turn_since old seen later begins is.turn;
+    said = is.said;
+    steps = asked_since old seen later ask begins each is.turn is.steps;
+  }
+  one_unanswered old seen later [] (answer ∷ answers) ask left refusal begins more each is = absurd each
+  one_unanswered old seen later (ask' ∷ asks) [] ask left refusal begins more each is = absurd each
+  one_unanswered old seen later (ask' ∷ asks) (answer ∷ answers) ask left refusal begins more each is = (
+    turn_stays old seen later more each.0,
+    each.1,
+    one_unanswered (behind_ask first old.steps each.0.history each.0.fills ask') seen later asks answers ask left refusal (record { history = each.0.begins; fills = each.0.fills_begin }) more each.2 is,
+  )
+
+  -- what was asked in turns is answered
+  pub asked_are_answered : (old seen : ReaderView) (asks : List FoundAsk) (answers : List AskAnswer) (refusal : Option Refusal) → AreAskedInTurns device first old seen asks answers refusal
+      → AreAnswered (disk_facts device first.opened) (filled_of first) old.history seen.history asks answers refusal
+  asked_are_answered old seen [] [] None are = tt
+  asked_are_answered old seen [] [] (Some refusal) are = absurd are
+  asked_are_answered old seen [] (answer ∷ answers) refusal are = absurd are
+  asked_are_answered old seen (ask ∷ asks) [] None are = absurd are
+  asked_are_answered old seen (ask ∷ asks) [] (Some refusal) are = are.said
+  asked_are_answered old seen (ask ∷ asks) (answer ∷ answers) refusal are = (
+    record { over = are.0.history; later = are.0.later; begins = are.0.begins; answers = are.1 },
+    asked_are_answered (behind_ask first old.steps are.0.history are.0.fills ask) seen asks answers refusal are.2,
+  )
+
   -- those answered so far of all that a reader has, and those that are left, which begin behind so many others
-  pub record AreAnsweredSoFar (old seen : List Item) (all left : List FoundAsk) (skip : ℕ) (answers : List AskAnswer) : Type 0 where
+  pub record AreAskedSoFar (old seen : ReaderView) (all left : List FoundAsk) (skip : ℕ) (answers : List AskAnswer) : Type 0 where
     pub done : List FoundAsk
     pub parts : all ≡ done ++ every_fourth skip left
-    pub each : EachAnswered old seen done answers
+    pub each : AreAskedInTurns device first old seen done answers None
 
-  pub none_so_far : (old seen : List Item) (asks : List FoundAsk) (before : ℕ) (answers : List AskAnswer) → answers ≡ [] → AreAnsweredSoFar old seen (every_fourth before asks) asks before answers
-  none_so_far old seen asks before answers none = record { done = []; parts = refl; each = subst (EachAnswered old seen []) (sym none) tt }
+  pub none_so_far : (old : ReaderView) (asks : List FoundAsk) (before : ℕ) (answers : List AskAnswer) → answers ≡ [] → AreAskedSoFar old old (every_fourth before asks) asks before answers
+  none_so_far old asks before answers none = record {
+    done = [];
+    parts = refl;
+    each = subst (λ (l : List AskAnswer). AreAskedInTurns device first old old [] l None) (sym none) (omega arith);
+  }
 
-  module _ (old seen : List Item) (all left more : List FoundAsk) (ask : FoundAsk) (is : left ≡ ask ∷ more) where
+  module _ (old seen : ReaderView) (all left more : List FoundAsk) (ask : FoundAsk) (is : left ≡ ask ∷ more) where
     -- an ask that others have
-    pub passed_by : (skip : ℕ) (answers : List AskAnswer) → 0 < skip → AreAnsweredSoFar old seen all left skip answers → AreAnsweredSoFar old seen all more (skip - 1) answers
+    pub passed_by : (skip : ℕ) (answers : List AskAnswer) → 0 < skip → AreAskedSoFar old seen all left skip answers → AreAskedSoFar old seen all more (skip - 1) answers
     passed_by zero answers some s = absurd (omega (arith, some))
     passed_by (suc skip) answers some s =
         let less : skip ≡ suc skip - 1 = omega arith in
@@ -85,27 +147,27 @@ module _ (facts : DiskFacts) (opened : FilledArchive) where
           each = s.each;
         }
 
-    whole : (skip : ℕ) (answers : List AskAnswer) → skip ≡ 0 → (s : AreAnsweredSoFar old seen all left skip answers) → all ≡ s.done ++ ask ∷ every_fourth 3 more
+    whole : (skip : ℕ) (answers : List AskAnswer) → skip ≡ 0 → (s : AreAskedSoFar old seen all left skip answers) → all ≡ s.done ++ ask ∷ every_fourth 3 more
     whole skip answers mine s = s.parts ∙ (ap (λ (n : ℕ). s.done ++ every_fourth n left) mine ∙ ap (λ (l : List FoundAsk). s.done ++ every_fourth 0 l) is)
 
     -- one that is answered
-    pub one_more : (later : List Item) (skip : ℕ) (answers answers' : List AskAnswer) (answer : AskAnswer) → skip ≡ 0 → IsPrefix old seen → IsPrefix seen later
-        → IsAnsweredInTurn facts opened seen later ask answer → answers' ≡ answers ++ answer ∷ [] → AreAnsweredSoFar old seen all left skip answers → AreAnsweredSoFar old later all more 3 answers'
+    pub one_more : (later : ReaderView) (skip : ℕ) (answers answers' : List AskAnswer) (answer : AskAnswer) → skip ≡ 0 → SeesMore old seen → SeesMore seen later
+        → IsAskedInTurn device first seen later ask (Ok answer) → answers' ≡ answers ++ answer ∷ [] → AreAskedSoFar old seen all left skip answers → AreAskedSoFar old later all more 3 answers'
     one_more later skip answers answers' answer mine begins longer it pushed s = record {
       done = s.done ++ ask ∷ [];
       parts = whole skip answers mine s ∙ sym (append_assoc s.done (ask ∷ []) (every_fourth 3 more));
-      each = subst (EachAnswered old later (s.done ++ ask ∷ [])) (sym pushed) (each_more old seen later s.done answers ask answer begins longer s.each it);
+      each = subst (λ (l : List AskAnswer). AreAskedInTurns device first old later (s.done ++ ask ∷ []) l None) (sym pushed) (asked_more old seen later s.done answers ask answer begins longer s.each it);
     }
 
     -- one for which there is no memory
-    pub ended_at : (later : List Item) (skip : ℕ) (answers : List AskAnswer) (refusal : Refusal) → skip ≡ 0 → IsPrefix seen later → refusal ≡ OutOfMemory → AreAnsweredSoFar old seen all left skip answers
-        → AreAnswered facts opened old later all answers (Some refusal)
-    ended_at later skip answers refusal mine longer memory s =
-        subst (λ (l : List FoundAsk). AreAnswered facts opened old later l answers (Some refusal)) (sym (whole skip answers mine s))
-        (one_unanswered old later s.done answers ask (every_fourth 3 more) refusal (each_stays old seen later s.done answers longer s.each) memory)
+    pub ended_at : (later : ReaderView) (skip : ℕ) (answers : List AskAnswer) (refusal : Refusal) → skip ≡ 0 → SeesMore old seen → SeesMore seen later
+        → IsAskedInTurn device first seen later ask (Err refusal) → AreAskedSoFar old seen all left skip answers → AreAskedInTurns device first old later all answers (Some refusal)
+    ended_at later skip answers refusal mine begins longer it s =
+        subst (λ (l : List FoundAsk). AreAskedInTurns device first old later l answers (Some refusal)) (sym (whole skip answers mine s))
+        (one_unanswered old seen later s.done answers ask (every_fourth 3 more) refusal begins longer s.each it)
 
   -- none is left
-  pub ended_all : (old seen : List Item) (all left : List FoundAsk) (skip : ℕ) (answers : List AskAnswer) → left ≡ [] → AreAnsweredSoFar old seen all left skip answers → AreAnswered facts opened old seen all answers None
+  pub ended_all : (old seen : ReaderView) (all left : List FoundAsk) (skip : ℕ) (answers : List AskAnswer) → left ≡ [] → AreAskedSoFar old seen all left skip answers → AreAskedInTurns device first old seen all answers None
   ended_all old seen all left skip answers none s =
       let done : all ≡ s.done = s.parts ∙ (ap (λ (l : List FoundAsk). s.done ++ every_fourth skip l) none ∙ append-nil s.done) in
-      subst (λ (l : List FoundAsk). AreAnswered facts opened old seen l answers None) (sym done) (all_answered old seen s.done answers s.each)
+      subst (λ (l : List FoundAsk). AreAskedInTurns device first old seen l answers None) (sym done) s.each

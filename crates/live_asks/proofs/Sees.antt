@@ -10,7 +10,7 @@ use Rattle.live_archive.specs.Added.{AddsTo}
 use Rattle.live_archive.specs.Turns.{Turned}
 use Rattle.live_archive.proofs.Added.{asks_add_nothing}
 use Rattle.live_archive.proofs.Going.{prefix_length, prefix_trans}
-use Rattle.live_asks.specs.LiveAsks.{OnlySees}
+use Rattle.live_asks.specs.LiveAsks.{OnlySees, TurnBetween, reader_view}
 
 module _ {T : Type 0} where
   pub sees_same : (pass : PassView Item Fill T) → OnlySees pass pass
@@ -38,17 +38,31 @@ module _ {T : Type 0} where
     pub found_is_seen : new.history.seen ≡ before.history
     found_is_seen = adds.history.seen ∙ append-nil before.history
 
+    pub fills_are_seen : new.fills.seen ≡ before.fills
+    fills_are_seen = adds.fills.seen ∙ append-nil before.fills
+
     -- an ask in a turn
     pub sees_turn : OnlySees old new
     sees_turn = record {
       share = adds.share;
       begins = subst (IsPrefix old.history.seen) (sym found_is_seen) adds.history.begins;
-      fills_begin = subst (IsPrefix old.fills.seen) (sym (adds.fills.seen ∙ append-nil before.fills)) adds.fills.begins;
+      fills_begin = subst (IsPrefix old.fills.seen) (sym fills_are_seen) adds.fills.begins;
       put_none = (adds.history.places ∙ append-nil old.history.places, adds.fills.places ∙ append-nil old.fills.places);
     }
 
     pub found_begins : IsPrefix before.history new.history.seen
     found_begins = ([], append-nil before.history ∙ sym found_is_seen)
+
+    -- what it found stands between what was seen before it and after
+    abbrev pub turn_between : (taken taken' : ℕ) → TurnBetween (reader_view old taken) (reader_view new taken')
+    turn_between taken taken' = record {
+      history = before.history;
+      fills = before.fills;
+      later = turn.begins;
+      fills_later = turn.fills_begin;
+      begins = found_begins;
+      fills_begin = ([], append-nil before.fills ∙ sym fills_are_seen);
+    }
 
   -- a front that was within what was seen stays so
   pub still_within : (front : ℕ) (old new : PassView Item Fill T) → OnlySees old new → front ≤ length old.history.seen → front ≤ length new.history.seen

@@ -1,5 +1,6 @@
 -- What a reader is told of a live archive.
-use Rattle.std.specs.Prelude.{◌≡◌, ◌⊎◌, ℕ, zero, suc, List, [], ◌∷◌, length, Option, Some, None, IsTrue}
+use Rattle.std.specs.Prelude.{◌≡◌, ◌⊎◌, ℕ, ◌≤◌, zero, suc, List, [], ◌∷◌, length, IsTrue}
+use Rattle.std.specs.Prelude.{Option, Some, None, Result, Err, MatchResult}
 use mathlib.Core.List.{IsPrefix}
 use Rattle.arch_disk.specs.Disk.{Device}
 use Rattle.asks.specs.declared.ask.Answer.{Answer}
@@ -22,9 +23,11 @@ use Rattle.turn_cell.specs.Pass.{PassView}
 use Rattle.archive_store.specs.declared.head.Head.{Head}
 use Rattle.archive_store.specs.Entries.{FilledArchive}
 use Rattle.archive_store.specs.Stands.{IsSoundImage}
+use Rattle.archive_store.specs.StoreView.{StoreView, filled_of}
 use Rattle.retrieval.specs.FilledAnswer.{IsFilledAnswer}
 use Rattle.retrieval.specs.declared.found_asks.FoundAsk.{FoundAsk}
 use Rattle.retrieval.specs.declared.found_asks.FoundAsk.TheVariants as looked_up
+use Rattle.live_archive.specs.Retrievals.{steps_allowed}
 use Rattle.live_asks.specs.declared.answered.ReplayedRows.{ReplayedRows}
 use Rattle.live_asks.specs.declared.answered.AskAnswer.{AskAnswer}
 use Rattle.live_asks.specs.declared.answered.AskAnswer.TheVariants as answered
@@ -116,3 +119,61 @@ AreAnswered facts opened old seen (ask ∷ asks) (answer ∷ answers) refusal =
     (turn : IsAnsweredInTurn facts opened old seen ask answer)
     × AreAnswered facts opened turn.over seen asks answers refusal
 AreAnswered facts opened old seen asks answers refusal = ⊥
+
+-- ---- answers with their steps
+
+-- what contracts see of a reader between its asks: the lists that its pass has seen, and the steps that it has counted
+pub record ReaderView : Type 0 where
+  pub history : List Item
+  pub fills : List Fill
+  pub steps : ℕ
+
+-- that of a pass and a count
+abbrev pub reader_view : {T : Type 0} → PassView Item Fill T → ℕ → ReaderView
+reader_view pass steps = record { history = pass.history.seen; fills = pass.fills.seen; steps = steps }
+
+-- The lists that some turn found: they go on from those that a reader had seen, and those that it has seen since go on
+-- from them.
+pub record TurnBetween (old new : ReaderView) : Type 0 where
+  pub history : List Item
+  pub fills : List Fill
+  pub later : IsPrefix old.history history
+  pub fills_later : IsPrefix old.fills fills
+  pub begins : IsPrefix history new.history
+  pub fills_begin : IsPrefix fills new.fills
+
+-- the most steps that are counted behind an ask: those that a request is allowed, and no more for a replay
+abbrev pub steps_allowed_behind : {D : Type 0} → StoreView D → FoundAsk → ℕ → ℕ
+steps_allowed_behind store (looked_up.Values found) taken = steps_allowed store found.request taken
+steps_allowed_behind store (looked_up.Replay found) taken = taken
+
+-- a reader that has seen the lists of a turn, and has counted the most steps that an ask is allowed over them
+abbrev pub behind_ask : {D : Type 0} → StoreView D → ℕ → List Item → List Fill → FoundAsk → ReaderView
+behind_ask first steps history fills ask = record {
+  history = history;
+  fills = fills;
+  steps = steps_allowed_behind (record first { history = history; fills = fills }) ask steps;
+}
+
+-- An ask is answered in some turn, or there was no memory for it: either took at most the steps that are allowed over
+-- the lists of that turn.
+pub record IsAskedInTurn {D : Type 0} (device : Device D) (first : StoreView D) (old new : ReaderView) (ask : FoundAsk)
+    (result : Result AskAnswer Refusal) : Type 0 where
+  pub turn : TurnBetween old new
+  pub said : MatchResult result (AnswersOver (disk_facts device first.opened) (filled_of first) turn.history ask)
+      (λ refusal. refusal ≡ OutOfMemory)
+  pub steps : new.steps ≤ (behind_ask first old.steps turn.history turn.fills ask).steps
+
+-- Each ask is answered in a turn behind that of the answer before, or, where there was no memory for one, those before
+-- it. Together they took at most the steps that each is allowed over the lists of its turn, and so with the one that
+-- isn't answered.
+abbrev pub AreAskedInTurns : {D : Type 0} → Device D → StoreView D → ReaderView → ReaderView → List FoundAsk
+    → List AskAnswer → Option Refusal → Type 0
+AreAskedInTurns device first old new [] [] None = new.steps ≤ old.steps
+AreAskedInTurns device first old new (ask ∷ asks) [] (Some refusal) =
+    IsAskedInTurn device first old new ask (Err refusal)
+AreAskedInTurns device first old new (ask ∷ asks) (answer ∷ answers) refusal =
+    (turn : TurnBetween old new)
+    × AnswersOver (disk_facts device first.opened) (filled_of first) turn.history ask answer
+    × AreAskedInTurns device first (behind_ask first old.steps turn.history turn.fills ask) new asks answers refusal
+AreAskedInTurns device first old new asks answers refusal = ⊥

@@ -1,22 +1,26 @@
 //! The job of a reader.
 
-ghost use Rattle.std.specs.Prelude.{◌≡◌, []};
+ghost use Rattle.std.specs.Prelude.{◌≡◌, ◌<◌, []};
 ghost use Rattle.retrieval.specs.FoundAsks.{AreFound};
 ghost use Rattle.std.specs.Result.{result_err};
 ghost use Rattle.turn_cell.specs.Pass.{IsFree};
 ghost use Rattle.archive_store.specs.StoreView.{filled_of};
-ghost use Rattle.live_asks.specs.LiveAsks.{AreAnswered, OnlySees, disk_facts, every_fourth};
+ghost use Rattle.live_asks.specs.LiveAsks.{AreAnswered, AreAskedInTurns, OnlySees, disk_facts, every_fourth};
+ghost use Rattle.live_asks.specs.LiveAsks.{reader_view};
 
 use crate::answered::AskAnswers;
 use crate::turns::{Gated, answer_ask};
 use arch_disk::Disk;
+use arch_types::steps::Steps;
 use jobs::Job;
 use live_archive::{Live, LivePass};
 use outer_traits::gate::Gate;
 use refusals::Refusal;
 use retrieval::found_asks::FoundAsk;
 use std::alloc::Global;
+use std::marker::Brand;
 use std::sync::Wait;
+use std::sync::ledger::{Blank, Ledger};
 
 /// How many readers there may be.
 pub const READERS: usize = 4;
@@ -61,41 +65,63 @@ impl<'a, D: Disk + Send, G: Gate + Sync> Job for Reader<'a, Live<D>, LivePass<D>
         (every_fourth reader.before reader.asks.now) done.answers done.refusal };
 
     fn run<R: Wait>(self, rt: &R) -> ReaderDone<LivePass<D>> {
-        let Reader {
-            alloc,
-            live,
-            mut pass,
-            asks,
-            before,
-            gate,
-            number,
-        } = self;
-        let mut answers = AskAnswers::new(alloc);
-        let mut gated = Gated {
-            gate,
-            number,
-            turn: 0,
-        };
-        let answer = answer_asks(
-            rt,
-            alloc,
-            live,
-            &mut pass,
-            &mut gated,
-            asks,
-            before,
-            &mut answers,
-        );
-        ReaderDone {
-            pass,
-            answers,
-            refusal: answer.err(),
-        }
+        run_counted::<D, G, R, Brand>(rt, Blank::new(1), self)
+    }
+}
+
+/// Answers the asks of a reader, whose steps are counted in one book.
+fn run_counted<D: Disk, G: Gate, R: Wait, L: Ledger>(
+    rt: &R,
+    blank: Blank,
+    reader: Reader<'_, Live<D>, LivePass<D>, G>,
+) -> ReaderDone<LivePass<D>>
+    requires free { IsFree reader.live.now.cell reader.pass }
+    requires found { AreFound reader.live.now.cell.first.store.head reader.live.now.cell.first.store.history
+        reader.asks.now }
+    requires blank { (blank.name ≡ L.name) × (blank.parts ≡ L.parts) × (0 < blank.parts) }
+    ensures free { IsFree reader.entry.live.now.cell result.pass }
+    ensures sees { OnlySees reader.entry.pass result.pass }
+    ensures answered { AreAnswered (disk_facts D.device reader.entry.live.now.cell.first.store.opened)
+        (filled_of reader.entry.live.now.cell.first.store) reader.entry.pass.history.seen result.pass.history.seen
+        (every_fourth reader.entry.before reader.entry.asks.now) result.answers result.refusal }
+{
+    let Reader {
+        alloc,
+        live,
+        mut pass,
+        asks,
+        before,
+        gate,
+        number,
+    } = reader;
+    let mut answers = AskAnswers::new(alloc);
+    let mut gated = Gated {
+        gate,
+        number,
+        turn: 0,
+    };
+    let (book, share) = blank.open::<L>();
+    let mut steps = Steps::new(book, share);
+    let answer = answer_asks(
+        rt,
+        alloc,
+        live,
+        &mut pass,
+        &mut gated,
+        asks,
+        before,
+        &mut answers,
+        &mut steps,
+    );
+    ReaderDone {
+        pass,
+        answers,
+        refusal: answer.err(),
     }
 }
 
 /// Answers every fourth ask, behind so many that others have before, up to the first that isn't answered.
-fn answer_asks<D: Disk, G: Gate, R: Wait>(
+fn answer_asks<D: Disk, G: Gate, R: Wait, L: Ledger>(
     rt: &R,
     alloc: Global,
     live: &Live<D>,
@@ -104,15 +130,15 @@ fn answer_asks<D: Disk, G: Gate, R: Wait>(
     asks: &[FoundAsk],
     before: usize,
     answers: &mut AskAnswers,
+    steps: &mut Steps<L>,
 ) -> Result<(), Refusal>
     requires free { IsFree live.now.cell pass.old }
     requires found { AreFound live.now.cell.first.store.head live.now.cell.first.store.history asks.now }
     requires none { answers.old ≡ [] }
     ensures free { IsFree live.now.cell pass.new }
     ensures sees { OnlySees pass.old pass.new }
-    ensures answered { AreAnswered (disk_facts D.device live.now.cell.first.store.opened)
-        (filled_of live.now.cell.first.store) pass.old.history.seen pass.new.history.seen
-        (every_fourth before asks.now) answers.new (result_err result) }
+    ensures asked { AreAskedInTurns D.device live.now.cell.first.store (reader_view pass.old steps.old)
+        (reader_view pass.new steps.new) (every_fourth before asks.now) answers.new (result_err result) }
 {
     let mut skip = before;
     for ask in asks {
@@ -121,7 +147,7 @@ fn answer_asks<D: Disk, G: Gate, R: Wait>(
             continue;
         }
         skip = READERS - 1;
-        let answer = answer_ask(rt, alloc, live, pass, gated, ask)?;
+        let answer = answer_ask(rt, alloc, live, pass, gated, ask, steps)?;
         answers.push(answer)?;
     }
     Ok(())

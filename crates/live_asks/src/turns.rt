@@ -1,6 +1,6 @@
 //! The turns that one ask takes.
 
-ghost use Rattle.std.specs.Prelude.{◌≡◌, ◌<◌, ◌≤◌, length, IfOk, IfErr, MatchResult};
+ghost use Rattle.std.specs.Prelude.{◌≡◌, ◌≤◌, length, IfOk, IfErr};
 ghost use Rattle.refusals.specs.declared.refusal.Refusal.TheVariants.{OutOfMemory};
 ghost use Rattle.archive_store.specs.Finding.{IsReplayFound, IsRequestFound};
 ghost use Rattle.history_items.specs.Databases.{database_in};
@@ -10,25 +10,22 @@ ghost use Rattle.replay_merge.specs.Cursor.{rest_of};
 ghost use Rattle.retrieval.specs.FoundAsks.{IsAskFound};
 ghost use Rattle.retrieval.specs.declared.found_asks.FoundAsk.TheVariants as looked_up;
 ghost use Rattle.turn_cell.specs.Pass.{IsFree};
-ghost use Rattle.live_archive.specs.Retrievals.{IsAnswerIn, IsNotAnswered};
-ghost use Rattle.live_archive.specs.Turns.{TookTurn};
-ghost use Rattle.live_asks.specs.LiveAsks.{IsAnsweredInTurn, OnlySees, disk_facts};
+ghost use Rattle.live_asks.specs.LiveAsks.{IsAnsweredInTurn, IsAskedInTurn, OnlySees, disk_facts, reader_view};
 
 use crate::answered::{AskAnswer, ReplayedRows};
 use arch_disk::Disk;
 use arch_types::row::Rows;
 use arch_types::steps::Steps;
 use archive_store::{FoundReplay, FoundRequest};
-use asks::{Answer, Request};
+use asks::Request;
 use live_archive::{Live, LivePass};
 use outer_traits::gate::Gate;
 use refusals::Refusal;
 use replay_merge::cursor::Cursor;
 use retrieval::found_asks::FoundAsk;
 use std::alloc::{AllocError, Global};
-use std::marker::Brand;
 use std::sync::Wait;
-use std::sync::ledger::{Blank, Ledger};
+use std::sync::ledger::Ledger;
 
 /// The gate before a job's turns, which counts them.
 #[derive(Drop)]
@@ -48,51 +45,49 @@ impl<'a, G: Gate> Gated<'a, G> {
 
 /// Answers an ask that was found, over the history that there is in a turn. The one error is want of memory, since
 /// turns bring no database.
-pub(crate) fn answer_ask<D: Disk, G: Gate, R: Wait>(
+pub(crate) fn answer_ask<D: Disk, G: Gate, R: Wait, L: Ledger>(
     rt: &R,
     alloc: Global,
     live: &Live<D>,
     pass: &mut LivePass<D>,
     gated: &mut Gated<'_, G>,
     ask: &FoundAsk,
+    steps: &mut Steps<L>,
 ) -> Result<AskAnswer, Refusal>
     requires free { IsFree live.now.cell pass.old }
     requires found { IsAskFound live.now.cell.first.store.head live.now.cell.first.store.history ask.now }
     ensures free { IsFree live.now.cell pass.new }
     ensures sees { OnlySees pass.old pass.new }
-    ensures answered { IfOk result (IsAnsweredInTurn
-        (disk_facts D.device live.now.cell.first.store.opened) (filled_of live.now.cell.first.store)
-        pass.old.history.seen pass.new.history.seen ask.now) }
-    ensures refused { IfErr result (λ refusal. refusal ≡ OutOfMemory) }
+    ensures asked { IsAskedInTurn D.device live.now.cell.first.store (reader_view pass.old steps.old)
+        (reader_view pass.new steps.new) ask.now result }
 {
     match ask {
-        FoundAsk::Values(found) => values(rt, alloc, live, pass, gated, found),
+        FoundAsk::Values(found) => values(rt, alloc, live, pass, gated, found, steps),
         FoundAsk::Replay(found) => replay(rt, alloc, live, pass, gated, found),
     }
 }
 
 /// The values that a request asks for.
-fn values<D: Disk, G: Gate, R: Wait>(
+fn values<D: Disk, G: Gate, R: Wait, L: Ledger>(
     rt: &R,
     alloc: Global,
     live: &Live<D>,
     pass: &mut LivePass<D>,
     gated: &mut Gated<'_, G>,
     found: &FoundRequest,
+    steps: &mut Steps<L>,
 ) -> Result<AskAnswer, Refusal>
     requires free { IsFree live.now.cell pass.old }
     requires found { IsRequestFound (database_in live.now.cell.first.store.head.mdb
         live.now.cell.first.store.history) found.now }
     ensures free { IsFree live.now.cell pass.new }
     ensures sees { OnlySees pass.old pass.new }
-    ensures answered { IfOk result (IsAnsweredInTurn
-        (disk_facts D.device live.now.cell.first.store.opened) (filled_of live.now.cell.first.store)
-        pass.old.history.seen pass.new.history.seen (looked_up.Values found.now)) }
-    ensures refused { IfErr result (λ refusal. refusal ≡ OutOfMemory) }
+    ensures asked { IsAskedInTurn D.device live.now.cell.first.store (reader_view pass.old steps.old)
+        (reader_view pass.new steps.new) (looked_up.Values found.now) result }
 {
     let request = copy_of(&found.request)?;
     gated.pass();
-    let answer = retrieved::<D, R, Brand>(rt, alloc, Blank::new(1), live, pass, request)?;
+    let answer = live.retrieve(rt, alloc, pass, request, steps)?;
     Ok(AskAnswer::Values(answer))
 }
 
@@ -108,25 +103,6 @@ fn copy_of(request: &Request) -> Result<Request, AllocError>
         direction: request.direction,
         limit: request.limit,
     })
-}
-
-/// The answer to a request, with a count of steps of its own.
-fn retrieved<D: Disk, R: Wait, L: Ledger>(
-    rt: &R,
-    alloc: Global,
-    blank: Blank,
-    live: &Live<D>,
-    pass: &mut LivePass<D>,
-    request: Request,
-) -> Result<Answer, Refusal>
-    requires free { IsFree live.now.cell pass.old }
-    requires blank { (blank.name ≡ L.name) × (blank.parts ≡ L.parts) × (0 < blank.parts) }
-    ensures free { IsFree live.now.cell pass.new }
-    ensures turn { TookTurn D.device live.now.cell.first.store pass.old pass.new (λ before after. (after ≡ before)
-        × MatchResult result (IsAnswerIn D.device before request) (IsNotAnswered D.device before after request)) }
-{
-    let (book, share) = blank.open::<L>();
-    live.retrieve(rt, alloc, pass, request, &mut Steps::new(book, share))
 }
 
 /// The replay of a request: of the history that there is in the turn of its opening, whatever comes behind it before

@@ -4,9 +4,8 @@ use Rattle.std.proofs.lemmas.Result.{err_from_is_err_and}
 use Rattle.refusals.specs.declared.refusal.Refusal.TheVariants.{OutOfMemory}
 use Rattle.retrieval.specs.declared.found_asks.FoundAsk.{FoundAsk}
 use Rattle.retrieval.specs.FoundAsks.{AreFound}
-use Rattle.archive_store.specs.StoreView.{filled_of}
-use Rattle.live_asks.specs.LiveAsks.{disk_facts, every_fourth}
-use Rattle.live_asks.proofs.Each.{ended_all, ended_at, none_so_far, one_more, passed_by}
+use Rattle.live_asks.specs.LiveAsks.{every_fourth, reader_view}
+use Rattle.live_asks.proofs.Each.{ended_all, ended_at, lists_seen, none_so_far, not_kept, one_more, passed_by}
 use Rattle.live_asks.proofs.Sees.{sees_on, sees_same}
 use Rattle.live_asks.proofs.reader.answer_asks.Goals as goal
 
@@ -15,7 +14,7 @@ loop-ask-init g c = record {
   free = c.requires.free;
   sees = sees_same c.args.pass.now;
   found = c.requires.found;
-  answered = none_so_far (disk_facts g.D.Disk.device c.args.live.now.cell.first.store.opened) (filled_of c.args.live.now.cell.first.store) c.args.pass.now.history.seen c.args.pass.now.history.seen c.args.asks.now c.args.before c.args.answers.now c.requires.none;
+  asked = none_so_far g.D.Disk.device c.args.live.now.cell.first.store (reader_view c.args.pass.now c.args.steps.now) c.args.asks.now c.args.before c.args.answers.now c.requires.none;
 }
 
 pub answer_ask-requires-clause-found : goal.answer_ask-requires-clause-found
@@ -41,8 +40,8 @@ loop-ask-preserved-then-skip-gt0 g c =
       free = inv.free;
       sees = inv.sees;
       found = (subst (AreFound first.head first.history) step inv.found).1;
-      answered = passed_by (disk_facts g.D.Disk.device first.opened) (filled_of first) c.args.pass.now.history.seen c.loop-ask.pass.history.seen (every_fourth c.args.before asks) (drop i asks) (drop (i + 1) asks) ask step
-          c.loop-ask.skip c.loop-ask.answers c.if-skip-gt0.true inv.answered;
+      asked = passed_by g.D.Disk.device first (reader_view c.args.pass.now c.args.steps.now) (reader_view c.loop-ask.pass c.loop-ask.steps) (every_fourth c.args.before asks) (drop i asks) (drop (i + 1) asks) ask step
+          c.loop-ask.skip c.loop-ask.answers c.if-skip-gt0.true inv.asked;
     }
 
 pub loop-ask-preserved : goal.loop-ask-preserved
@@ -58,16 +57,17 @@ loop-ask-preserved g c =
       free = c.answer_ask.ensures.free;
       sees = sees_on c.args.pass.now c.loop-ask.pass c.answer_ask.new.pass inv.sees c.answer_ask.ensures.sees;
       found = (subst (AreFound first.head first.history) step inv.found).1;
-      answered = one_more (disk_facts g.D.Disk.device first.opened) (filled_of first) c.args.pass.now.history.seen c.loop-ask.pass.history.seen (every_fourth c.args.before asks) (drop i asks) (drop (i + 1) asks) ask step
-          c.answer_ask.new.pass.history.seen c.loop-ask.skip c.loop-ask.answers c.push.new.self c.in_ok-answer.answer (omega (arith, c.if-skip-gt0.false)) inv.sees.begins c.answer_ask.ensures.sees.begins
-          c.in_ok-answer.ensures.answered c.in_ok-push.ensures.ok inv.answered;
+      asked = one_more g.D.Disk.device first (reader_view c.args.pass.now c.args.steps.now) (reader_view c.loop-ask.pass c.loop-ask.steps) (every_fourth c.args.before asks) (drop i asks) (drop (i + 1) asks) ask step
+          (reader_view c.answer_ask.new.pass c.answer_ask.new.steps) c.loop-ask.skip c.loop-ask.answers c.push.new.self c.in_ok-answer.answer (omega (arith, c.if-skip-gt0.false))
+          (lists_seen c.args.pass.now c.loop-ask.pass c.args.steps.now c.loop-ask.steps inv.sees) (lists_seen c.loop-ask.pass c.answer_ask.new.pass c.loop-ask.steps c.answer_ask.new.steps c.answer_ask.ensures.sees)
+          c.in_ok-answer.ensures.asked c.in_ok-push.ensures.ok inv.asked;
     }
 
 pub returns-in_err-answer-clause-sees : goal.returns-in_err-answer-clause-sees
 returns-in_err-answer-clause-sees g c = sees_on c.args.pass.now c.loop-ask.pass c.answer_ask.new.pass c.loop-ask.invariant.sees c.answer_ask.ensures.sees
 
-pub returns-in_err-answer-clause-answered : goal.returns-in_err-answer-clause-answered
-returns-in_err-answer-clause-answered g c =
+pub returns-in_err-answer-clause-asked : goal.returns-in_err-answer-clause-asked
+returns-in_err-answer-clause-asked g c =
     let asks = c.args.asks.now in
     let i = c.loop-ask.ask-index in
     let ask = c.ask-item.result in
@@ -76,14 +76,16 @@ returns-in_err-answer-clause-answered g c =
     let inv = c.loop-ask.invariant in
     let p = err_from_is_err_and c.from_residual.result c.from_residual.ensures.1 in
     rw (p.1, p.2)
-    (ended_at (disk_facts g.D.Disk.device c.args.live.now.cell.first.store.opened) (filled_of c.args.live.now.cell.first.store) c.args.pass.now.history.seen c.loop-ask.pass.history.seen (every_fourth c.args.before asks) (drop i asks) (drop (i + 1) asks) ask step
-    c.answer_ask.new.pass.history.seen c.loop-ask.skip c.loop-ask.answers c.in_err-answer.field-0.0 (omega (arith, c.if-skip-gt0.false)) c.answer_ask.ensures.sees.begins c.in_err-answer.ensures.refused inv.answered)
+    (ended_at g.D.Disk.device c.args.live.now.cell.first.store (reader_view c.args.pass.now c.args.steps.now) (reader_view c.loop-ask.pass c.loop-ask.steps) (every_fourth c.args.before asks) (drop i asks) (drop (i + 1) asks) ask step
+    (reader_view c.answer_ask.new.pass c.answer_ask.new.steps) c.loop-ask.skip c.loop-ask.answers c.in_err-answer.field-0.0 (omega (arith, c.if-skip-gt0.false))
+    (lists_seen c.args.pass.now c.loop-ask.pass c.args.steps.now c.loop-ask.steps inv.sees) (lists_seen c.loop-ask.pass c.answer_ask.new.pass c.loop-ask.steps c.answer_ask.new.steps c.answer_ask.ensures.sees)
+    c.in_err-answer.ensures.asked inv.asked)
 
 pub returns-in_err-push-clause-sees : goal.returns-in_err-push-clause-sees
 returns-in_err-push-clause-sees g c = sees_on c.args.pass.now c.loop-ask.pass c.answer_ask.new.pass c.loop-ask.invariant.sees c.answer_ask.ensures.sees
 
-pub returns-in_err-push-clause-answered : goal.returns-in_err-push-clause-answered
-returns-in_err-push-clause-answered g c =
+pub returns-in_err-push-clause-asked : goal.returns-in_err-push-clause-asked
+returns-in_err-push-clause-asked g c =
     let asks = c.args.asks.now in
     let i = c.loop-ask.ask-index in
     let ask = c.ask-item.result in
@@ -92,12 +94,15 @@ returns-in_err-push-clause-answered g c =
     let inv = c.loop-ask.invariant in
     let p = err_from_is_err_and c.from_residual-in_err-push.result c.from_residual-in_err-push.ensures.1 in
     rw (p.1, p.2, c.in_err-push.ensures.err)
-    (ended_at (disk_facts g.D.Disk.device c.args.live.now.cell.first.store.opened) (filled_of c.args.live.now.cell.first.store) c.args.pass.now.history.seen c.loop-ask.pass.history.seen (every_fourth c.args.before asks) (drop i asks) (drop (i + 1) asks) ask step
-    c.answer_ask.new.pass.history.seen c.loop-ask.skip c.loop-ask.answers OutOfMemory (omega (arith, c.if-skip-gt0.false)) c.answer_ask.ensures.sees.begins refl inv.answered)
+    (ended_at g.D.Disk.device c.args.live.now.cell.first.store (reader_view c.args.pass.now c.args.steps.now) (reader_view c.loop-ask.pass c.loop-ask.steps) (every_fourth c.args.before asks) (drop i asks) (drop (i + 1) asks) ask step
+    (reader_view c.answer_ask.new.pass c.answer_ask.new.steps) c.loop-ask.skip c.loop-ask.answers OutOfMemory (omega (arith, c.if-skip-gt0.false))
+    (lists_seen c.args.pass.now c.loop-ask.pass c.args.steps.now c.loop-ask.steps inv.sees) (lists_seen c.loop-ask.pass c.answer_ask.new.pass c.loop-ask.steps c.answer_ask.new.steps c.answer_ask.ensures.sees)
+    (not_kept g.D.Disk.device c.args.live.now.cell.first.store (reader_view c.loop-ask.pass c.loop-ask.steps) (reader_view c.answer_ask.new.pass c.answer_ask.new.steps) ask c.in_ok-answer.answer c.in_ok-answer.ensures.asked)
+    inv.asked)
 
-pub returns-clause-answered : goal.returns-clause-answered
-returns-clause-answered g c =
+pub returns-clause-asked : goal.returns-clause-asked
+returns-clause-asked g c =
     let asks = c.args.asks.now in
     let i = c.loop-ask.ask-index in
-    ended_all (disk_facts g.D.Disk.device c.args.live.now.cell.first.store.opened) (filled_of c.args.live.now.cell.first.store) c.args.pass.now.history.seen c.loop-ask.pass.history.seen (every_fourth c.args.before asks) (drop i asks) c.loop-ask.skip c.loop-ask.answers
-    (drop_all i asks (omega (arith, c.loop-ask-test.false))) c.loop-ask.invariant.answered
+    ended_all g.D.Disk.device c.args.live.now.cell.first.store (reader_view c.args.pass.now c.args.steps.now) (reader_view c.loop-ask.pass c.loop-ask.steps) (every_fourth c.args.before asks) (drop i asks) c.loop-ask.skip c.loop-ask.answers
+    (drop_all i asks (omega (arith, c.loop-ask-test.false))) c.loop-ask.invariant.asked
