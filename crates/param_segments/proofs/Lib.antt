@@ -35,3 +35,4 @@ pub mod Passed
 pub mod SegmentsOfSet
 pub mod RunsComplete
 pub mod Insides
+pub mod OneGroup

@@ -206,6 +206,10 @@ pub(crate) fn are_set_segments(
     let Some(runs) = runs_of(alloc, segments)? else {
         return Ok(false);
     };
+    if runs.count == 1 {
+        // the keys of one group rise from its first segment to its last
+        return Ok(true);
+    }
     let mut places = keys_of(alloc, segments)?;
     put_in_order(&mut places, octets)?;
     if !are_rising(&places) {

@@ -8,11 +8,18 @@ use Rattle.param_segments.specs.declared.runs.Runs.{Runs}
 use Rattle.param_segments.specs.RowPlaces.{RowPlace, place_key, places_from}
 use Rattle.param_segments.specs.Runs.{AreRunsSoFar, count_in_order, key_group, place_group}
 use Rattle.param_segments.proofs.KeyPlaces.{all_of_places, groups_at_places, keys_at_places, places_back, sorted_places}
+use Rattle.param_segments.proofs.OneGroup.{one_group}
 use Rattle.param_segments.proofs.Placed.{is_place_earlier, sorted_inside}
 use Rattle.param_segments.proofs.RunSteps.{numbers_len, places_numbered, runs_are}
 use Rattle.param_segments.proofs.RunsComplete.{order_of_set}
 use Rattle.param_segments.proofs.SegmentsOfSet.{are_of_set, places_rise}
 use Rattle.param_segments.proofs.runs.are_set_segments.Goals as goal
+
+pub returns-then-runs-eq1 : goal.returns-then-runs-eq1
+returns-then-runs-eq1 c = (
+  λ _. one_group c.args.segments.now c.in-Some.runs c.requires.sound (subst (λ (o : Option Runs). IfSome o (AreRunsSoFar c.args.segments.now)) c.in-Some.is c.in_ok-runs.ensures.found) c.if-runs-eq1.true,
+  λ _. refl,
+)
 
 pub returns-then-not-are_rising : goal.returns-then-not-are_rising
 returns-then-not-are_rising c = (
