@@ -1,7 +1,10 @@
 -- The names of a text, taken in one after the other.
-use Rattle.std.proofs.Common.{◌≡◌, ◌∙◌, ◌+◌, ◌<◌, ℕ, List, [], ◌∷◌, ◌++◌, map, drop, length, get_or, option_map, Bool, true, false, Option, Some, None, Bor, refl, ap, sym, subst, append-nil}
-use Rattle.std.specs.Prelude.{◌==◌, if◌then◌else◌}
+use Rattle.std.proofs.Common.{◌≡◌, ◌⊎◌, ◌∙◌, ◌+◌, ◌-◌, ◌<◌, ◌≤◌, ℕ, suc, List, [], ◌∷◌, ◌++◌, map, take, drop, length, get_or, option_map, Bool, true, false, Option, Some, None, Bor, inl, inr, refl, ap, sym, subst, arith, append-nil, drop-drop, length-drop}
+use Rattle.std.specs.Prelude.{◌==◌, if◌then◌else◌, slice_range}
+use Rattle.std.proofs.lemmas.Bool.{cases_Bool}
 use Rattle.std.proofs.lemmas.List.{drop_more}
+use Rattle.std.proofs.lemmas.List.Splits.{length-slice_split}
+use Rattle.std.specs.List.{onto_first}
 use Rattle.std.specs.List.{slice_split}
 use Rattle.text_forms.specs.Names.{is_name}
 use Rattle.mdb_items.specs.Conditions.{all_of, put}
@@ -68,3 +71,79 @@ pub all_taken : (done : List (List ℕ)) (whole : Option (List (List ℕ))) → 
 all_taken done whole all =
     let now : Some (done ++ []) ≡ whole = all in
     ap (λ (names : List (List ℕ)). Some names) (sym (append-nil done)) ∙ now
+
+-- ---- where the parts stand
+
+-- the parts that come behind one that ends at a place: none, or those of the text behind the `;` there
+abbrev pub AreBehind : List ℕ → ℕ → List (List ℕ) → Type 0
+AreBehind text end later = (later ≡ []) ⊎ ((end < length text) × (slice_split (λ b. b == 59) (drop (end + 1) text) ≡ later))
+
+-- the first part of a text
+pub record IsFirstPart (text part : List ℕ) (later : List (List ℕ)) : Type 0 where
+  pub is : take (length part) text ≡ part
+  pub within : length part ≤ length text
+  pub behind : AreBehind text (length part) later
+
+behind_more : (b : ℕ) (text : List ℕ) (n : ℕ) (later : List (List ℕ)) → AreBehind text n later → AreBehind (b ∷ text) (suc n) later
+behind_more b text n later (inl none) = inl none
+behind_more b text n later (inr some) =
+    let more : suc (n + 1) ≡ suc n + 1 = omega arith in
+    inr (omega (arith, some.0), subst (λ (k : ℕ). slice_split (λ c. c == 59) (drop k (b ∷ text)) ≡ later) more some.1)
+
+with_front : (b : ℕ) (text part : List ℕ) (parts later : List (List ℕ)) → slice_split (λ c. c == 59) text ≡ parts → onto_first b parts ≡ part ∷ later →
+    ((q : List ℕ) (qs : List (List ℕ)) → slice_split (λ c. c == 59) text ≡ q ∷ qs → IsFirstPart text q qs) → IsFirstPart (b ∷ text) part later
+with_front b text part [] later is e next = absurd (omega (arith, length-slice_split (λ c. c == 59) text, ap length is))
+with_front b text part (q ∷ qs) later is e next =
+    let first = next q qs is in
+    let same : part ≡ b ∷ q = cc in
+    let rest : later ≡ qs = cc in
+    rw (same, rest) (record { is = ap (λ (xs : List ℕ). b ∷ xs) first.is; within = omega (arith, first.within); behind = behind_more b text (length q) qs first.behind })
+
+pub first_part : (text part : List ℕ) (later : List (List ℕ)) → slice_split (λ c. c == 59) text ≡ part ∷ later → IsFirstPart text part later
+first_part [] part later e =
+    let same : part ≡ [] = cc in
+    let rest : later ≡ [] = cc in
+    rw (same, rest) (record { is = refl; within = omega arith; behind = inl refl })
+first_part (b ∷ text) part later e = elim (cases_Bool (b == 59)) [
+  | inl is ↦
+      let f : [] ∷ slice_split (λ c. c == 59) text ≡ part ∷ later = rw is at e in
+      let same : part ≡ [] = cc in
+      let rest : later ≡ slice_split (λ c. c == 59) text = cc in
+      rw (same, rest) (record { is = refl; within = omega arith; behind = inr (omega arith, refl) })
+  | inr isnt ↦
+      let f : onto_first b (slice_split (λ c. c == 59) text) ≡ part ∷ later = rw isnt at e in
+      with_front b text part (slice_split (λ c. c == 59) text) later refl f (first_part text)
+]
+
+-- the parts that are left from a place of the text on
+abbrev pub AreLeft : List ℕ → ℕ → List (List ℕ) → Type 0
+AreLeft text start left = (left ≡ []) ⊎ ((start ≤ length text) × (slice_split (λ b. b == 59) (drop start text) ≡ left))
+
+-- the next of them stands there
+pub record StandsAt (text : List ℕ) (start : ℕ) (part : List ℕ) (later : List (List ℕ)) : Type 0 where
+  pub is : slice_range text start (start + length part) ≡ part
+  pub within : start + length part ≤ length text
+  pub left : AreLeft text (start + length part + 1) later
+
+left_of : (text : List ℕ) (start n : ℕ) (later : List (List ℕ)) → start ≤ length text → AreBehind (drop start text) n later → AreLeft text (start + n + 1) later
+left_of text start n later within (inl none) = inl none
+left_of text start n later within (inr some) =
+    let on : start + (n + 1) ≡ start + n + 1 = omega arith in
+    let there : drop (n + 1) (drop start text) ≡ drop (start + n + 1) text = drop-drop (n + 1) start text ∙ ap (λ (k : ℕ). drop k text) on in
+    inr (omega (arith, some.0, length-drop start text), subst (λ (l : List ℕ). slice_split (λ b. b == 59) l ≡ later) there some.1)
+
+pub stands_at : (text : List ℕ) (start : ℕ) (part : List ℕ) (later : List (List ℕ)) → AreLeft text start (part ∷ later) → StandsAt text start part later
+stands_at text start part later (inl none) = absurd (cc)
+stands_at text start part later (inr some) =
+    let first = first_part (drop start text) part later some.1 in
+    let cut : start + length part - start ≡ length part = omega arith in
+    record {
+      is = ap (λ (k : ℕ). take k (drop start text)) cut ∙ first.is;
+      within = omega (arith, first.within, some.0, length-drop start text);
+      left = left_of text start (length part) later some.0 first.behind;
+    }
+
+pub next_stands : (text : List ℕ) (start : ℕ) (parts : List (Bor (List ℕ))) (i : ℕ) (d : Bor (List ℕ)) → i < length parts →
+    AreLeft text start (map (λ (part : Bor (List ℕ)). part.now) (drop i parts)) → StandsAt text start (get_or parts i d).now (map (λ (part : Bor (List ℕ)). part.now) (drop (i + 1) parts))
+next_stands text start parts i d within left = stands_at text start (get_or parts i d).now (map (λ (part : Bor (List ℕ)). part.now) (drop (i + 1) parts))
+    (subst (AreLeft text start) (next_part parts i d within) left)

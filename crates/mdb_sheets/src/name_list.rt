@@ -15,17 +15,21 @@ fn parts(alloc: Global, text: &[u8]) -> Result<Vec<&[u8]>, AllocError>
     text.split(|b| *b == b';').collect(alloc)
 }
 
-/// The names that a text lists, joined by `;`, or `None` where one of them is no name.
+/// The names that a text lists, joined by `;`, or `None` where one of them is no name. They share one copy of the text.
 pub(crate) fn listed_names(alloc: Global, text: &[u8]) -> Result<Option<Names>, AllocError>
     ensures { IfOk result (λ names. names ≡ listed_names text.now) }
 {
+    let copy = Octets::from_slice(alloc, text)?;
     let parts = parts(alloc, text)?;
     let mut names = Names::new(alloc);
+    let mut start = 0;
     for part in parts.as_slice() {
-        let Some(name) = Name::of(Octets::from_slice(alloc, part)?) else {
+        let end = start + part.len();
+        let Some(name) = Name::of(copy.slice(start, end)?) else {
             return Ok(None);
         };
         names.push(name)?;
+        start = end + 1;
     }
     Ok(Some(names))
 }
