@@ -10,10 +10,10 @@ use Rattle.asks.specs.declared.ask.Request.{Request}
 use Rattle.mdb_items.specs.Database.{Database}
 use Rattle.param_segments.specs.Plans.{HasValuesOf, rows_of_parts}
 use Rattle.archive_store.specs.StoreView.{StoreView}
-use Rattle.retrieval.specs.PartCells.{answer_over_parts}
+use Rattle.part_answers.specs.PartCells.{answer_over_parts}
 use Rattle.retrieval.proofs.FilledAnswers.{plan_filled}
 use Rattle.retrieval.proofs.LateRows.{late_in_range}
-use Rattle.retrieval.proofs.OverRows as over_rows
+use Rattle.retrieval.proofs.Planned as over_plan
 use Rattle.live_archive.specs.declared.retrieving.Planned.{Planned}
 use Rattle.live_archive.specs.Retrievals.{IsAnswerIn, IsPlannedIn, in_force, steps_allowed}
 
@@ -41,7 +41,7 @@ module _ {D : Type 0} (device : Device D) (store : StoreView D) (request : Reque
         answered = λ clear sound. (
           found.number,
           is.found.number,
-          over ∙ over_rows.planned store.head store.history found.request found.number plan (is.over clear sound),
+          over ∙ over_plan.planned store.head store.history found.request found.number plan (is.over clear sound),
         );
       })
 

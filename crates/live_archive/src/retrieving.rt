@@ -13,8 +13,8 @@ use arch_types::steps::Steps;
 use archive_store::FoundRequest;
 use asks::{Answer, Request};
 use param_segments::Plan;
+use part_answers::answer::answer;
 use refusals::Refusal;
-use retrieval::answer::answer;
 use std::alloc::Global;
 use std::sync::Wait;
 use std::sync::ledger::Ledger;
@@ -78,7 +78,7 @@ impl<D: Disk> LiveOver<HeldStore<D>> {
     {
         let planned = self.planned(rt, alloc, pass, request)?;
         let Planned { found, plan } = planned;
-        match answer(alloc, plan, &found, steps) {
+        match answer(alloc, plan, found.number, &found.request, steps) {
             Ok(answer) => Ok(answer),
             Err(_) => Err(Refusal::OutOfMemory),
         }

@@ -35,9 +35,9 @@ use Rattle.archive_store.specs.StoreView.{StoreView}
 use Rattle.archive_store.proofs.Planning.{none_in_range}
 use Rattle.retrieval.specs.FilledAnswer.{cells_of_fill, cells_of_interval, filled_answer, intervals_of_range}
 use Rattle.retrieval.specs.Laws.{FilledIsAnswered}
-use Rattle.retrieval.specs.PartCells.{answer_over_parts, cells_of_part, cells_of_rows}
+use Rattle.part_answers.specs.PartCells.{answer_over_parts, cells_of_part, cells_of_rows}
 use Rattle.retrieval.proofs.OneList.{asked_covers, asked_have, asked_rises, range_one}
-use Rattle.retrieval.proofs.OverRows.{joined, timely_cells}
+use Rattle.part_answers.proofs.OverRows.{joined, timely_cells}
 use Rattle.archive_store.specs.LateFills.{is_late_by_fill}
 
 -- ---- a part has the cells of its interval

@@ -1,14 +1,10 @@
 pub mod Labels
-pub mod FoundCells
 pub mod Parameters
-pub mod Limited
-pub mod Counted
 pub mod PacketNames
 pub mod Replays
 pub mod FoundAsks
 pub mod ReplayTexts
-pub mod Timely
-pub mod OverRows
+pub mod Planned
 pub mod OneList
 pub mod FilledAnswers
 pub mod LateRows

@@ -1,18 +1,8 @@
--- The answers to asks for values: when they are full, and their text.
-use Rattle.std.specs.Prelude.{ℕ, List, [], ◌∷◌, ◌++◌, length, Bool, false, not, nat_lt, Option, Some, None, codes, decimal}
+-- The text of the answers to asks for values.
+use Rattle.std.specs.Prelude.{ℕ, List, ◌++◌, length, codes, decimal}
 use Rattle.arch_types.specs.declared.cell.Cell.{Cell}
 use Rattle.mdb_items.specs.Database.{Database}
 use Rattle.retrieval.specs.ValuesText.{cell_lines}
-
--- whether there are as many as may be
-abbrev pub is_full : Option ℕ → List Cell → Bool
-is_full None cells = false
-is_full (Some limit) cells = not (nat_lt (length cells) limit)
-
--- one cell, or none
-abbrev pub cell_list : Option Cell → List Cell
-cell_list None = []
-cell_list (Some cell) = cell ∷ []
 
 -- the first line of an answer or a replay: its number and the front
 abbrev pub front_line : ℕ → ℕ → List ℕ

@@ -19,7 +19,7 @@ use Rattle.param_segments.specs.Rows.{SetRow}
 use Rattle.store_fills.specs.Sound.{Filling, Fillings}
 use Rattle.container_extract.specs.Answer.{as_asked}
 use Rattle.retrieval.specs.AnswerText.{answer_lines}
-use Rattle.retrieval.specs.PartCells.{cells_of_rows}
+use Rattle.part_answers.specs.PartCells.{cells_of_rows}
 use Rattle.archive_store.specs.LateFills.{is_late_by_fill}
 
 -- the intervals of rows, each once, in the order of their first rows

@@ -16,7 +16,7 @@ use Rattle.archive_store.specs.Plans.{IsPlanOver}
 use Rattle.container_extract.specs.Answer.{answer_of}
 use Rattle.retrieval.specs.FilledAnswer.{filled_answer}
 use Rattle.retrieval.specs.Parameter.{limit_of_database}
-use Rattle.retrieval.specs.PartCells.{answer_over_parts}
+use Rattle.part_answers.specs.PartCells.{answer_over_parts}
 use Rattle.refusals.specs.Limits.{limit_of}
 
 -- where the fills are sound, what is asked of a history with them is the answer over the history

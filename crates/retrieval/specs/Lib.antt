@@ -5,7 +5,6 @@ pub mod AnswerText
 pub mod ReplayText
 pub mod AskText
 pub mod FoundAsks
-pub mod PartCells
 pub mod PrintFaults
 pub mod FilledAnswer
 pub mod Laws

@@ -1,15 +1,12 @@
 //! The answers to asks: the values of a parameter in the rows of a range, and the rows of a replay, and their text.
 //!
-//! Stands for: the cells that the parts of a plan have of a parameter, those of a set or those that extraction of each
-//! row's packet gives, in the order that was asked, up to the limit (`specs/PartCells.antt`), and how a value is
-//! written (`specs/CellText.antt`); the rows of a replay, each with the name of its packet (`specs/ReplayText.antt`);
-//! and what is printed of the asks of a sheet (`specs/AskText.antt`), each of which is found before the first is answered
-//! (`specs/FoundAsks.antt`). Called by the commands that print them.
+//! Stands for: the answer over a store to a request, over the plan that the store makes (`part_answers` answers over the
+//! parts of that), and how a value is written (`specs/CellText.antt`); the rows of a replay, each with the name of its
+//! packet (`specs/ReplayText.antt`); and what is printed of the asks of a sheet (`specs/AskText.antt`), each of which is
+//! found before the first is answered (`specs/FoundAsks.antt`). Called by the commands that print them.
 //!
-//! The two ideas: a descending ask goes from the last part and its last row and stops at its limit, and gives what the
-//! ascending cells, turned, begin with (`proofs/Limited.antt`); over which rows the parts are matters nowhere but in
-//! one lemma (`proofs/OverRows.antt`). What was printed of a replay, and the lines of what its cursor has still to
-//! give, are the lines of all of it.
+//! The one idea: what was printed of a replay, and the lines of what its cursor has still to give, are the lines of all
+//! of it.
 //!
 //! A caller finds what is asked first, so that a refusal comes before anything is printed:
 //!
@@ -34,6 +31,5 @@ pub mod found_asks;
 pub mod laws;
 mod packet_text;
 pub mod parameter;
-mod part_cells;
 pub mod print_faults;
 pub mod replay;

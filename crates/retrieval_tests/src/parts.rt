@@ -18,7 +18,7 @@ use asks::{Answer, Request};
 use intervals::{Exponent, Interval};
 use mdb_model::Mdb;
 use param_segments::{Part, Parts, Plan, SegSet};
-use retrieval::answer::answer;
+use part_answers::answer::answer;
 use std::alloc::{AllocError, Global};
 use std::marker::Brand;
 use std::sync::Arc;
@@ -207,7 +207,7 @@ fn answered<L: Ledger>(alloc: Global, blank: Blank, plan: Plan, request: Request
     let (book, share) = blank.open::<L>();
     let mut steps = Steps::new(book, share);
     let found = found(&plan, request)?;
-    answer(alloc, plan, &found, &mut steps).ok()
+    answer(alloc, plan, found.number, &found.request, &mut steps).ok()
 }
 
 /// The answer to an ask over a plan.

@@ -8,10 +8,10 @@ use Rattle.archive_store.proofs.UnreadRows.{left_by_read, memory_unread, read_sa
 use Rattle.mdb_items.specs.Database.{Database}
 use Rattle.refusals.specs.Refusal.{refusal_of_rows}
 use Rattle.param_segments.specs.Plans.{ArePartsOver, HasValuesOf}
-use Rattle.retrieval.specs.PartCells.{answer_over_parts, answer_over_rows}
+use Rattle.part_answers.specs.PartCells.{answer_over_parts, answer_over_rows}
 use Rattle.retrieval.proofs.FilledAnswers.{plan_filled}
 use Rattle.retrieval.proofs.LateRows.{late_in_range}
-use Rattle.retrieval.proofs.OverRows.{answer_of_history}
+use Rattle.part_answers.proofs.OverRows.{answer_of_history}
 use Rattle.retrieval.proofs.answer.answer_request.Goals as goal
 
 pub returns-in_err-plan-clause-refused : goal.returns-in_err-plan-clause-refused

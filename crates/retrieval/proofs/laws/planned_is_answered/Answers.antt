@@ -1,4 +1,4 @@
-use Rattle.retrieval.proofs.OverRows.{planned}
+use Rattle.retrieval.proofs.Planned.{planned}
 use Rattle.retrieval.proofs.laws.planned_is_answered.Goals as goal
 
 pub returns : goal.returns

@@ -6,8 +6,8 @@ use Rattle.std.specs.Slice.Iter.{iter_rest}
 use Rattle.arch_types.specs.Table.{is_in_time_range}
 use Rattle.arch_types.specs.Directions.{truncated}
 use Rattle.param_segments.specs.Plans.{HasValuesOf, rows_of_parts}
-use Rattle.retrieval.specs.PartCells.{cells_of_part}
-use Rattle.retrieval.proofs.part_cells.last_part_cells.Given as goal
+use Rattle.part_answers.specs.PartCells.{cells_of_part}
+use Rattle.part_answers.proofs.part_cells.last_part_cells.Given as goal
 
 abbrev pub invariant-loop-part : goal.invariant-loop-part
 invariant-loop-part g l = record {

@@ -5,8 +5,8 @@ use Rattle.std.proofs.lemmas.Int.{to_z-of_z}
 use Rattle.container_extract.specs.Extraction.{raw_extraction}
 use Rattle.container_extract.specs.Values.{raw_among}
 use Rattle.container_extract.proofs.Extracting.{raw_value_is_sound}
-use Rattle.retrieval.proofs.FoundCells.{cell_is}
-use Rattle.retrieval.proofs.cells.cell_of.Goals as goal
+use Rattle.part_answers.proofs.FoundCells.{cell_is}
+use Rattle.part_answers.proofs.cells.cell_of.Goals as goal
 
 pub eng_of-requires : goal.eng_of-requires
 eng_of-requires g c =

@@ -6,11 +6,10 @@ use Rattle.arch_types.specs.Table.{is_in_time_range}
 use Rattle.arch_types.specs.Directions.{truncated}
 use Rattle.param_segments.specs.declared.plan.Part.{Part}
 use Rattle.param_segments.specs.Plans.{HasValuesOf, rows_of_parts}
-use Rattle.retrieval.specs.AnswerText.{is_full}
-use Rattle.retrieval.specs.PartCells.{cells_of_part}
-use Rattle.retrieval.proofs.Counted.{first_part}
-use Rattle.retrieval.proofs.Limited.{full, next_part}
-use Rattle.retrieval.proofs.part_cells.first_part_cells.Goals as goal
+use Rattle.part_answers.specs.PartCells.{cells_of_part, is_full}
+use Rattle.part_answers.proofs.Counted.{first_part}
+use Rattle.part_answers.proofs.Limited.{full, next_part}
+use Rattle.part_answers.proofs.part_cells.first_part_cells.Goals as goal
 
 pub add_part_cells-requires-clause-values : goal.add_part_cells-requires-clause-values
 add_part_cells-requires-clause-values g c =

@@ -7,8 +7,6 @@ use Rattle.asks.specs.declared.ask.Request.{Request}
 use Rattle.arch_types.specs.declared.cell.Cell.{Cell}
 use Rattle.arch_types.specs.declared.row.Row.{Row}
 use Rattle.arch_types.specs.Table.{is_in_time_range, range_of}
-use Rattle.history_items.specs.Databases.{database_in}
-use Rattle.history_items.specs.Items.{rows_in}
 use Rattle.mdb_items.specs.Database.{Database}
 use Rattle.container_extract.specs.declared.values.ParameterValue.{ParameterValue}
 use Rattle.container_extract.specs.Extraction.{cell_at, cell_of, extraction}
@@ -18,8 +16,7 @@ use Rattle.param_segments.specs.CellRange.{is_cell_in_range}
 use Rattle.param_segments.specs.declared.plan.Part.{Part}
 use Rattle.param_segments.specs.declared.plan.Part.TheVariants.{Rows, Set}
 use Rattle.param_segments.specs.Plans.{ArePartsOver, IsPartOver}
-use Rattle.retrieval.specs.Laws.{PlannedIsAnswered}
-use Rattle.retrieval.specs.PartCells.{answer_over_parts, answer_over_rows, cells_of_part, cells_of_rows}
+use Rattle.part_answers.specs.PartCells.{answer_over_parts, answer_over_rows, cells_of_part, cells_of_rows}
 
 same_both : (b : Bool) (cells : List Cell) → cells ≡ cond b cells cells
 same_both true cells = refl
@@ -72,9 +69,3 @@ answer_over db q request parts rows over = ap (as_asked request) (parts_over db 
 pub answer_of_history : (db : Database) (q : ℕ) (request : Request) (rows history : List Row) →
     filter (is_in_time_range request.from request.to) rows ≡ range_of 0 request.from request.to history → answer_over_rows db q request rows ≡ answer_of db q request history
 answer_of_history db q request rows history in_range = ap (λ (timely : List Row). as_asked request (filter_map (cell_of db q) timely)) in_range
-
--- the answer over a plan is that over the history
-pub planned : PlannedIsAnswered
-planned head history request number plan is =
-    let db = database_in head.mdb history in
-    answer_over db number request plan.parts is.rows is.over ∙ answer_of_history db number request is.rows (rows_in history) is.in_range

@@ -5,8 +5,8 @@ use Rattle.std.specs.List.{filter_map}
 use Rattle.std.specs.Slice.Iter.{iter_rest}
 use Rattle.arch_types.specs.Table.{is_in_time_range}
 use Rattle.arch_types.specs.Directions.{truncated}
-use Rattle.retrieval.specs.PartCells.{cell_in_range}
-use Rattle.retrieval.proofs.part_cells.add_last_row_cells.Given as goal
+use Rattle.part_answers.specs.PartCells.{cell_in_range}
+use Rattle.part_answers.proofs.part_cells.add_last_row_cells.Given as goal
 
 abbrev pub invariant-loop-row : goal.invariant-loop-row
 invariant-loop-row g l = record {

@@ -5,11 +5,10 @@ use Rattle.std.specs.List.{filter_map}
 use Rattle.std.specs.Slice.Iter.{iter_rest}
 use Rattle.arch_types.specs.Table.{is_in_time_range}
 use Rattle.arch_types.specs.Directions.{truncated}
-use Rattle.retrieval.specs.AnswerText.{is_full}
-use Rattle.retrieval.specs.PartCells.{cell_in_range}
-use Rattle.retrieval.proofs.Counted.{last_in_range}
-use Rattle.retrieval.proofs.Limited.{full, items_done, next_last}
-use Rattle.retrieval.proofs.part_cells.add_last_row_cells.Goals as goal
+use Rattle.part_answers.specs.PartCells.{cell_in_range, is_full}
+use Rattle.part_answers.proofs.Counted.{last_in_range}
+use Rattle.part_answers.proofs.Limited.{full, items_done, next_last}
+use Rattle.part_answers.proofs.part_cells.add_last_row_cells.Goals as goal
 
 pub loop-row-preserved : goal.loop-row-preserved
 loop-row-preserved g c =

@@ -4,10 +4,10 @@ use Rattle.arch_types.specs.Directions.{in_direction}
 use Rattle.arch_types.specs.declared.cell.Cell.{Cell}
 use Rattle.param_segments.specs.CellRange.{is_cell_in_range}
 use Rattle.param_segments.specs.Cells.{set_cells}
-use Rattle.retrieval.specs.PartCells.{limit_left}
-use Rattle.retrieval.proofs.Limited.{within_room}
-use Rattle.retrieval.proofs.Timely.{range_asks}
-use Rattle.retrieval.proofs.part_cells.add_set_cells.Goals as goal
+use Rattle.part_answers.specs.PartCells.{limit_left}
+use Rattle.part_answers.proofs.Limited.{within_room}
+use Rattle.part_answers.proofs.Timely.{range_asks}
+use Rattle.part_answers.proofs.part_cells.add_set_cells.Goals as goal
 
 pub returns : goal.returns
 returns c =

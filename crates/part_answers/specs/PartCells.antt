@@ -1,5 +1,5 @@
 -- The cells that the parts of a plan have of a parameter, and the answer over them.
-use Rattle.std.specs.Prelude.{ℕ, ℤ, ◌-◌, List, filter, flat_map, length, Option, Some, None, if◌then◌else◌}
+use Rattle.std.specs.Prelude.{ℕ, ℤ, ◌-◌, List, [], ◌∷◌, Bool, false, not, nat_lt, filter, flat_map, length, Option, Some, None, if◌then◌else◌}
 use Rattle.std.specs.List.{filter_map}
 use Rattle.std.specs.Arc.{arc_value}
 use Rattle.asks.specs.declared.ask.Request.{Request}
@@ -13,6 +13,16 @@ use Rattle.param_segments.specs.declared.plan.Part.{Part}
 use Rattle.param_segments.specs.declared.plan.Part.TheVariants.{Set, Rows}
 use Rattle.param_segments.specs.CellRange.{is_cell_in_range}
 use Rattle.param_segments.specs.Cells.{set_cells}
+
+-- whether there are as many as may be
+abbrev pub is_full : Option ℕ → List Cell → Bool
+is_full None cells = false
+is_full (Some limit) cells = not (nat_lt (length cells) limit)
+
+-- one cell, or none
+abbrev pub cell_list : Option Cell → List Cell
+cell_list None = []
+cell_list (Some cell) = cell ∷ []
 
 -- how many cells a limit has room for beside some
 abbrev pub limit_left : Option ℕ → List Cell → Option ℕ

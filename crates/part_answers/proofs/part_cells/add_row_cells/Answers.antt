@@ -5,11 +5,10 @@ use Rattle.std.proofs.lemmas.List.{drop_more}
 use Rattle.arch_types.specs.declared.row.Row.{Row}
 use Rattle.arch_types.specs.Table.{is_in_time_range}
 use Rattle.arch_types.specs.Directions.{truncated}
-use Rattle.retrieval.specs.AnswerText.{is_full}
-use Rattle.retrieval.specs.PartCells.{cell_in_range}
-use Rattle.retrieval.proofs.Counted.{first_in_range}
-use Rattle.retrieval.proofs.Limited.{full, next_first}
-use Rattle.retrieval.proofs.part_cells.add_row_cells.Goals as goal
+use Rattle.part_answers.specs.PartCells.{cell_in_range, is_full}
+use Rattle.part_answers.proofs.Counted.{first_in_range}
+use Rattle.part_answers.proofs.Limited.{full, next_first}
+use Rattle.part_answers.proofs.part_cells.add_row_cells.Goals as goal
 
 pub loop-row-preserved : goal.loop-row-preserved
 loop-row-preserved g c =

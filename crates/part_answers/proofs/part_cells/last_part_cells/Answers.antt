@@ -7,11 +7,10 @@ use Rattle.arch_types.specs.Table.{is_in_time_range}
 use Rattle.arch_types.specs.Directions.{truncated}
 use Rattle.param_segments.specs.declared.plan.Part.{Part}
 use Rattle.param_segments.specs.Plans.{HasValuesOf, rows_of_parts}
-use Rattle.retrieval.specs.AnswerText.{is_full}
-use Rattle.retrieval.specs.PartCells.{cells_of_part}
-use Rattle.retrieval.proofs.Counted.{last_part}
-use Rattle.retrieval.proofs.Limited.{full, next_last_part, parts_done}
-use Rattle.retrieval.proofs.part_cells.last_part_cells.Goals as goal
+use Rattle.part_answers.specs.PartCells.{cells_of_part, is_full}
+use Rattle.part_answers.proofs.Counted.{last_part}
+use Rattle.part_answers.proofs.Limited.{full, next_last_part, parts_done}
+use Rattle.part_answers.proofs.part_cells.last_part_cells.Goals as goal
 
 -- what holds of all holds of the last, and of those before it
 all_but_last : (P : Part → Type 0) (left : List Part) (part : Part) → AllByRecursion P (left ++ part ∷ []) → AllByRecursion P left × P part

@@ -8,8 +8,7 @@ ghost use Rattle.param_segments.specs.CellRange.{is_cell_in_range};
 ghost use Rattle.param_segments.specs.Cells.{AreValuesOf, set_cells};
 ghost use Rattle.param_segments.specs.Plans.{HasValuesOf, rows_of_part, rows_of_parts};
 ghost use Rattle.container_extract.specs.Answer.{as_asked};
-ghost use Rattle.retrieval.specs.AnswerText.{cell_list};
-ghost use Rattle.retrieval.specs.PartCells.{cell_in_range, cells_of_part, limit_left};
+ghost use Rattle.part_answers.specs.PartCells.{cell_in_range, cell_list, cells_of_part, limit_left};
 
 use crate::cells::{add_cell, is_full};
 use arch_types::cell::Cell;

@@ -8,8 +8,7 @@ use Rattle.std.proofs.lemmas.List.{drop_more, reverse-append, take-append-le}
 use Rattle.std.proofs.lemmas.List.Elements.{filter_map-append}
 use Rattle.arch_types.specs.declared.cell.Cell.{Cell}
 use Rattle.arch_types.specs.Directions.{truncated}
-use Rattle.retrieval.specs.AnswerText.{cell_list, is_full}
-use Rattle.retrieval.specs.PartCells.{limit_left}
+use Rattle.part_answers.specs.PartCells.{cell_list, is_full, limit_left}
 
 take_front : (n : ℕ) (xs ys : List Cell) → take n (take n xs ++ ys) ≡ take n (xs ++ ys)
 take_front zero xs ys = refl

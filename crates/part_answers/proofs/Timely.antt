@@ -13,8 +13,8 @@ use Rattle.param_segments.specs.CellRange.{cells_in_range, is_cell_in_range}
 use Rattle.param_segments.specs.Cells.{set_cells}
 use Rattle.param_segments.specs.Rows.{SetRow}
 use Rattle.param_segments.specs.declared.cell_range.CellRange.{CellRange}
-use Rattle.retrieval.specs.PartCells.{cell_in_range, cells_of_rows}
-use Rattle.retrieval.proofs.Limited.{reversed_cells}
+use Rattle.part_answers.specs.PartCells.{cell_in_range, cells_of_rows}
+use Rattle.part_answers.proofs.Limited.{reversed_cells}
 
 one_row : (db : Database) (q : ℕ) (row : Row) (rows : List Row) (b : Bool) → cons_option (if b then cell_of db q row else None) (filter_map (cell_of db q) rows) ≡ filter_map (cell_of db q) (cond b (row ∷ rows) rows)
 one_row db q row rows true = refl

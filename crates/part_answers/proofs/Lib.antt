@@ -1,0 +1,5 @@
+pub mod FoundCells
+pub mod Limited
+pub mod Counted
+pub mod Timely
+pub mod OverRows
