@@ -283,6 +283,13 @@ impl<D: Disk> Store<D> {
         &self.mdb
     }
 
+    /// The mission database in force, shared. The one error is want of memory.
+    pub fn shared_mdb(&self) -> Result<Arc<Mdb, Global>, AllocError>
+        ensures { IfOk result (λ shared. arc_value shared ≡ database_in self.now.head.mdb self.now.history) }
+    {
+        Ok(Arc::try_clone(&self.mdb)?)
+    }
+
     /// The exponent of the archive's intervals. Takes no memory.
     pub fn exponent(&self) -> Exponent
         ensures { result ≡ self.now.exponent }
