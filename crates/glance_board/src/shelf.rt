@@ -149,8 +149,9 @@ impl<X: Archived> Shelf<X> {
         shelf.show(rt)
     }
 
-    /// Makes a publication, which then waits for the board.
-    fn make<A, M: Tells<A, X>>(
+    /// Makes a publication of what a value tells, which waits until `show` has found memory. Refused for want of memory,
+    /// nothing is made.
+    pub fn make<A, M: Tells<A, X>>(
         &mut self,
         alloc: Global,
         about: &A,
