@@ -1,5 +1,9 @@
 pub mod KeyPages
 pub mod RunPages
+pub mod OwnPages
+pub mod Positions
 pub mod FileEnds
 pub mod Openings
 pub mod OpenCalls
+pub mod Written
+pub mod RunMade

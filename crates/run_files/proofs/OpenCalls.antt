@@ -10,8 +10,8 @@ use Rattle.run_pages.specs.declared.footer.Footer.{Footer}
 use Rattle.run_pages.proofs.Ends.{index_once}
 use Rattle.run_pages.proofs.RunIndex.{run_has_index}
 use Rattle.run_pages.proofs.WholePages.{whole_run}
-use Rattle.run_files.specs.Opening.{IsRunBeginRefusal, IsRunFinished, IsPageReadRefusal, IsOpenRefusal, IsReadingRun, IsRunOpened, StandsInRun, file_read, most_rows, pages_in, pages_read, rows_in, rows_of_pages}
-use Rattle.run_files.specs.Run.{IsRunInMemory, file_of}
+use Rattle.run_files.specs.Opening.{IsOpenRefusal, IsPageReadRefusal, IsReadingRun, IsRunBeginRefusal, IsRunFinished, IsRunOpened, StandsInRun, file_opened, footer_rows, index_pages, most_run_rows, pages_read, rows_of_pages}
+use Rattle.run_files.specs.Run.{IsRunInMemory, run_file}
 use Rattle.run_files.specs.declared.run.Run.{Run}
 use Rattle.run_files.specs.declared.opening.RunOpening.{RunOpening}
 use Rattle.run_files.specs.declared.fault.RunFault.{RunFault}
@@ -36,23 +36,23 @@ module _ {D : Type 0} (device : Device D) (file : ℕ) where
   not_begun before after (DiskFault wrote) h = h
   not_begun before after OutOfMemory h = h
 
-  pub not_next : (opening : RunOpening) (before mid after : D) (fault : RunFault) → file_read opening ≡ file → device.reads mid ≡ device.reads before → NoFault device before mid → NoWriteFailed device before mid → NoWriteFailed device mid after
+  pub not_next : (opening : RunOpening) (before mid after : D) (fault : RunFault) → file_opened opening ≡ file → device.reads mid ≡ device.reads before → NoFault device before mid → NoWriteFailed device before mid → NoWriteFailed device mid after
       → IsPageReadRefusal device opening mid after fault → IsOpenRefusal device file before after fault
   not_next opening before mid after (Damaged f at) file_is same none first second h =
-      (h.0 ∙ file_is, (λ transparent. inr (subst (λ (n : ℕ). IsBrokenPage (device.reads before n) at) file_is (subst (λ (r : Image). IsBrokenPage (r (file_read opening)) at) same (h.1 transparent)))), (h.2 ∙ none, second ∙ first))
+      (h.0 ∙ file_is, (λ transparent. inr (subst (λ (n : ℕ). IsBrokenPage (device.reads before n) at) file_is (subst (λ (r : Image). IsBrokenPage (r (file_opened opening)) at) same (h.1 transparent)))), (h.2 ∙ none, second ∙ first))
   not_next opening before mid after Limit file_is same none first second h = absurd h
   not_next opening before mid after (DiskFault true) file_is same none first second h = absurd h
   not_next opening before mid after (DiskFault false) file_is same none first second h = record { rose = subst (λ (n : ℕ). raised n ≤ device.fault_count after) none h; writes = second ∙ first }
   not_next opening before mid after OutOfMemory file_is same none first second h = (h ∙ none, second ∙ first)
 
-  pub too_many : (opening : RunOpening) (before mid : D) (fault : RunFault) → file_read opening ≡ file → device.reads mid ≡ device.reads before → NoFault device before mid → NoWriteFailed device before mid
-      → (IsTrue device.is_transparent → (pages : List (List Placed)) × IsReadingRun opening (device.reads mid (file_read opening)) pages) → pages_in opening ≤ pages_read opening → fault ≡ Limit → most_rows < rows_in opening
+  pub too_many : (opening : RunOpening) (before mid : D) (fault : RunFault) → file_opened opening ≡ file → device.reads mid ≡ device.reads before → NoFault device before mid → NoWriteFailed device before mid
+      → (IsTrue device.is_transparent → (pages : List (List Placed)) × IsReadingRun opening (device.reads mid (file_opened opening)) pages) → index_pages opening ≤ pages_read opening → fault ≡ Limit → most_run_rows < footer_rows opening
       → IsOpenRefusal device file before mid fault
   too_many opening before mid fault file_is same none writes reading all is passed = subst (IsOpenRefusal device file before mid) (sym is) (
     (λ transparent.
         let r = reading transparent in
         let content = device.reads before file in
-        let k : IsReadingRun opening content r.0 = subst (λ (n : ℕ). IsReadingRun opening (device.reads before n) r.0) file_is (subst (λ (i : Image). IsReadingRun opening (i (file_read opening)) r.0) same r.1) in
+        let k : IsReadingRun opening content r.0 = subst (λ (n : ℕ). IsReadingRun opening (device.reads before n) r.0) file_is (subst (λ (i : Image). IsReadingRun opening (i (file_opened opening)) r.0) same r.1) in
         let rows = rows_of_pages r.0 in
         let run = whole_run content opening.index.entries.items opening.index.footer opening.table r.0 k.has k.are (omega (arith, k.count, k.are.within, all)) in
         let footers = (index_once content opening.index.entries.items (entries_from 0 run.pages) opening.index.footer (footer_of_pages run.pages (length rows)) k.has (run_has_index content opening.table rows run)).0 in
@@ -65,10 +65,10 @@ module _ {D : Type 0} (device : Device D) (file : ℕ) where
   durable_on old new images same durable c now = durable c (images c now) ∙ sym (ap (λ (r : Image). r file) same)
 
   -- all pages were read
-  pub opened : (opening : RunOpening) (run : Run) (before begun now : D) → file_read opening ≡ file → device.reads now ≡ device.reads begun → AddsNoImage device begun now → IsDurable device file (device.reads begun file) begun → NoWriteFailed device before now
+  pub opened : (opening : RunOpening) (run : Run) (before begun now : D) → file_opened opening ≡ file → device.reads now ≡ device.reads begun → AddsNoImage device begun now → IsDurable device file (device.reads begun file) begun → NoWriteFailed device before now
       → StandsInRun device opening now → IsRunFinished opening run → IsRunOpened device file before now run
   opened opening run before begun now file_is same images durable writes reading fin =
-      let in_file : file_of run ≡ file = fin.in_file ∙ file_is in
+      let in_file : run_file run ≡ file = fin.in_file ∙ file_is in
       record {
         in_file = in_file;
         within = fin.within;
@@ -77,7 +77,7 @@ module _ {D : Type 0} (device : Device D) (file : ℕ) where
             let rows = rows_of_pages r.0 in (
               rows,
               record {
-                reads = subst (λ (n : ℕ). IsRunInMemory (device.reads now n) run rows) (sym fin.in_file) (fin.is_run (device.reads now (file_read opening)) r.0 r.1);
+                reads = subst (λ (n : ℕ). IsRunInMemory (device.reads now n) run rows) (sym fin.in_file) (fin.is_run (device.reads now (file_opened opening)) r.0 r.1);
                 durable = subst (λ (n : ℕ). IsDurable device n (device.reads now n) now) (sym in_file) (durable_on begun now images same durable);
               },
             );

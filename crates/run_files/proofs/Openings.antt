@@ -19,26 +19,26 @@ use Rattle.run_pages.proofs.Joins.{both_true, joined_forward}
 use Rattle.run_pages.proofs.OrderedRows.{eq_true}
 use Rattle.run_pages.proofs.TakenPages.{no_page, other_page, takes_page}
 use Rattle.run_files.specs.Opening.{IsReadingRun, rows_of_pages}
-use Rattle.run_files.specs.Run.{last_from, last_key}
+use Rattle.run_files.specs.Run.{last_key_from, last_row_key}
 use Rattle.run_files.specs.declared.opening.RunOpening.{RunOpening}
 
 -- ---- the last key
 
-last_append : (key : Key) (a b : List Placed) → last_from key (a ++ b) ≡ last_from (last_from key a) b
+last_append : (key : Key) (a b : List Placed) → last_key_from key (a ++ b) ≡ last_key_from (last_key_from key a) b
 last_append key [] b = refl
 last_append key (x ∷ a) b = last_append x.row.key a b
 
-last_any : (key other : Key) (rows : List Placed) → 1 ≤ length rows → last_from key rows ≡ last_from other rows
+last_any : (key other : Key) (rows : List Placed) → 1 ≤ length rows → last_key_from key rows ≡ last_key_from other rows
 last_any key other [] some = absurd (omega (arith, some))
 last_any key other (x ∷ rows) some = refl
 
-pub last_more : (pages : List (List Placed)) (page : List Placed) → 1 ≤ length page → last_key page ≡ last_key (rows_of_pages (pages ++ page ∷ []))
+pub last_more : (pages : List (List Placed)) (page : List Placed) → 1 ≤ length page → last_row_key page ≡ last_row_key (rows_of_pages (pages ++ page ∷ []))
 last_more pages page some =
     let none : Key = record { time = pos 0; seq = 0 } in
-    last_any none (last_key (rows_of_pages pages)) page some ∙ sym (last_append none (rows_of_pages pages) page)
-    ∙ ap (λ (l : List Placed). last_key (rows_of_pages pages ++ l)) (sym (append-nil page)) ∙ ap last_key (sym (flat_map-append (λ (p : List Placed). p) pages (page ∷ [])))
+    last_any none (last_row_key (rows_of_pages pages)) page some ∙ sym (last_append none (rows_of_pages pages) page)
+    ∙ ap (λ (l : List Placed). last_row_key (rows_of_pages pages ++ l)) (sym (append-nil page)) ∙ ap last_row_key (sym (flat_map-append (λ (p : List Placed). p) pages (page ∷ [])))
 
-pub last_row : (positions : List ℕ) (rows : List Row) (i : ℕ) (row : Row) (key : Key) → length positions ≡ length rows → i + 1 ≡ length rows → row ≡ get_or rows i row → last_from key (placed_rows positions rows) ≡ row.key
+pub last_row : (positions : List ℕ) (rows : List Row) (i : ℕ) (row : Row) (key : Key) → length positions ≡ length rows → i + 1 ≡ length rows → row ≡ get_or rows i row → last_key_from key (placed_rows positions rows) ≡ row.key
 last_row [] [] i row key beside is there = absurd (omega (arith, is))
 last_row [] (r ∷ rows) i row key beside is there = absurd (omega (arith, beside))
 last_row (p ∷ positions) [] i row key beside is there = absurd (omega (arith, beside))
@@ -111,7 +111,7 @@ module _ (content : List ℕ) (opening : RunOpening) (pages : List (List Placed)
 
     -- a page that is as the index says
     pub taken : (t : ℕ) (new : RunOpening) → length page.rows ≡ count → are_ordered t entry.first next None page.rows ≡ true → (1 ≤ opening.read → opening.table ≡ t)
-        → new.index ≡ opening.index → new.read ≡ opening.read + 1 → new.table ≡ t → new.last ≡ last_key (rows_of_page page) → IsReadingRun new content (pages ++ rows_of_page page ∷ [])
+        → new.index ≡ opening.index → new.read ≡ opening.read + 1 → new.table ≡ t → new.last ≡ last_row_key (rows_of_page page) → IsReadingRun new content (pages ++ rows_of_page page ∷ [])
     taken t new count_is ordered later index read table last =
         let is : IsPageOf content t (count_at opening.index.footer.rows (length pages)) entry (slice_get entries (suc (length pages))) (rows_of_page page) =
         subst (λ (n : ℕ). IsPageOf content t (count_at opening.index.footer.rows n) entry (slice_get entries (suc n)) (rows_of_page page)) (sym r.count)

@@ -15,13 +15,16 @@
 
 mod end;
 mod fault;
+pub mod laws;
 mod lookup;
 mod opening;
 mod pages;
 mod run;
 mod run_index;
 mod steps;
+mod writing;
 
 pub use fault::RunFault;
 pub use opening::{MAX_ROWS, RunOpening, open_run};
 pub use run::Run;
+pub use writing::write_run;

@@ -1,6 +1,6 @@
 //! A run file that is read whole, page after page.
 
-ghost use Rattle.std.specs.Prelude.{◌≡◌, ◌++◌, ◌∷◌, [], ◌+◌, ◌<◌, ◌≤◌, ℕ, List, length, IsTrue, Option, Some, None, true, false, take, drop, slice_get, OnOk, IfOk, IfErr};
+ghost use Rattle.std.specs.Prelude.{◌≡◌, ◌++◌, ◌∷◌, [], ◌+◌, ◌<◌, ◌≤◌, ℕ, List, length, IsTrue, Option, Some, None, true, false, take, drop, slice_get, OnOk, OnErr, IfOk, IfErr};
 ghost use Rattle.arch_disk.specs.Disk.{NoFault, OnlyReads};
 ghost use Rattle.arch_types.specs.declared.key.Key.{Key as AKey};
 ghost use Rattle.disk_journal.specs.State.{IsUntouched};
@@ -10,7 +10,7 @@ ghost use Rattle.run_files.specs.Opening.{IsOpenRefusal, IsRunOpened};
 
 use crate::RunFault;
 use crate::end::read_end;
-use crate::pages::{first_of, page_at};
+use crate::pages::{page_first_key, page_on_disk};
 use crate::run::Run;
 use crate::run_index::RunIndex;
 use crate::steps::flush;
@@ -40,7 +40,7 @@ impl RunOpening {
     ghost use Rattle.run_pages.specs.Pages.{IsPage, page_octets, rows_of_page};
     ghost use Rattle.run_pages.specs.Damage.{IsBrokenPage, count_at};
     ghost use Rattle.run_pages.specs.Placed.{Placed};
-    ghost use Rattle.run_files.specs.Opening.{IsRunBeginRefusal, IsRunFinished, IsNextPage, IsPageReadRefusal, IsReadingRun, IsRunBegun, StandsInRun, file_read, most_rows, pages_in, pages_read, rows_in, table_read};
+    ghost use Rattle.run_files.specs.Opening.{IsNextPage, IsPageReadRefusal, IsReadingRun, IsRunBeginRefusal, IsRunBegun, IsRunFinished, StandsInRun, file_opened, footer_rows, index_pages, most_run_rows, pages_read, table_read};
 
     /// Begins before the first page, with a sync, and reads the index whole: 32 octets of memory a page.
     pub fn begin<D: Disk>(alloc: Global, disk: &mut D, file: u32) -> Result<RunOpening, RunFault>
@@ -82,17 +82,20 @@ impl RunOpening {
         // Refused: the page is broken, and it is the first that is; or a read failed; or memory is wanting.
         ensures refused { IfErr result (IsPageReadRefusal D.device self.old disk.old disk.new) }
 
+        // Then the opening is as it was.
+        ensures same { OnErr result (self.new ≡ self.old) }
+
         // A failed call of the disk is never passed over.
         ensures told { OnOk result (NoFault D.device disk.old disk.new) }
         ensures looked { OnlyReads D.device disk.old disk.new }
-        ensures file { file_read self.new ≡ file_read self.old }
+        ensures file { file_opened self.new ≡ file_opened self.old }
     {
         if self.read >= self.index.entries.len() {
             return Ok(None);
         }
         let entry = self.index.entries[self.read];
         let (file, at) = (self.file, entry.at);
-        let Some(page) = page_at(alloc, disk, file, entry)? else {
+        let Some(page) = page_on_disk(alloc, disk, file, entry)? else {
             return Err(RunFault::Damaged { file, at });
         };
         if !self.take_in(&page, entry) {
@@ -110,8 +113,9 @@ impl RunOpening {
         ensures no { result ≡ false → (content : List ℕ) (pages : List (List Placed)) → IsReadingRun self.old content pages →
             IsPage (rows_of_page page.now) → take entry.len (drop entry.at content) ≡ page_octets (rows_of_page page.now) →
             IsBrokenPage content entry.at }
+        ensures unchanged { result ≡ false → self.new ≡ self.old }
         ensures count { result ≡ true → pages_read self.new ≡ pages_read self.old + 1 }
-        ensures same { (file_read self.new ≡ file_read self.old) × (self.new.index ≡ self.old.index) }
+        ensures same { (file_opened self.new ≡ file_opened self.old) × (self.new.index ≡ self.old.index) }
     {
         let rows = page.rows.as_slice();
         if rows.is_empty() {
@@ -121,7 +125,7 @@ impl RunOpening {
             return false;
         }
         let table = self.next_table(rows);
-        let next = first_of(&self.index.entries, self.read + 1);
+        let next = page_first_key(&self.index.entries, self.read + 1);
         if !are_ordered(rows, table, entry.first, next) {
             return false;
         }
@@ -148,7 +152,7 @@ impl RunOpening {
 
     /// How many rows the next page has.
     fn next_count(&self) -> u64
-        ensures { result ≡ count_at (rows_in self.now) (pages_read self.now) }
+        ensures { result ≡ count_at (footer_rows self.now) (pages_read self.now) }
     {
         let page = PAGE_ROWS as u64;
         let before = page.saturating_mul(self.read as u64);
@@ -157,13 +161,13 @@ impl RunOpening {
 
     /// The run whose pages were read to the last.
     pub fn finish(self) -> Result<Run, RunFault>
-        requires all { pages_in self ≤ pages_read self }
+        requires all { index_pages self ≤ pages_read self }
 
         // Ok: the run of all rows that were read.
         ensures finished { IfOk result (IsRunFinished self) }
 
         // Refused: it has more rows than a history may have.
-        ensures refused { IfErr result (λ e. (e ≡ Limit) × (most_rows < rows_in self)) }
+        ensures refused { IfErr result (λ e. (e ≡ Limit) × (most_run_rows < footer_rows self)) }
     {
         if self.index.footer.rows > MAX_ROWS {
             return Err(RunFault::Limit);

@@ -20,7 +20,7 @@ use run_pages::{PageEntry, PageRows, are_ordered, read_page};
 use std::alloc::Global;
 
 /// The first key of a page, if there is such a page.
-pub(crate) fn first_of(entries: &[PageEntry], page: usize) -> Option<Key>
+pub(crate) fn page_first_key(entries: &[PageEntry], page: usize) -> Option<Key>
     ensures { result ≡ first_of_entry (slice_get entries.now page) }
 {
     match entries.get(page) {
@@ -30,7 +30,7 @@ pub(crate) fn first_of(entries: &[PageEntry], page: usize) -> Option<Key>
 }
 
 /// The page that stands where an entry says, or none where the octets there spell none.
-pub(crate) fn page_at<D: Disk>(
+pub(crate) fn page_on_disk<D: Disk>(
     alloc: Global,
     disk: &mut D,
     file: u32,
@@ -80,10 +80,10 @@ impl Run {
         ensures looked { OnlyReads D.device disk.old disk.new }
     {
         let entry = self.index.entries[page as usize];
-        let next = first_of(&self.index.entries, page as usize + 1);
+        let next = page_first_key(&self.index.entries, page as usize + 1);
         let file = self.file;
         let at = entry.at;
-        let Some(held) = page_at(alloc, disk, file, entry)? else {
+        let Some(held) = page_on_disk(alloc, disk, file, entry)? else {
             return Err(RunFault::Damaged { file, at });
         };
         if !are_ordered(held.rows.as_slice(), self.table, entry.first, next) {

@@ -15,18 +15,18 @@ pub struct Run {
 
 impl Run {
     ghost use Rattle.std.specs.Prelude.{◌≡◌};
-    ghost use Rattle.run_files.specs.Run.{file_of, last_of, page_count, row_count, table_of};
+    ghost use Rattle.run_files.specs.Run.{page_count, run_file, run_last_key, run_table, sealed_row_count};
 
     /// The file that it stands in.
     pub fn file(&self) -> u32
-        ensures { result ≡ file_of self.now }
+        ensures { result ≡ run_file self.now }
     {
         self.file
     }
 
     /// The table of its rows.
     pub fn table(&self) -> u8
-        ensures { result ≡ table_of self.now }
+        ensures { result ≡ run_table self.now }
     {
         self.table
     }
@@ -39,15 +39,15 @@ impl Run {
     }
 
     /// The number of its rows.
-    pub fn row_count(&self) -> u64
-        ensures { result ≡ row_count self.now }
+    pub fn sealed_row_count(&self) -> u64
+        ensures { result ≡ sealed_row_count self.now }
     {
         self.index.footer.rows
     }
 
     /// The key of its last row: no row stands above it.
     pub fn last(&self) -> Key
-        ensures { result ≡ last_of self.now }
+        ensures { result ≡ run_last_key self.now }
     {
         self.last
     }

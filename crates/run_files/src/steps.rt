@@ -1,7 +1,9 @@
 //! Single calls of a disk. A fault says whether the call wrote.
 
-ghost use Rattle.std.specs.Prelude.{◌≡◌, ◌≤◌, ◌+◌, IsTrue, length, take, drop, OnOk, IfOk, IfErr};
+ghost use Rattle.std.specs.Prelude.{◌≡◌, [], ◌++◌, ◌≤◌, ◌+◌, IsTrue, length, take, drop, OnOk, IfOk, IfErr};
+ghost use Rattle.arch_disk.specs.Image.{AgreesBut};
 ghost use Rattle.arch_disk.specs.Disk.{AddsNoImage, IsDurable, LeavesOnly, NoFault, NoWriteFailed, OnlyReads};
+ghost use Rattle.disk_journal.specs.State.{IsOldBut};
 ghost use Rattle.run_files.specs.Faults.{IsLookFault, IsWriteFault};
 
 use crate::RunFault;
@@ -55,6 +57,45 @@ pub(crate) fn flush<D: Disk>(disk: &mut D, file: u32) -> Result<(), RunFault>
     ensures no_failed_write { OnOk result (NoWriteFailed D.device disk.old disk.new) }
 {
     match disk.sync(file) {
+        Ok(()) => Ok(()),
+        Err(_) => Err(RunFault::DiskFault { wrote: true }),
+    }
+}
+
+/// Empties a file.
+pub(crate) fn empty<D: Disk>(disk: &mut D, file: u32) -> Result<(), RunFault>
+    ensures is_empty { OnOk result (IsTrue D.device.is_transparent → D.device.reads disk.new file ≡ []) }
+    ensures elsewhere { LeavesOnly D.device disk.old disk.new (IsOldBut D.device file disk.old) }
+    ensures reads { IsTrue D.device.is_transparent →
+        AgreesBut file (D.device.reads disk.old) (D.device.reads disk.new) }
+    ensures refused { IfErr result (IsWriteFault D.device disk.old disk.new) }
+    ensures told { OnOk result (NoFault D.device disk.old disk.new) }
+    ensures no_failed_write { OnOk result (NoWriteFailed D.device disk.old disk.new) }
+{
+    match disk.cut(file, 0) {
+        Ok(()) => Ok(()),
+        Err(_) => Err(RunFault::DiskFault { wrote: true }),
+    }
+}
+
+/// Writes octets behind what a file has. They are durable after the next sync.
+pub(crate) fn put_more<D: Disk>(
+    disk: &mut D,
+    file: u32,
+    end: u64,
+    octets: &[u8],
+) -> Result<(), RunFault>
+    requires { IsTrue D.device.is_transparent → end ≡ length (D.device.reads disk.old file) }
+    ensures written { OnOk result (IsTrue D.device.is_transparent →
+        D.device.reads disk.new file ≡ D.device.reads disk.old file ++ octets.now) }
+    ensures elsewhere { LeavesOnly D.device disk.old disk.new (IsOldBut D.device file disk.old) }
+    ensures reads { IsTrue D.device.is_transparent →
+        AgreesBut file (D.device.reads disk.old) (D.device.reads disk.new) }
+    ensures refused { IfErr result (IsWriteFault D.device disk.old disk.new) }
+    ensures told { OnOk result (NoFault D.device disk.old disk.new) }
+    ensures no_failed_write { OnOk result (NoWriteFailed D.device disk.old disk.new) }
+{
+    match disk.write_at(file, end, octets) {
         Ok(()) => Ok(()),
         Err(_) => Err(RunFault::DiskFault { wrote: true }),
     }

@@ -4,13 +4,13 @@ use Rattle.std.specs.List.{AllByRecursion, flat_map}
 use Rattle.std.proofs.Math.Seq.{take-suc}
 use Rattle.std.proofs.lemmas.Grind.{flat_map-append}
 use Rattle.arch_types.specs.declared.row.Row.{Row}
-use Rattle.run_pages.specs.Placed.{Placed, placed, placed_rows, rows_of_placed}
+use Rattle.run_pages.specs.Placed.{Placed, row_placed, placed_rows, rows_of_placed}
 
-pub placed_rows-push : (positions : List ℕ) (rows : List Row) (position : ℕ) (row : Row) → length positions ≡ length rows → placed_rows (positions ++ position ∷ []) (rows ++ row ∷ []) ≡ placed_rows positions rows ++ placed position row ∷ []
+pub placed_rows-push : (positions : List ℕ) (rows : List Row) (position : ℕ) (row : Row) → length positions ≡ length rows → placed_rows (positions ++ position ∷ []) (rows ++ row ∷ []) ≡ placed_rows positions rows ++ row_placed position row ∷ []
 placed_rows-push [] [] position row beside = refl
 placed_rows-push [] (r ∷ rows) position row beside = absurd (omega (arith, beside))
 placed_rows-push (p ∷ positions) [] position row beside = absurd (omega (arith, beside))
-placed_rows-push (p ∷ positions) (r ∷ rows) position row beside = ap (λ (l : List Placed). placed p r ∷ l) (placed_rows-push positions rows position row (omega (arith, beside)))
+placed_rows-push (p ∷ positions) (r ∷ rows) position row beside = ap (λ (l : List Placed). row_placed p r ∷ l) (placed_rows-push positions rows position row (omega (arith, beside)))
 
 pub placed_rows_len : (positions : List ℕ) (rows : List Row) → length positions ≡ length rows → length (placed_rows positions rows) ≡ length rows
 placed_rows_len [] [] beside = refl
@@ -24,11 +24,11 @@ rows_back [] (r ∷ rows) beside = absurd (omega (arith, beside))
 rows_back (p ∷ positions) [] beside = absurd (omega (arith, beside))
 rows_back (p ∷ positions) (r ∷ rows) beside = ap (λ (l : List Row). r ∷ l) (rows_back positions rows (omega (arith, beside)))
 
-pub placed_get : (positions : List ℕ) (rows : List Row) (i position : ℕ) (row : Row) (d : Placed) → length positions ≡ length rows → i < length rows → position ≡ get_or positions i 0 → row ≡ get_or rows i row → get_or (placed_rows positions rows) i d ≡ placed position row
+pub placed_get : (positions : List ℕ) (rows : List Row) (i position : ℕ) (row : Row) (d : Placed) → length positions ≡ length rows → i < length rows → position ≡ get_or positions i 0 → row ≡ get_or rows i row → get_or (placed_rows positions rows) i d ≡ row_placed position row
 placed_get [] [] i position row d beside lt p_is r_is = absurd (omega (arith, lt))
 placed_get [] (r ∷ rows) i position row d beside lt p_is r_is = absurd (omega (arith, beside))
 placed_get (p ∷ positions) [] i position row d beside lt p_is r_is = absurd (omega (arith, lt))
-placed_get (p ∷ positions) (r ∷ rows) zero position row d beside lt p_is r_is = ap (λ (q : ℕ). placed q r) (sym p_is) ∙ ap (placed position) (sym r_is)
+placed_get (p ∷ positions) (r ∷ rows) zero position row d beside lt p_is r_is = ap (λ (q : ℕ). row_placed q r) (sym p_is) ∙ ap (row_placed position) (sym r_is)
 placed_get (p ∷ positions) (r ∷ rows) (suc i) position row d beside lt p_is r_is = placed_get positions rows i position row d (omega (arith, beside)) (omega (arith, lt)) p_is r_is
 
 pub all_at : {X : Type 0} (P : X → Type 0) (xs : List X) (i : ℕ) (d : X) → AllByRecursion P xs → i < length xs → P (get_or xs i d)

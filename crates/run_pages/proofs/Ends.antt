@@ -4,7 +4,7 @@ use Rattle.std.proofs.lemmas.List.{take_at, drop_at, drop-drop, length-take, len
 use Rattle.octet_fields.specs.Exact.{IsExact}
 use Rattle.octet_fields.specs.Spelling.{number, signed}
 use Rattle.octet_fields.proofs.Exact.{one_form}
-use Rattle.run_pages.specs.Index.{AreEntries, entry_octets, index_octets, is_index}
+use Rattle.run_pages.specs.Index.{AreEntries, page_entry_octets, index_octets, is_index}
 use Rattle.run_pages.specs.Footer.{IsFooter, footer_octets}
 use Rattle.run_pages.specs.Damage.{HasIndex}
 use Rattle.run_pages.specs.declared.index.PageEntry.{PageEntry}
@@ -19,13 +19,13 @@ pub length-footer : (footer : Footer) → length (footer_octets footer) ≡ 20
 unfolding footer_octets number
 length-footer footer = omega arith
 
-length-entry : (entry : PageEntry) → length (entry_octets entry) ≡ 24
-unfolding entry_octets number signed
+length-entry : (entry : PageEntry) → length (page_entry_octets entry) ≡ 24
+unfolding page_entry_octets number signed
 length-entry entry = omega arith
 
 pub length-index : (entries : List PageEntry) → length (index_octets entries) ≡ 24 * length entries
 length-index [] = refl
-length-index (entry ∷ entries) = omega (arith, length-append (entry_octets entry) (index_octets entries), length-entry entry, length-index entries)
+length-index (entry ∷ entries) = omega (arith, length-append (page_entry_octets entry) (index_octets entries), length-entry entry, length-index entries)
 
 module _ (content : List ℕ) where
   -- what stands behind two places is what stands between them, and the rest

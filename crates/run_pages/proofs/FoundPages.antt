@@ -11,7 +11,7 @@ use Rattle.run_pages.specs.Order.{are_ordered}
 use Rattle.run_pages.specs.Pages.{FitsPage, IsPage, page_octets}
 use Rattle.run_pages.specs.Index.{index_octets}
 use Rattle.run_pages.specs.Footer.{footer_octets}
-use Rattle.run_pages.specs.Runs.{ArePages, IsRunFile, entries_from, first_key, footer_of_pages, page_of_rows, pages_octets}
+use Rattle.run_pages.specs.Runs.{ArePages, IsRunFile, entries_from, first_row_key, footer_of_pages, page_of_rows, pages_octets}
 use Rattle.run_pages.specs.Damage.{HasWholePages, IsPageOf, count_at, first_of_entry}
 use Rattle.run_pages.specs.declared.index.PageEntry.{PageEntry}
 use Rattle.run_pages.proofs.OrderedRows.{split_ordered}
@@ -38,7 +38,7 @@ key_if [] = None
 key_if (at ∷ rows) = Some at.row.key
 
 pub front_ordered : (table : ℕ) (x : Placed) (front back : List Placed) → are_ordered table x.row.key None None (rows_of_placed (x ∷ front ++ back)) ≡ true
-    → (are_ordered table x.row.key (key_if back) None (rows_of_placed (x ∷ front)) ≡ true) × (back ≢ [] → are_ordered table (first_key back) None None (rows_of_placed back) ≡ true)
+    → (are_ordered table x.row.key (key_if back) None (rows_of_placed (x ∷ front)) ≡ true) × (back ≢ [] → are_ordered table (first_row_key back) None None (rows_of_placed back) ≡ true)
 front_ordered table x front [] e = (subst (λ (l : List Placed). are_ordered table x.row.key None None (rows_of_placed (x ∷ l)) ≡ true) (append-nil front) e, λ some. absurd (some refl))
 front_ordered table x front (y ∷ back) e =
     let whole : are_ordered table x.row.key None None (x.row ∷ rows_of_placed front ++ y.row ∷ rows_of_placed back) ≡ true = subst (λ (l : List Row). are_ordered table x.row.key None None (x.row ∷ l) ≡ true) (rows_append front (y ∷ back)) e in
@@ -49,7 +49,7 @@ front_ordered table x front (y ∷ back) e =
 next_is : (pages : List (List Placed)) (rows : List Placed) (at : ℕ) → ArePages pages rows → first_of_entry (slice_get (entries_from at pages) 0) ≡ key_if rows
 next_is [] rows at is = sym (ap key_if is)
 next_is (page ∷ pages) [] at is = absurd (is.1 refl)
-next_is (page ∷ pages) (x ∷ rest) at is = ap (λ (p : List Placed). Some (first_key p)) is.0
+next_is (page ∷ pages) (x ∷ rest) at is = ap (λ (p : List Placed). Some (first_row_key p)) is.0
 
 -- page 0 of what is left behind a page is the next one
 pub shift : (page : ℕ) (rows : List Placed) → page_of_rows page (drop 64 rows) ≡ page_of_rows (suc page) rows
@@ -68,17 +68,17 @@ pub record FoundPage (table : ℕ) (content : List ℕ) (entries : List PageEntr
   pub is : IsPageOf content table (count_at (length rows) page) entry (slice_get entries (suc page)) (page_of_rows page rows)
 
 found : (table : ℕ) (pages : List (List Placed)) (rows : List Placed) (front tail : List ℕ) (at : ℕ) → ArePages pages rows → at ≡ length front → AllByRecursion FitsPage rows
-    → (rows ≢ [] → are_ordered table (first_key rows) None None (rows_of_placed rows) ≡ true)
+    → (rows ≢ [] → are_ordered table (first_row_key rows) None None (rows_of_placed rows) ≡ true)
     → (page : ℕ) (entry : PageEntry) → slice_get (entries_from at pages) page ≡ Some entry → FoundPage table (front ++ (pages_octets pages ++ tail)) (entries_from at pages) rows page entry
 found table [] rows front tail at is at_is each ordered page entry there = absurd (cc there)
 found table (p ∷ pages) [] front tail at is at_is each ordered page entry there = absurd (is.1 refl)
 found table (p ∷ pages) (x ∷ rest) front tail at is at_is each ordered zero entry there =
     let rows : List Placed = x ∷ rest in
     let len = length (page_octets p) in
-    let here : PageEntry = record { first = first_key p; at = at; len = len } in
+    let here : PageEntry = record { first = first_row_key p; at = at; len = len } in
     let content = front ++ ((page_octets p ++ pages_octets pages) ++ tail) in
     let all = take-append-drop 64 rows in
-    let first : first_key p ≡ x.row.key = ap first_key is.0 in
+    let first : first_row_key p ≡ x.row.key = ap first_row_key is.0 in
     let parts = front_ordered table x (take 63 rest) (drop 63 rest) (subst (λ (l : List Placed). are_ordered table x.row.key None None (rows_of_placed l) ≡ true) (sym all) (ordered (λ none. absurd cc))) in
     let one : 1 ≤ length (take 64 rows) = omega (arith, length-take 64 rows) in
     subst (λ (k : PageEntry). FoundPage table content (entries_from at (p ∷ pages)) rows 0 k) (some_is here entry there) (record {

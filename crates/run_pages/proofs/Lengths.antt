@@ -4,14 +4,14 @@ use Rattle.std.specs.List.{flat_map}
 use Rattle.arch_types.specs.declared.row.Row.{Row}
 use Rattle.octet_fields.specs.Spelling.{counted, number}
 use Rattle.row_codec.specs.Spelling.{row_octets}
-use Rattle.run_pages.specs.Placed.{placed, placed_rows}
+use Rattle.run_pages.specs.Placed.{row_placed, placed_rows}
 use Rattle.run_pages.specs.Pages.{page_octets, placed_octets}
 
 -- the octets of a row at position 0
 abbrev pub at_zero : Row → List ℕ
-at_zero row = placed_octets (placed 0 row)
+at_zero row = placed_octets (row_placed 0 row)
 
-pub length-placed : (position : ℕ) (row : Row) → length (placed_octets (placed position row)) ≡ 8 + length (row_octets row)
+pub length-placed : (position : ℕ) (row : Row) → length (placed_octets (row_placed position row)) ≡ 8 + length (row_octets row)
 unfolding placed_octets number
 length-placed position row = omega arith
 
@@ -21,7 +21,7 @@ length-rows [] (row ∷ rows) beside = absurd (omega (arith, beside))
 length-rows (position ∷ positions) [] beside = absurd (omega (arith, beside))
 length-rows (position ∷ positions) (row ∷ rows) beside = omega (
   arith,
-  length-append (placed_octets (placed position row)) (flat_map placed_octets (placed_rows positions rows)),
+  length-append (placed_octets (row_placed position row)) (flat_map placed_octets (placed_rows positions rows)),
   length-append (at_zero row) (flat_map at_zero rows),
   length-placed position row,
   length-placed 0 row,

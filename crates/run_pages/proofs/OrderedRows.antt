@@ -9,7 +9,7 @@ use Rattle.arch_types.specs.declared.key.Key.{Key}
 use Rattle.arch_types.specs.Order.{key_cmp}
 use Rattle.run_pages.specs.Placed.{Placed, rows_of_placed}
 use Rattle.run_pages.specs.Order.{are_ordered, follows, is_same_key}
-use Rattle.run_pages.specs.Runs.{first_key}
+use Rattle.run_pages.specs.Runs.{first_row_key}
 use Rattle.run_pages.proofs.Joins.{both_true}
 
 -- ---- keys
@@ -87,7 +87,7 @@ join_ordered table first next (x ∷ front) back e more =
 
 -- ---- what is told of the first row
 
-pub first_is : (table : ℕ) (first : Key) (next : Option Key) (rows : List Placed) → are_ordered table first next None (rows_of_placed rows) ≡ true → first_key rows ≡ first
+pub first_is : (table : ℕ) (first : Key) (next : Option Key) (rows : List Placed) → are_ordered table first next None (rows_of_placed rows) ≡ true → first_row_key rows ≡ first
 first_is table first next [] e = absurd cc
 first_is table first next (x ∷ rows) e = same_key_is x.row.key first (both_true (is_same_key x.row.key first) _ (both_true (x.row.table == table) _ e).1).0
 

@@ -7,11 +7,11 @@ use Rattle.octet_fields.proofs.Exact.{IsExact-both, IsExact-tested, IsExact-mapp
 use Rattle.octet_fields.proofs.Numbers.{exact16, exact64}
 use Rattle.row_codec.proofs.RowFields.{row_exact}
 use Rattle.run_pages.specs.Placed.{Placed}
-use Rattle.run_pages.specs.Pages.{FitsPage, IsPage, is_page_count, page_at, page_octets, placed_at, placed_octets, placed_of}
+use Rattle.run_pages.specs.Pages.{FitsPage, IsPage, is_page_count, page_at, page_octets, placed_at, placed_octets, row_placed_of}
 
 pub placed_exact : IsExact FitsPage placed_octets placed_at
 unfolding placed_octets placed_at
-placed_exact = IsExact-mapped (IsExact-both exact64 (λ _ _. row_exact)) FitsPage placed_of (λ (at : Placed). (at.position, at.row))
+placed_exact = IsExact-mapped (IsExact-both exact64 (λ _ _. row_exact)) FitsPage row_placed_of (λ (at : Placed). (at.position, at.row))
     (λ p fits. (record { position = fits.0; stored = fits.1 }, refl)) (λ at fits. ((fits.position, fits.stored), refl))
 
 count_true : (n : ℕ) → is_page_count n ≡ true → (1 ≤ n) × (n ≤ 64)

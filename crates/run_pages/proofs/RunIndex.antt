@@ -15,7 +15,7 @@ use Rattle.run_pages.specs.Placed.{Placed, rows_of_placed}
 use Rattle.run_pages.specs.Order.{are_ordered, follows, is_same_key}
 use Rattle.run_pages.specs.Pages.{page_octets}
 use Rattle.run_pages.specs.Index.{are_joined, is_above_last, is_page_number}
-use Rattle.run_pages.specs.Runs.{ArePages, IsRunFile, entries_from, first_key, footer_of_pages, pages_octets}
+use Rattle.run_pages.specs.Runs.{ArePages, IsRunFile, entries_from, first_row_key, footer_of_pages, pages_octets}
 use Rattle.run_pages.specs.Damage.{HasIndex}
 use Rattle.run_pages.proofs.Joins.{both_true}
 use Rattle.run_pages.proofs.FoundPages.{front_ordered, key_if, length-entries}
@@ -44,7 +44,7 @@ first_below table row rows next e =
     let b = both_true (is_same_key row.key row.key) _ a.1 in
     ordered_below table row.key next row.key rows b.1
 
-above_next : (table : ℕ) (x : Placed) (front back : List Placed) → are_ordered table x.row.key (key_if back) None (rows_of_placed (x ∷ front)) ≡ true → back ≢ [] → is_lt (key_cmp x.row.key (first_key back)) ≡ true
+above_next : (table : ℕ) (x : Placed) (front back : List Placed) → are_ordered table x.row.key (key_if back) None (rows_of_placed (x ∷ front)) ≡ true → back ≢ [] → is_lt (key_cmp x.row.key (first_row_key back)) ≡ true
 above_next table x front [] e some = absurd (some refl)
 above_next table x front (y ∷ back) e some = first_below table x.row (rows_of_placed front) y.row.key e
 
@@ -69,7 +69,7 @@ page_number (p ∷ pages) (x ∷ rest) is =
         not_empty [] some = absurd (some refl)
         not_empty (y ∷ l) some = omega arith
 
-some_rows : (table : ℕ) (rows : List Placed) → are_ordered table (first_key rows) None None (rows_of_placed rows) ≡ true → 1 ≤ length rows
+some_rows : (table : ℕ) (rows : List Placed) → are_ordered table (first_row_key rows) None None (rows_of_placed rows) ≡ true → 1 ≤ length rows
 some_rows table [] e = absurd cc
 some_rows table (x ∷ rows) e = omega arith
 
@@ -83,7 +83,7 @@ unfolding counted number
 some_octets rows = omega arith
 
 joined_pages : (table : ℕ) (pages : List (List Placed)) (rows : List Placed) (at : ℕ) (last : Option Key) → ArePages pages rows
-    → (rows ≢ [] → are_ordered table (first_key rows) None None (rows_of_placed rows) ≡ true) → (rows ≢ [] → is_above_last last (first_key rows) ≡ true)
+    → (rows ≢ [] → are_ordered table (first_row_key rows) None None (rows_of_placed rows) ≡ true) → (rows ≢ [] → is_above_last last (first_row_key rows) ≡ true)
     → are_joined at (at + length (pages_octets pages)) last (entries_from at pages) ≡ true
 joined_pages table [] rows at last is ordered above = grind (arith, nat_tests)
 joined_pages table (p ∷ pages) [] at last is ordered above = absurd (is.1 refl)
@@ -92,15 +92,15 @@ joined_pages table (p ∷ pages) (x ∷ rest) at last is ordered above =
     let len = length (page_octets p) in
     let all = take-append-drop 64 rows in
     let some : rows ≢ [] = λ none. absurd cc in
-    let first : first_key p ≡ x.row.key = ap first_key is.0 in
+    let first : first_row_key p ≡ x.row.key = ap first_row_key is.0 in
     let parts = front_ordered table x (take 63 rest) (drop 63 rest) (subst (λ (l : List Placed). are_ordered table x.row.key None None (rows_of_placed l) ≡ true) (sym all) (ordered some)) in
-    let above_back : drop 64 rows ≢ [] → is_above_last (Some (first_key p)) (first_key (drop 64 rows)) ≡ true = λ back. rw first (above_next table x (take 63 rest) (drop 63 rest) parts.0 back) in
-    let more = joined_pages table pages (drop 64 rows) (at + len) (Some (first_key p)) is.2 parts.1 above_back in
+    let above_back : drop 64 rows ≢ [] → is_above_last (Some (first_row_key p)) (first_row_key (drop 64 rows)) ≡ true = λ back. rw first (above_next table x (take 63 rest) (drop 63 rest) parts.0 back) in
+    let more = joined_pages table pages (drop 64 rows) (at + len) (Some (first_row_key p)) is.2 parts.1 above_back in
     let end : (at + len) + length (pages_octets pages) ≡ at + length (page_octets p ++ pages_octets pages) = omega (arith, length-append (page_octets p) (pages_octets pages)) in
     let here : (at == at) ≡ true = grind (arith, nat_tests) in
     let long : nat_le 1 len ≡ true = grind (arith, nat_tests, some_octets p) in
-    let rising : is_above_last last (first_key p) ≡ true = rw first (above some) in
-    rw (here, long, rising) (subst (λ (n : ℕ). are_joined (at + len) n (Some (first_key p)) (entries_from (at + len) pages) ≡ true) end more)
+    let rising : is_above_last last (first_row_key p) ≡ true = rw first (above some) in
+    rw (here, long, rising) (subst (λ (n : ℕ). are_joined (at + len) n (Some (first_row_key p)) (entries_from (at + len) pages) ≡ true) end more)
 
 pub run_has_index : (content : List ℕ) (table : ℕ) (rows : List Placed) (k : IsRunFile content table rows) → HasIndex content (entries_from 0 k.pages) (footer_of_pages k.pages (length rows))
 run_has_index content table rows k =

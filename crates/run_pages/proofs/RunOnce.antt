@@ -5,7 +5,7 @@ use Rattle.std.proofs.lemmas.List.{length-drop, take-append-drop, nil_from_lengt
 use Rattle.std.proofs.lemmas.Option.{slice_get-get_or}
 use Rattle.run_pages.specs.Placed.{Placed, rows_of_placed}
 use Rattle.run_pages.specs.Order.{are_ordered}
-use Rattle.run_pages.specs.Runs.{IsRunFile, entries_from, first_key, footer_of_pages, page_of_rows}
+use Rattle.run_pages.specs.Runs.{IsRunFile, entries_from, first_row_key, footer_of_pages, page_of_rows}
 use Rattle.run_pages.specs.declared.index.PageEntry.{PageEntry}
 use Rattle.run_pages.specs.declared.footer.Footer.{Footer}
 use Rattle.run_pages.proofs.PageSpelling.{page_exact}
@@ -35,4 +35,4 @@ run_once content table other rows more a b =
     let p = (found_page content table rows a i here there).is in
     let q = (found_page content other more b i here (sym (ap (λ (l : List PageEntry). slice_get l i) same.1) ∙ there)).is in
     once page_exact (page_of_rows i rows) (page_of_rows i more) p.page q.page (sym p.spelled ∙ q.spelled)) in
-    (rows_are, one_table table other (first_key more) (first_key more) None None (rows_of_placed more) (subst (λ (l : List Placed). are_ordered table (first_key l) None None (rows_of_placed l) ≡ true) rows_are a.run_rows.ordered) b.run_rows.ordered)
+    (rows_are, one_table table other (first_row_key more) (first_row_key more) None None (rows_of_placed more) (subst (λ (l : List Placed). are_ordered table (first_row_key l) None None (rows_of_placed l) ≡ true) rows_are a.run_rows.ordered) b.run_rows.ordered)

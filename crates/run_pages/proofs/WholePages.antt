@@ -12,7 +12,7 @@ use Rattle.run_pages.specs.Order.{are_ordered}
 use Rattle.run_pages.specs.Pages.{FitsPage, page_octets}
 use Rattle.run_pages.specs.Index.{IsPageEntry, are_joined, index_octets, is_above_last, is_page_number}
 use Rattle.run_pages.specs.Footer.{IsFooter, footer_octets}
-use Rattle.run_pages.specs.Runs.{ArePages, AreRunRows, IsRunFile, entries_from, first_key, footer_of_pages, pages_octets}
+use Rattle.run_pages.specs.Runs.{ArePages, AreRunRows, IsRunFile, entries_from, first_row_key, footer_of_pages, pages_octets}
 use Rattle.run_pages.specs.Damage.{HasIndex, HasWholePages, IsPageOf, count_at, first_of_entry}
 use Rattle.run_pages.specs.declared.index.PageEntry.{PageEntry}
 use Rattle.run_pages.specs.declared.footer.Footer.{Footer}
@@ -88,10 +88,10 @@ module _ (content : List ℕ) (table : ℕ) where
       let is = each 0 p e refl refl in
       let here : take e.len (drop at content) ≡ page_octets p = ap (λ (n : ℕ). take e.len (drop n content)) (sym place) ∙ is.spelled in
       let len : e.len ≡ length (page_octets p) = omega (arith, ap length here, length-take e.len (drop at content), length-drop at content, forward, within) in
-      let first : e.first ≡ first_key p = sym (first_is table e.first (first_of_entry (slice_get entries 0)) p is.ordered) in
+      let first : e.first ≡ first_row_key p = sym (first_is table e.first (first_of_entry (slice_get entries 0)) p is.ordered) in
       let more = octets_of (at + e.len) end (rows - 64) (Some e.first) entries pages d.1 within (omega (arith, long)) (behind e entries rows p pages each) in
       let size : end - at ≡ e.len + (end - (at + e.len)) = omega (arith, forward) in
-      let entry_is : e ≡ record { first = first_key p; at = at; len = length (page_octets p) } = rw (← first, ← len, ← place) refl in
+      let entry_is : e ≡ record { first = first_row_key p; at = at; len = length (page_octets p) } = rw (← first, ← len, ← place) refl in
       record {
         entries_are = ap (λ (l : List PageEntry). e ∷ l) (more.entries_are ∙ ap (λ (n : ℕ). entries_from (at + n) pages) len) ∙ ap (λ (x : PageEntry). x ∷ entries_from (at + length (page_octets p)) pages) entry_is;
         octets = ap (λ (n : ℕ). take n (drop at content)) size ∙ take-add e.len (end - (at + e.len)) (drop at content) ∙ ap (λ (l : List ℕ). l ++ take (end - (at + e.len)) (drop e.len (drop at content))) here
@@ -132,7 +132,7 @@ some_page content table rows entries [] long some each = absurd (omega (arith, s
 some_page content table rows [] (p ∷ pages) long some each = absurd (omega (arith, long))
 some_page content table rows (e ∷ entries) (p ∷ pages) long some each =
     let ordered = rows_ordered content table e entries rows p pages (omega (arith, long)) each in
-    let first : first_key (p ++ rows_of_pages pages) ≡ e.first = first_is table e.first None (p ++ rows_of_pages pages) ordered in
+    let first : first_row_key (p ++ rows_of_pages pages) ≡ e.first = first_is table e.first None (p ++ rows_of_pages pages) ordered in
     record {
       each = rows_fit content table (e ∷ entries) rows (p ∷ pages) long each;
       ordered = rw first ordered;

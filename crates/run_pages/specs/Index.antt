@@ -19,20 +19,20 @@ pub record IsPageEntry (entry : PageEntry) : Type 0 where
   pub len : entry.len < 2 ^ 32
 
 -- i64 time, u32 number, u64 octet, u32 length
-unfoldable pub entry_octets : PageEntry → List ℕ
-entry_octets entry = signed w64 entry.first.time ++ (number w32 entry.first.seq ++ (number w64 entry.at ++ number w32 entry.len))
+unfoldable pub page_entry_octets : PageEntry → List ℕ
+page_entry_octets entry = signed w64 entry.first.time ++ (number w32 entry.first.seq ++ (number w64 entry.at ++ number w32 entry.len))
 
 -- what is read of an entry: time, number, octet, length
 abbrev pub EntryFields : Type 0
 EntryFields = ℤ × (ℕ × (ℕ × ℕ))
 
 -- the entry of these fields
-abbrev pub entry_of : EntryFields → PageEntry
-entry_of f = record { first = record { time = f.0; seq = f.1.0 }; at = f.1.1.0; len = f.1.1.1 }
+abbrev pub page_entry_of : EntryFields → PageEntry
+page_entry_of f = record { first = record { time = f.0; seq = f.1.0 }; at = f.1.1.0; len = f.1.1.1 }
 
 -- reads an entry
-unfoldable pub entry_at : Reader PageEntry
-entry_at = mapped_at entry_of (both_at (signed_at w64) (λ _. both_at (number_at w32) (λ _. both_at (number_at w64) (λ _. number_at w32))))
+unfoldable pub page_entry_at : Reader PageEntry
+page_entry_at = mapped_at page_entry_of (both_at (signed_at w64) (λ _. both_at (number_at w32) (λ _. both_at (number_at w64) (λ _. number_at w32))))
 
 -- so many entries
 pub record AreEntries (count : ℕ) (entries : List PageEntry) : Type 0 where
@@ -41,7 +41,7 @@ pub record AreEntries (count : ℕ) (entries : List PageEntry) : Type 0 where
 
 -- entry behind entry
 abbrev pub index_octets : List PageEntry → List ℕ
-index_octets entries = flat_map entry_octets entries
+index_octets entries = flat_map page_entry_octets entries
 
 -- ---- what an index says by itself
 

@@ -8,7 +8,7 @@ use Rattle.octet_fields.specs.Spelling.{number, counted}
 use Rattle.row_codec.specs.Rows.{IsStored}
 use Rattle.row_codec.specs.Reading.{row_at}
 use Rattle.row_codec.specs.Spelling.{row_octets}
-use Rattle.run_pages.specs.Placed.{Placed, placed, placed_rows}
+use Rattle.run_pages.specs.Placed.{Placed, row_placed, placed_rows}
 use Rattle.run_pages.specs.declared.page_rows.PageRows.{PageRows}
 
 -- the rows of a page, each at its position
@@ -39,12 +39,12 @@ page_octets rows = counted w16 placed_octets rows
 -- ---- the reader
 
 -- the row of what was read
-abbrev pub placed_of : ℕ × Row → Placed
-placed_of p = placed p.0 p.1
+abbrev pub row_placed_of : ℕ × Row → Placed
+row_placed_of p = row_placed p.0 p.1
 
 -- reads a position and a row
 unfoldable pub placed_at : Reader Placed
-placed_at = mapped_at placed_of (both_at (number_at w64) (λ _. row_at))
+placed_at = mapped_at row_placed_of (both_at (number_at w64) (λ _. row_at))
 
 -- a page has 1 to 64 rows
 abbrev pub is_page_count : ℕ → Bool

@@ -8,14 +8,14 @@ pub record Placed : Type 0 where
   pub row : Row
 
 -- a row at a position
-abbrev pub placed : ℕ → Row → Placed
-placed position row = record { position = position; row = row }
+abbrev pub row_placed : ℕ → Row → Placed
+row_placed position row = record { position = position; row = row }
 
 -- rows, each at the position that stands beside it
 abbrev pub placed_rows : List ℕ → List Row → List Placed
 placed_rows [] rows = []
 placed_rows (position ∷ positions) [] = []
-placed_rows (position ∷ positions) (row ∷ rows) = placed position row ∷ placed_rows positions rows
+placed_rows (position ∷ positions) (row ∷ rows) = row_placed position row ∷ placed_rows positions rows
 
 -- the rows without their positions
 abbrev pub rows_of_placed : List Placed → List Row

@@ -11,14 +11,14 @@ use Rattle.run_pages.specs.declared.index.PageEntry.{PageEntry}
 use Rattle.run_pages.specs.declared.footer.Footer.{Footer}
 
 -- the key of the first row, where there is one
-abbrev pub first_key : List Placed → Key
-first_key [] = record { time = pos 0; seq = 0 }
-first_key (at ∷ rows) = at.row.key
+abbrev pub first_row_key : List Placed → Key
+first_row_key [] = record { time = pos 0; seq = 0 }
+first_row_key (at ∷ rows) = at.row.key
 
 -- at least one row, all of one table, with rising keys
 pub record AreRunRows (table : ℕ) (rows : List Placed) : Type 0 where
   pub each : AllByRecursion FitsPage rows
-  pub ordered : are_ordered table (first_key rows) None None (rows_of_placed rows) ≡ true
+  pub ordered : are_ordered table (first_row_key rows) None None (rows_of_placed rows) ≡ true
 
 -- the rows page by page: 64 each, but the last page 1 to 64
 abbrev pub ArePages : List (List Placed) → List Placed → Type 0
@@ -36,7 +36,7 @@ pages_octets pages = flat_map page_octets pages
 -- the entries of pages that begin at an octet
 abbrev pub entries_from : ℕ → List (List Placed) → List PageEntry
 entries_from at [] = []
-entries_from at (page ∷ pages) = record { first = first_key page; at = at; len = length (page_octets page) } ∷ entries_from (at + length (page_octets page)) pages
+entries_from at (page ∷ pages) = record { first = first_row_key page; at = at; len = length (page_octets page) } ∷ entries_from (at + length (page_octets page)) pages
 
 -- the footer of pages with so many rows
 abbrev pub footer_of_pages : List (List Placed) → ℕ → Footer

@@ -5,7 +5,7 @@ ghost use Rattle.std.specs.List.{AllByRecursion};
 ghost use Rattle.octet_fields.specs.declared.fault.DecodeError.TheVariants.{OutOfMemory};
 ghost use Rattle.octet_fields.specs.Answers.{Gives, ReadsEach, ReadsOnly};
 ghost use Rattle.octet_fields.specs.Reading.{times_at, whole};
-ghost use Rattle.run_pages.specs.Index.{AreEntries, IsPageEntry, are_joined, entry_at, entry_octets, index_octets, is_above_last, is_index, is_page_number};
+ghost use Rattle.run_pages.specs.Index.{AreEntries, IsPageEntry, are_joined, page_entry_at, page_entry_octets, index_octets, is_above_last, is_index, is_page_number};
 
 use crate::footer::Footer;
 use arch_types::key::Key;
@@ -27,16 +27,16 @@ pub struct PageEntry {
 pub const ENTRY_SIZE: u64 = 24;
 
 /// How an entry is spelled.
-struct EntryCodec;
+struct PageEntryCodec;
 
-impl Decode for EntryCodec {
+impl Decode for PageEntryCodec {
     type Value = PageEntry;
 
     const LEAST_OCTETS: usize = 24;
 
-    ghost read = { entry_at };
+    ghost read = { page_entry_at };
 
-    #[tactic(auto, unfolding(crate::specs::Index::entry_at))]
+    #[tactic(auto, unfolding(crate::specs::Index::page_entry_at))]
     fn at(_alloc: Global, octets: &[u8]) -> Result<(PageEntry, &[u8]), DecodeError> {
         let (time, rest) = i64_at(octets)?;
         let (seq, rest) = u32_at(rest)?;
@@ -47,14 +47,14 @@ impl Decode for EntryCodec {
     }
 }
 
-impl Encode for EntryCodec {
+impl Encode for PageEntryCodec {
     type Value = PageEntry;
 
     ghost fits = { IsPageEntry };
 
-    ghost spell = { entry_octets };
+    ghost spell = { page_entry_octets };
 
-    #[tactic(auto, unfolding(crate::specs::Index::entry_octets))]
+    #[tactic(auto, unfolding(crate::specs::Index::page_entry_octets))]
     fn put(out: &mut Vec<u8>, entry: &PageEntry) -> Result<(), AllocError> {
         put_i64(out, entry.first.time)?;
         put_u32(out, entry.first.seq)?;
@@ -65,9 +65,9 @@ impl Encode for EntryCodec {
 
 /// So many entries.
 fn whole_index(alloc: Global, octets: &[u8], count: u32) -> Result<Vec<PageEntry>, DecodeError>
-    ensures { Gives (λ v. v.items) result (whole (times_at entry_at count) octets.now) }
+    ensures { Gives (λ v. v.items) result (whole (times_at page_entry_at count) octets.now) }
 {
-    let (entries, rest) = each_at::<EntryCodec>(alloc, count as usize, octets)?;
+    let (entries, rest) = each_at::<PageEntryCodec>(alloc, count as usize, octets)?;
     if !rest.is_empty() {
         return Err(DecodeError::Malformed);
     }
@@ -90,7 +90,7 @@ pub fn put_index(out: &mut Vec<u8>, entries: &[PageEntry]) -> Result<(), AllocEr
     requires { AllByRecursion IsPageEntry entries.now }
     ensures { OnOk result (out.new.items ≡ out.old.items ++ index_octets entries.now) }
 {
-    put_each::<EntryCodec>(out, entries)
+    put_each::<PageEntryCodec>(out, entries)
 }
 
 /// Whether a page's first key is above that of the page before, if there is one.

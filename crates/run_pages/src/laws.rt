@@ -13,7 +13,7 @@ pub fn runs_are_whole()
 {}
 
 /// A file is damaged at one octet at most: that of the first page that is broken, or 0 where it has no index.
-pub fn damage_is_one()
+pub fn run_damage_is_one()
     ensures { RunDamageIsOne }
 {}
 

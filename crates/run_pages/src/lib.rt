@@ -10,7 +10,7 @@
 //! ordered by the same definition, without a next page, so that pages of ordered rows are ordered and the other way.
 //!
 //! The one idea of the proof: page, index and footer are read exactly (octet_fields), so octets are of one list of rows,
-//! and a file of one run. To touch together: a field of the index, `entry_octets`, `entry_at`, `PageEntry` and its codec;
+//! and a file of one run. To touch together: a field of the index, `page_entry_octets`, `page_entry_at`, `PageEntry` and its codec;
 //! a rule of the index, `is_index` here and in specs/Index.antt; a rule of a page, `IsPageOf` and `are_ordered`.
 #![tactic(auto)]
 

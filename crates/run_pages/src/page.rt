@@ -7,7 +7,7 @@ ghost use Rattle.octet_fields.specs.Answers.{Gives, ReadsEach, ReadsOnly};
 ghost use Rattle.octet_fields.specs.Reading.{times_at, whole};
 ghost use Rattle.row_codec.specs.Block.{IsEndOf};
 ghost use Rattle.row_codec.specs.Rows.{IsStored};
-ghost use Rattle.run_pages.specs.Placed.{placed, placed_rows};
+ghost use Rattle.run_pages.specs.Placed.{row_placed, placed_rows};
 ghost use Rattle.run_pages.specs.Pages.{FitsPage, IsPage, page_at, page_octets, placed_at, placed_octets, rows_of_page};
 
 use crate::page_rows::{PageRows, Positions};
@@ -30,7 +30,7 @@ const POSITION_SIZE: usize = 8;
 #[tactic(auto, unfolding(crate::specs::Pages::placed_at))]
 fn placed_at<'a>(block: &Octets, octets: &'a [u8]) -> Result<(u64, Row, &'a [u8]), DecodeError>
     requires { IsEndOf octets.now block.now }
-    ensures gives { Gives (λ x. (placed x.0 x.1, x.2.now)) result (placed_at octets.now) }
+    ensures gives { Gives (λ x. (row_placed x.0 x.1, x.2.now)) result (placed_at octets.now) }
     ensures rest { IfOk result (λ x. IsEndOf x.2.now block.now) }
 {
     let (position, rest) = u64_at(octets)?;
@@ -78,7 +78,7 @@ fn whole_page(alloc: Global, block: &Octets, octets: &[u8]) -> Result<PageRows, 
 }
 
 /// The page that the octets of a block spell.
-fn page_of(alloc: Global, block: &Octets, octets: &[u8]) -> Result<PageRows, DecodeError>
+fn spelled_page(alloc: Global, block: &Octets, octets: &[u8]) -> Result<PageRows, DecodeError>
     requires { octets.now ≡ block.now }
     ensures spelled { ReadsOnly IsPage page_octets (λ page. rows_of_page page) octets.now result }
     ensures each { ReadsEach IsPage page_octets (λ page. rows_of_page page) (λ e. e ≡ OutOfMemory) octets.now result }
@@ -94,21 +94,21 @@ pub fn read_page(alloc: Global, octets: &Octets) -> Result<PageRows, DecodeError
     // Octets that spell a page give it, unless memory is wanting.
     ensures each { ReadsEach IsPage page_octets (λ page. rows_of_page page) (λ e. e ≡ OutOfMemory) octets.now result }
 {
-    page_of(alloc, octets, octets.as_slice())
+    spelled_page(alloc, octets, octets.as_slice())
 }
 
 /// Adds the octets of a row behind its position to a buffer.
 #[tactic(auto, unfolding(crate::specs::Pages::placed_octets))]
 fn put_placed(out: &mut Vec<u8>, position: u64, row: &Row) -> Result<(), AllocError>
-    requires { FitsPage (placed position row.now) }
-    ensures { OnOk result (out.new.items ≡ out.old.items ++ placed_octets (placed position row.now)) }
+    requires { FitsPage (row_placed position row.now) }
+    ensures { OnOk result (out.new.items ≡ out.old.items ++ placed_octets (row_placed position row.now)) }
 {
     put_u64(out, position)?;
     put_row(out, row)
 }
 
 /// Adds the octets of some rows to a buffer, each behind its position.
-fn put_rows(out: &mut Vec<u8>, rows: &[Row], positions: &[u64]) -> Result<(), AllocError>
+fn put_placed_rows(out: &mut Vec<u8>, rows: &[Row], positions: &[u64]) -> Result<(), AllocError>
     requires beside { length positions.now ≡ length rows.now }
     requires each { AllByRecursion FitsPage (placed_rows positions.now rows.now) }
     ensures { OnOk result (out.new.items
@@ -143,5 +143,5 @@ pub fn put_page(out: &mut Vec<u8>, rows: &[Row], positions: &[u64]) -> Result<()
     ensures { OnOk result (out.new.items ≡ out.old.items ++ page_octets (placed_rows positions.now rows.now)) }
 {
     put_u16(out, rows.len() as u16)?;
-    put_rows(out, rows, positions)
+    put_placed_rows(out, rows, positions)
 }

@@ -1,5 +1,5 @@
 use Rattle.std.proofs.Common.{◌≤◌, sym, ◌∙◌, subst}
-use Rattle.run_files.specs.Opening.{IsNextPage, IsOpenRefusal, pages_in, pages_read}
+use Rattle.run_files.specs.Opening.{IsNextPage, IsOpenRefusal, index_pages, pages_read}
 use Rattle.run_files.specs.declared.opening.RunOpening.{RunOpening}
 use Rattle.run_files.proofs.OpenCalls.{err_too, handed_on, not_begun, ok_too, opened, too_many}
 use Rattle.run_files.proofs.opening.open_run.Goals as goal
@@ -29,7 +29,7 @@ returns-clause-refused g c =
     let so_far = c.pages.invariant in
     let next = c.in_ok-next.ensures in
     let none = subst (IsNextPage device c.pages.opening c.next.new.self c.pages.disk) c.in_default.is next.page in
-    let all : pages_in c.next.new.self ≤ pages_read c.next.new.self = subst (λ (o : RunOpening). pages_in o ≤ pages_read o) (sym none.1) none.0 in
+    let all : index_pages c.next.new.self ≤ pages_read c.next.new.self = subst (λ (o : RunOpening). index_pages o ≤ pages_read o) (sym none.1) none.0 in
     err_too c.finish.result _ _
     (λ e h. too_many device c.args.file c.next.new.self c.args.disk.now c.next.new.disk e (next.file ∙ so_far.file ∙ begun.begun.in_file) (next.looked.reads_same ∙ so_far.looked.reads_same ∙ begun.untouched.reads_same)
     (next.told ∙ so_far.no_fault ∙ begun.told) (next.looked.no_write ∙ so_far.looked.no_write ∙ begun.begun.no_failed_write) next.reading all h.0 h.1)

@@ -21,6 +21,6 @@ returns c =
     let rows = placed_rows c.args.positions.now c.args.rows.now in
     let octets = flat_map placed_octets rows in
     let count : length rows ≡ length c.args.rows.now = placed_rows_len c.args.positions.now c.args.rows.now c.requires.beside in
-    ok_too c.put_rows.result _ _
+    ok_too c.put_placed_rows.result _ _
     (λ e. e ∙ ap (λ (l : List ℕ). l ++ octets) c.in_ok-put_u16.ensures.ok ∙ append_assoc out (number w16 (length c.args.rows.now)) octets ∙ ap (λ (n : ℕ). out ++ (number w16 n ++ octets)) (sym count))
-    c.put_rows.ensures
+    c.put_placed_rows.ensures

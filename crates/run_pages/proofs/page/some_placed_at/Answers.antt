@@ -1,6 +1,6 @@
 use Rattle.std.proofs.Common.{◌≡◌, ◌∷◌, ◌++◌, [], length-append, arith}
 use Rattle.octet_fields.proofs.Times.{ends, goes_on, is_done}
-use Rattle.run_pages.specs.Placed.{placed, placed_rows}
+use Rattle.run_pages.specs.Placed.{row_placed, placed_rows}
 use Rattle.run_pages.specs.Pages.{placed_at, rows_of_page}
 use Rattle.run_pages.proofs.Beside.{placed_rows-push}
 use Rattle.run_pages.proofs.page.some_placed_at.Goals as goal
@@ -11,9 +11,9 @@ loop-preserved c =
     let rows = c.loop.rows in
     let position = c.in_ok-position.position in
     let row = c.in_ok-position.row in
-    let pushed : placed_rows c.push.new.self c.push-in-loop.new.self ≡ placed_rows positions rows ++ placed position row ∷ [] = rw (c.in_ok-push.ensures.ok, c.in_ok-push-2.ensures.ok) (placed_rows-push positions rows position row c.loop.invariant.beside) in
+    let pushed : placed_rows c.push.new.self c.push-in-loop.new.self ≡ placed_rows positions rows ++ row_placed position row ∷ [] = rw (c.in_ok-push.ensures.ok, c.in_ok-push-2.ensures.ok) (placed_rows-push positions rows position row c.loop.invariant.beside) in
     record {
-      read = goes_on placed_at (placed_rows positions rows) _ c.args.count c.loop.counter c.loop.rest.now (placed position row) c.in_ok-position.after.now _ pushed c.loop-test.true c.in_ok-position.ensures.gives c.loop.invariant.read;
+      read = goes_on placed_at (placed_rows positions rows) _ c.args.count c.loop.counter c.loop.rest.now (row_placed position row) c.in_ok-position.after.now _ pushed c.loop-test.true c.in_ok-position.ensures.gives c.loop.invariant.read;
       end = c.in_ok-position.ensures.rest;
       beside = rw (c.in_ok-push.ensures.ok, c.in_ok-push-2.ensures.ok) (omega (arith, length-append positions (position ∷ []), length-append rows (row ∷ []), c.loop.invariant.beside));
     }

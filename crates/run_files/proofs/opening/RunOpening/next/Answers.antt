@@ -12,8 +12,8 @@ use Rattle.run_files.proofs.opening.RunOpening.next.Goals as goal
 pub returns-then-self-len-clause-page : goal.returns-then-self-len-clause-page
 returns-then-self-len-clause-page g c = (omega (arith, c.if-self-len.true, c.len.ensures), refl)
 
-pub page_at-requires : goal.page_at-requires
-page_at-requires g c transparent =
+pub page_on_disk-requires : goal.page_on_disk-requires
+page_on_disk-requires g c transparent =
     let self = c.args.self.now in
     let entry = c.index-entry.result.now in
     let r = (c.requires.reading transparent).1 in
@@ -60,6 +60,6 @@ returns-clause-reading g c = λ transparent.
     let pages : List (List _) = r.0 ++ rows_of_page c.in-Some.page ∷ [] in
     let more = c.take_in.ensures.yes c.if-not-take_in.false content r.0 r.1 page.0 page.1 in (
       pages,
-      subst (λ (f : ℕ). IsReadingRun c.take_in.new.self (reads c.page_at.new.disk f) pages) (sym c.take_in.ensures.same.0)
+      subst (λ (f : ℕ). IsReadingRun c.take_in.new.self (reads c.page_on_disk.new.disk f) pages) (sym c.take_in.ensures.same.0)
           (subst (λ (i : Image). IsReadingRun c.take_in.new.self (i self.file) pages) (sym c.in_ok-page.ensures.looked.reads_same) more),
     )

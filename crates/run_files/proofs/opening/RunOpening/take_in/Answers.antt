@@ -26,8 +26,8 @@ returns-then-not-are_ordered-clause-no c = λ no_one content pages r fits spelle
     let self = c.args.self.now in
     let entry = c.args.entry in
     let table = c.next_table-table.result in
-    let told = order_told self.index.entries.items c.deref.result.now self.read table entry.first c.first_of-next.result c.args.page.now.rows c.as_slice-rows.result.now c.are_ordered.result
-    c.deref.ensures.value c.first_of-next.ensures c.as_slice-rows.ensures c.are_ordered.ensures in
+    let told = order_told self.index.entries.items c.deref.result.now self.read table entry.first c.page_first_key-next.result c.args.page.now.rows c.as_slice-rows.result.now c.are_ordered.result
+    c.deref.ensures.value c.page_first_key-next.ensures c.as_slice-rows.ensures c.are_ordered.ensures in
     let next = first_of_entry (slice_get self.index.entries.items (suc self.read)) in
     wrong content self pages r entry c.requires.there c.args.page.now fits spelled table
     (λ some. sym (c.next_table-table.ensures.later (omega (arith, some))))
@@ -42,8 +42,8 @@ returns-clause-yes c = λ yes_one content pages r fits spelled.
     let table = c.next_table-table.result in
     let mine = c.as_slice-rows.result.now in
     let row = c.index-rows-rows.result in
-    let told = order_told self.index.entries.items c.deref.result.now self.read table entry.first c.first_of-next.result page.rows mine c.are_ordered.result
-    c.deref.ensures.value c.first_of-next.ensures c.as_slice-rows.ensures c.are_ordered.ensures in
+    let told = order_told self.index.entries.items c.deref.result.now self.read table entry.first c.page_first_key-next.result page.rows mine c.are_ordered.result
+    c.deref.ensures.value c.page_first_key-next.ensures c.as_slice-rows.ensures c.are_ordered.ensures in
     let long : length mine ≡ length page.rows = ap (λ (l : List Row). length l) c.as_slice-rows.ensures in
     let some = placed_rows_len page.positions page.rows page.beside in
     let zero_key : Key = record { time = pos 0; seq = 0 } in

@@ -6,8 +6,8 @@ use Rattle.run_files.proofs.Openings.{order_told}
 use Rattle.run_files.proofs.RunPages.{found, in_order, same_rows, spelled, there_is}
 use Rattle.run_files.proofs.run.Run.rows_of.Goals as goal
 
-pub page_at-requires : goal.page_at-requires
-page_at-requires g c transparent =
+pub page_on_disk-requires : goal.page_on_disk-requires
+page_on_disk-requires g c transparent =
     let run = c.args.self.now in
     let entry = c.index-entry.result.now in
     let held = c.requires.held transparent in
@@ -32,8 +32,8 @@ returns-then-not-are_ordered-clause-refused g c =
     let held = c.in-Some.held in
     let content = g.D.Disk.device.reads c.args.disk.now run.file in
     let there = there_is run.index.entries.items c.args.page entry c.requires.page c.index-entry.ensures in
-    let told = order_told run.index.entries.items c.deref.result.now c.args.page run.table entry.first c.first_of-next.result held.rows c.as_slice.result.now c.are_ordered.result
-    c.deref.ensures.value c.first_of-next.ensures c.as_slice.ensures c.are_ordered.ensures in (
+    let told = order_told run.index.entries.items c.deref.result.now c.args.page run.table entry.first c.page_first_key-next.result held.rows c.as_slice.result.now c.are_ordered.result
+    c.deref.ensures.value c.page_first_key-next.ensures c.as_slice.ensures c.are_ordered.ensures in (
       (λ transparent. let is = c.requires.held transparent in
           let page = subst (λ (o : Option PageRows). IfSome o (λ p. IsPage (rows_of_page p) × (take entry.len (drop entry.at content) ≡ page_octets (rows_of_page p)))) c.in-Some.is (c.in_ok-held.ensures.some transparent) in
           cc (told, in_order content run is.0 is.1.reads c.args.page entry there held page.0 page.1, c.if-not-are_ordered.true)),
@@ -54,8 +54,8 @@ pub returns-clause-rising : goal.returns-clause-rising
 returns-clause-rising g c =
     let run = c.args.self.now in
     let entry = c.index-entry.result.now in
-    let told = order_told run.index.entries.items c.deref.result.now c.args.page run.table entry.first c.first_of-next.result c.in-Some.held.rows c.as_slice.result.now c.are_ordered.result
-    c.deref.ensures.value c.first_of-next.ensures c.as_slice.ensures c.are_ordered.ensures in
+    let told = order_told run.index.entries.items c.deref.result.now c.args.page run.table entry.first c.page_first_key-next.result c.in-Some.held.rows c.as_slice.result.now c.are_ordered.result
+    c.deref.ensures.value c.page_first_key-next.ensures c.as_slice.ensures c.are_ordered.ensures in
     record {
       entry = entry;
       there = there_is run.index.entries.items c.args.page entry c.requires.page c.index-entry.ensures;

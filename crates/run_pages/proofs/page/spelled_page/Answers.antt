@@ -2,7 +2,7 @@ use Rattle.std.proofs.Common.{[], sym, arith}
 use Rattle.octet_fields.proofs.Answers.{reads_each, reads_only}
 use Rattle.run_pages.specs.Pages.{rows_of_page}
 use Rattle.run_pages.proofs.PageSpelling.{page_exact}
-use Rattle.run_pages.proofs.page.page_of.Goals as goal
+use Rattle.run_pages.proofs.page.spelled_page.Goals as goal
 
 pub whole_page-requires : goal.whole_page-requires
 whole_page-requires c = ([], sym c.requires)

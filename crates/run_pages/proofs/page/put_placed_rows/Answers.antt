@@ -1,10 +1,10 @@
 use Rattle.std.proofs.Common.{ℕ, ◌<◌, ◌≤◌, List, ◌++◌, length, get_or, take, refl, sym, ap, ◌∙◌, subst, append_assoc, arith}
 use Rattle.std.specs.List.{flat_map}
 use Rattle.std.proofs.lemmas.List.{take_all}
-use Rattle.run_pages.specs.Placed.{Placed, placed, placed_rows}
+use Rattle.run_pages.specs.Placed.{Placed, row_placed, placed_rows}
 use Rattle.run_pages.specs.Pages.{FitsPage, placed_octets}
 use Rattle.run_pages.proofs.Beside.{all_at, flat_more, placed_rows_len, placed_get}
-use Rattle.run_pages.proofs.page.put_rows.Goals as goal
+use Rattle.run_pages.proofs.page.put_placed_rows.Goals as goal
 
 pub put_placed-requires : goal.put_placed-requires
 put_placed-requires c =
@@ -13,7 +13,7 @@ put_placed-requires c =
     let i = c.loop-i.i in
     let row = c.index-rows-i.result in
     let all = placed_rows positions rows in
-    let here : Placed = placed (get_or positions i 0) row in
+    let here : Placed = row_placed (get_or positions i 0) row in
     let lt : i < length all = omega (arith, c.loop-i-test.true, placed_rows_len positions rows c.requires.beside) in
     subst FitsPage (placed_get positions rows i (get_or positions i 0) row here c.requires.beside c.loop-i-test.true refl c.index-rows-i.is) (all_at FitsPage all i here c.requires.each lt)
 
@@ -24,7 +24,7 @@ loop-i-preserved c =
     let i = c.loop-i.i in
     let row = c.index-rows-i.result in
     let all = placed_rows positions rows in
-    let here : Placed = placed (get_or positions i 0) row in
+    let here : Placed = row_placed (get_or positions i 0) row in
     let lt : i < length all = omega (arith, c.loop-i-test.true, placed_rows_len positions rows c.requires.beside) in
     let is = placed_get positions rows i (get_or positions i 0) row here c.requires.beside c.loop-i-test.true refl c.index-rows-i.is in
     c.in_ok-put_placed.ensures ∙ ap (λ (l : List ℕ). l ++ placed_octets here) c.loop-i.invariant ∙ append_assoc c.args.out.now.items (flat_map placed_octets (take i all)) (placed_octets here)
