@@ -1,0 +1,5 @@
+pub mod Spans
+pub mod Refused
+pub mod Asked
+pub mod Answered
+pub mod Listed
