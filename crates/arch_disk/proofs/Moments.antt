@@ -1,7 +1,7 @@
 -- How a run of calls of a disk goes on.
 use Rattle.std.proofs.Common.{◌≡◌, ◌≤◌, inl, inr, ⊎_elim, arith, refl, ◌∙◌}
 use Rattle.arch_disk.specs.Image.{Image}
-use Rattle.arch_disk.specs.Disk.{Device, Elapses, LeavesOnly, AddsNoImage, OnlyReads}
+use Rattle.arch_disk.specs.Disk.{Device, Elapses, LeavesOnly, LeavesOthers, AddsNoImage, IsOldBut, OnlyReads}
 
 module _ {D : Type 0} (device : Device D) where
   -- before the first call
@@ -65,4 +65,16 @@ module _ {D : Type 0} (device : Device D) where
     images = λ c now. first.images c (second.images c now);
     later = omega (arith, first.later, second.later);
     no_write = second.no_write ∙ first.no_write;
+  }
+
+  -- other files over two runs of calls
+  pub elsewhere_on : (file : ℕ) (old mid new : D) → LeavesOnly device old mid (IsOldBut device file old) → LeavesOnly device mid new (IsOldBut device file mid) → LeavesOnly device old new (IsOldBut device file old)
+  elsewhere_on file old mid new first second =
+      joins old mid new _ _ first second
+      (λ c other. let from = at_end old mid _ first other.0 other.1 in (from.0, from.1, λ g ne. other.2 g ne ∙ from.2 g ne))
+
+  pub others_on : (file : ℕ) (old mid new : D) → LeavesOthers device file old mid → LeavesOthers device file mid new → LeavesOthers device file old new
+  others_on file old mid new first second = record {
+    reads = λ transparent g ne. second.reads transparent g ne ∙ first.reads transparent g ne;
+    crash = elsewhere_on file old mid new first.crash second.crash;
   }

@@ -1,6 +1,6 @@
 -- A disk of numbered files: what its values mean, and how a call changes that.
-use Rattle.std.specs.Prelude.{◌≡◌, ◌⊎◌, ℕ, ◌+◌, ◌-◌, ◌^◌, ◌<◌, ◌≤◌, min, max, Bool, IsTrue, List, length, Result, OnErr, OnOk, is_ok, if◌then◌else◌}
-use Rattle.arch_disk.specs.Image.{Image}
+use Rattle.std.specs.Prelude.{◌≡◌, ◌⊎◌, ℕ, ◌+◌, ◌-◌, ◌^◌, ◌<◌, ◌≤◌, min, max, Bool, true, false, IsTrue, List, length, Result, OnErr, OnOk, is_ok, if◌then◌else◌}
+use Rattle.arch_disk.specs.Image.{AgreesBut, Image}
 
 -- Everything that is known of the disks of a type: the meanings of their values, and the laws of these meanings.
 pub record Device (D : Type 0) : Type 1 where
@@ -81,3 +81,28 @@ pub record OnlyReads {D : Type 0} (device : Device D) (old new : D) : Type 0 whe
   pub images : AddsNoImage device old new
   pub later : device.fault_count old ≤ device.fault_count new
   pub no_write : NoWriteFailed device old new
+
+-- the disk reads as before, and a crash leaves what it could have left before
+pub record IsUntouched {D : Type 0} (device : Device D) (old new : D) : Type 0 where
+  pub reads_same : device.reads new ≡ device.reads old
+  pub moments : LeavesOnly device old new (device.images old)
+  pub images : AddsNoImage device old new
+
+-- in every other file the image is one of those from before
+abbrev pub IsOldBut : {D : Type 0} → Device D → ℕ → D → Image → Type 0
+IsOldBut device file old c = (d : Image) × device.images old d × AgreesBut file d c
+
+-- every file but this one reads as before, and power lost at any moment leaves of it what could have been left before
+pub record LeavesOthers {D : Type 0} (device : Device D) (file : ℕ) (before after : D) : Type 0 where
+  pub reads : IsTrue device.is_transparent → AgreesBut file (device.reads before) (device.reads after)
+  pub crash : LeavesOnly device before after (IsOldBut device file before)
+
+-- the count of failed writes after a call in which one failed, or none
+abbrev pub writes_after : Bool → ℕ → ℕ
+writes_after true count = raised count
+writes_after false count = count
+
+-- a call of the disk failed, which the count of faults tells; that of failed writes tells whether it was a write
+pub record IsDiskFault {D : Type 0} (device : Device D) (before after : D) (wrote : Bool) : Type 0 where
+  pub rose : raised (device.fault_count before) ≤ device.fault_count after
+  pub writes : device.failed_writes after ≡ writes_after wrote (device.failed_writes before)

@@ -1,6 +1,6 @@
 //! The tables that a row goes into.
 
-ghost use Rattle.std.specs.Prelude.{◌≡◌, ◌++◌, ◌∷◌, [], OnOk, OnErr};
+ghost use Rattle.std.specs.Prelude.{◌≡◌, ◌↔◌, ◌<◌, ◌++◌, ◌∷◌, [], length, IsOk, OnOk, OnErr};
 
 use arrayvec::ArrayVec;
 use item_list::Items;
@@ -42,8 +42,9 @@ impl PacketTables {
         self.numbers.as_slice()
     }
 
-    /// Adds a table at the end. Refused where there's no room, it leaves the list as it was.
+    /// Adds a table at the end: refused exactly where 16 are there, and then the list is as it was.
     pub fn push(&mut self, table: u8) -> Result<(), AllocError>
+        ensures variant { IsOk result ↔ (length self.old < 16) }
         ensures ok { OnOk result (self.new ≡ self.old ++ table ∷ []) }
         ensures err { OnErr result (self.new ≡ self.old) }
     {

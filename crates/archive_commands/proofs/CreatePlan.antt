@@ -3,14 +3,13 @@ use Rattle.std.proofs.Common.{◌≡◌, ◌≤◌, ◌<◌, ◌+◌, ◌∙◌,
 use Rattle.std.specs.Prelude.{IsSome, IsTrue, Result, Ok, Err}
 use Rattle.std.proofs.lemmas.Bool.{cases_eq}
 use Rattle.arch_disk.specs.Image.{Image}
-use Rattle.arch_disk.specs.Disk.{Device, raised}
+use Rattle.arch_disk.specs.Disk.{Device, IsUntouched as JournalLeft, raised}
 use Rattle.refusals.specs.declared.refusal.Refusal.{Refusal}
 use Rattle.refusals.specs.declared.refusal.Refusal.TheVariants.{Exists, DiskFault, OutOfMemory}
 use Rattle.refusals.specs.declared.refusal.Which.TheVariants.{ScriptOctets, Tables}
 use Rattle.refusals.specs.Limits.{limit_of}
 use Rattle.disk_journal.specs.Calls.{BeginsOpen, CountsNeverFall}
 use Rattle.disk_journal.specs.Format.{HoldsNone}
-use Rattle.disk_journal.specs.State.{IsUntouched as JournalLeft}
 use Rattle.mdb_items.specs.Database.{Database}
 use Rattle.mdb_items.specs.declared.sheet.RawMdb.{RawMdb}
 use Rattle.mdb_sheets.proofs.Sheets.{sheets_determined}

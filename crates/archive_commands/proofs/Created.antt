@@ -3,7 +3,7 @@ use Rattle.std.proofs.Common.{◌≡◌, ◌⊎◌, ◌≤◌, inl, inr, ℕ, Li
 use Rattle.std.specs.Prelude.{option_map, Ok, Err}
 use mathlib.Core.List.{IsPrefix}
 use Rattle.arch_disk.specs.Image.{Image}
-use Rattle.arch_disk.specs.Disk.{Device, LeavesOnly, raised}
+use Rattle.arch_disk.specs.Disk.{Device, IsUntouched as JournalLeft, LeavesOnly, raised}
 use Rattle.arch_disk.proofs.Moments.{at_end}
 use Rattle.refusals.specs.declared.refusal.Refusal.{Refusal}
 use Rattle.refusals.specs.declared.refusal.Refusal.TheVariants.{OutOfMemory}
@@ -11,7 +11,6 @@ use Rattle.history_items.specs.declared.fills.Fill.{Fill}
 use Rattle.history_items.specs.Fills.{unacknowledged_in}
 use Rattle.history_items.specs.declared.items.Item.{Item}
 use Rattle.disk_journal.specs.Format.{HoldsNone}
-use Rattle.disk_journal.specs.State.{IsUntouched as JournalLeft}
 use Rattle.mdb_items.specs.declared.fault.MdbFault.{MdbFault}
 use Rattle.mdb_items.specs.declared.fault.MdbFault.TheVariants as faulted
 use Rattle.mdb_items.specs.declared.fault.MdbLimit.{MdbLimit}

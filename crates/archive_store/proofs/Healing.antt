@@ -1,7 +1,7 @@
 -- What a store keeps over a reopen.
 use Rattle.std.proofs.Common.{◌≡◌, ℕ, ◌≤◌, List, Option, Some, None, sym, ◌∙◌, subst, arith}
 use Rattle.std.specs.Prelude.{IsTrue}
-use Rattle.arch_disk.specs.Disk.{Device, LeavesOnly}
+use Rattle.arch_disk.specs.Disk.{Device, IsOldBut, LeavesOnly}
 use Rattle.arch_disk.proofs.Moments.{weakens}
 use Rattle.history_items.specs.declared.fills.Fill.{Fill}
 use Rattle.history_items.specs.declared.fills.Addition.{Addition}
@@ -10,7 +10,7 @@ use Rattle.history_items.specs.Fills.{rows_of_faults, pending_fault_of, reopened
 use Rattle.history_items.proofs.FillLists.{pending_fault_of-reopened, rows_of_faults-reopened, Rising-reopened, Rising-later}
 use Rattle.disk_journal.specs.Format.{IsBeforeOrAfter}
 use Rattle.disk_journal.specs.State.{HasOnDisk as JournalHasOnDisk}
-use Rattle.disk_journal.specs.State.{unhealed_fault, file_of, IsOldBut}
+use Rattle.disk_journal.specs.State.{unhealed_fault, file_of}
 use Rattle.disk_journal.specs.declared.journal.Journal.{Journal}
 use Rattle.field_codec.specs.Spelling.{entry_octets}
 use Rattle.archive_store.specs.declared.head.Head.{Head}

@@ -2,11 +2,11 @@
 use Rattle.std.proofs.Common.{◌≡◌, ◌⊎◌, inl, inr, ⊎_elim, ℕ, ◌≤◌, List, [], ◌∷◌, ◌++◌, map, Option, Some, None, refl, sym, ◌∙◌, ap, subst, arith, append_assoc}
 use Rattle.std.proofs.lemmas.List.{map-append}
 use Rattle.arch_disk.specs.Image.{Image}
-use Rattle.arch_disk.specs.Disk.{Device, LeavesOnly}
+use Rattle.arch_disk.specs.Disk.{Device, IsOldBut, LeavesOnly}
 use Rattle.arch_disk.proofs.Moments.{joins, weakens, both, at_end}
 use Rattle.disk_journal.specs.Format.{HasRecords, IsBeforeOrAfter}
 use Rattle.disk_journal.specs.State.{HasOnDisk as JournalHasOnDisk}
-use Rattle.disk_journal.specs.State.{unhealed_fault, file_of, faults_of, IsSame, IsOldBut}
+use Rattle.disk_journal.specs.State.{unhealed_fault, file_of, faults_of, IsSame}
 use Rattle.disk_journal.specs.declared.journal.Journal.{Journal}
 use Rattle.disk_journal.proofs.Appending.{keeps_same}
 use Rattle.archive_store.specs.Images.{IsSaidByLowerFiles, ReplaysBy, StandsOver, StandsForSome, StandsNow, ImageInvariant, LogInvariant}

@@ -4,7 +4,7 @@ use Rattle.std.specs.Prelude.{IsTrue, Contains, min, ◌-◌}
 use Rattle.std.specs.Option.{option_or}
 use Rattle.std.proofs.lemmas.List.Elements.{Contains-append_left, Contains-append_right}
 use mathlib.Core.List.{IsPrefix}
-use Rattle.arch_disk.specs.Disk.{Device, LeavesOnly, raised}
+use Rattle.arch_disk.specs.Disk.{Device, IsOldBut, LeavesOnly, raised}
 use Rattle.arch_types.specs.declared.row.Row.{Row}
 use Rattle.history_items.specs.declared.fills.Addition.{Addition}
 use Rattle.history_items.specs.declared.fills.Addition.TheVariants as additions
@@ -16,7 +16,7 @@ use Rattle.history_items.specs.Fills.{rows_of_faults, pending_fault_of, unacknow
 use Rattle.history_items.proofs.FillLists.{rows_of_faults-append, pending_fault_of-append, Rising-later, Rising-append}
 use Rattle.disk_journal.specs.Format.{IsBeforeOrAfter}
 use Rattle.disk_journal.specs.State.{HasOnDisk as JournalHasOnDisk}
-use Rattle.disk_journal.specs.State.{unhealed_fault, file_of, faults_of, IsSame, IsOldBut}
+use Rattle.disk_journal.specs.State.{unhealed_fault, file_of, faults_of, IsSame}
 use Rattle.disk_journal.specs.declared.journal.Journal.{Journal}
 use Rattle.field_codec.specs.declared.entry.Entry.TheVariants as entries
 use Rattle.field_codec.specs.Spelling.{entry_octets}

@@ -2,7 +2,7 @@
 use Rattle.std.proofs.Common.{◌≡◌, ◌⊎◌, inl, inr, ℕ, ◌+◌, ◌≤◌, ◌^◌, true, List, [], ◌∷◌, ◌++◌, length, map, Option, Some, None, refl, sym, ◌∙◌, ap, subst, arith, append-nil, length-append}
 use Rattle.std.specs.Prelude.{IsTrue, min, ◌-◌, ◌≢◌}
 use Rattle.arch_disk.specs.Image.{Image}
-use Rattle.arch_disk.specs.Disk.{Device, LeavesOnly, raised}
+use Rattle.arch_disk.specs.Disk.{Device, IsOldBut, LeavesOnly, raised}
 use Rattle.arch_disk.proofs.Moments.{started}
 use Rattle.intervals.specs.declared.interval.Interval.{Interval}
 use Rattle.history_items.specs.declared.fills.Addition.{Addition}
@@ -17,7 +17,7 @@ use Rattle.history_items.proofs.FillLists.{rows_of_faults-append, pending_fault_
 use Rattle.std.specs.Option.{option_or}
 use Rattle.disk_journal.specs.Format.{HasRecords, IsBeforeOrAfter}
 use Rattle.disk_journal.specs.State.{HasOnDisk as JournalHasOnDisk}
-use Rattle.disk_journal.specs.State.{unhealed_fault, count_of, file_of, IsSame, IsOldBut}
+use Rattle.disk_journal.specs.State.{unhealed_fault, count_of, file_of, IsSame}
 use Rattle.disk_journal.specs.declared.journal.Journal.{Journal}
 use Rattle.disk_journal.proofs.Bodies.{length-extents}
 use Rattle.field_codec.specs.declared.entry.Entry.TheVariants as entries

@@ -2,10 +2,10 @@
 -- what the other files say.
 use Rattle.std.specs.Prelude.{◌≡◌, ◌⊎◌, ℕ, ◌<◌, IsTrue, List, [], ◌∷◌, ◌++◌, map, Option, Some, None}
 use Rattle.arch_disk.specs.Image.{Image}
-use Rattle.arch_disk.specs.Disk.{Device, LeavesOnly}
+use Rattle.arch_disk.specs.Disk.{Device, IsOldBut, LeavesOnly}
 use Rattle.disk_journal.specs.Format.{HasRecords}
 use Rattle.disk_journal.specs.State.{HasOnDisk as JournalHasOnDisk}
-use Rattle.disk_journal.specs.State.{IsOldBut, file_of, unhealed_fault}
+use Rattle.disk_journal.specs.State.{file_of, unhealed_fault}
 use Rattle.disk_journal.specs.declared.journal.Journal.{Journal}
 
 -- HasBase image log beginning base: the files beside the log say that it is this file, that its records begin with

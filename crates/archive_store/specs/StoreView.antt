@@ -2,8 +2,7 @@
 use Rattle.std.specs.Prelude.{◌≡◌, ◌⊎◌, ℕ, ◌^◌, ◌≤◌, ◌-◌, Bool, List, [], ◌∷◌, ◌++◌, min, Contains, Option, Some}
 use mathlib.Core.List.{IsPrefix}
 use Rattle.arch_disk.specs.Image.{Image}
-use Rattle.arch_disk.specs.Disk.{Device, LeavesOnly, raised}
-use Rattle.disk_journal.specs.Faults.{writes_after}
+use Rattle.arch_disk.specs.Disk.{Device, LeavesOnly, raised, writes_after}
 use Rattle.history_items.specs.declared.fills.Fill.{Fill}
 use Rattle.history_items.specs.declared.fills.Addition.{Addition}
 use Rattle.history_items.specs.declared.fills.Fill.TheVariants.{Fault}

@@ -1,8 +1,8 @@
 //! Entries that are appended: rows and fills in one way.
 
 ghost use Rattle.std.specs.Prelude.{◌≡◌, ◌≤◌, ◌<◌, ◌^◌, ◌-◌, ℕ, [], ◌∷◌, None, IsTrue, OnOk, IfOk, IfErr};
-ghost use Rattle.arch_disk.specs.Disk.{NoFault};
-ghost use Rattle.disk_journal.specs.Calls.{CountsNeverFall, CrashLeavesRecords, IsAppended, LeavesOthers};
+ghost use Rattle.arch_disk.specs.Disk.{LeavesOthers, NoFault};
+ghost use Rattle.disk_journal.specs.Calls.{CountsNeverFall, CrashLeavesRecords, IsAppended};
 ghost use Rattle.disk_journal.specs.State.{HasRoom, IsOnDisk, count_of, file_of, unhealed_fault};
 ghost use Rattle.fill_tracker.specs.FillTracker.{KeepsMarks};
 ghost use Rattle.history_items.specs.declared.fills.Addition.TheVariants as additions;

@@ -1,8 +1,7 @@
 //! The store.
 
 ghost use Rattle.std.specs.Prelude.{◌≡◌, [], IsTrue, length, IfOk, IfErr, None};
-ghost use Rattle.arch_disk.specs.Disk.{LeavesOnly};
-ghost use Rattle.disk_journal.specs.State.{IsUntouched};
+ghost use Rattle.arch_disk.specs.Disk.{IsUntouched, LeavesOnly};
 ghost use Rattle.field_codec.specs.declared.entry.Entry.TheVariants as entries;
 ghost use Rattle.field_codec.specs.Entries.{IsArchiveEntry};
 ghost use Rattle.field_codec.specs.Spelling.{entry_octets};

@@ -1,6 +1,6 @@
 //! Blocks of entries in the order of their keys, and what puts entries into them.
 
-ghost use Rattle.std.specs.Prelude.{◌≡◌, ◌+◌, ◌-◌, ◌*◌, ◌<◌, ◌≤◌, ℕ, [], length, take, drop, slice_index_or, vec_len, vec_capacity, Ok, Err};
+ghost use Rattle.std.specs.Prelude.{◌≡◌, ◌+◌, ◌-◌, ◌*◌, ◌<◌, ◌≤◌, ℕ, [], length, take, drop, insert, slice_index_or, vec_len, vec_capacity, Ok, Err};
 ghost use Rattle.std.specs.Global.{Vec};
 ghost use Rattle.std.specs.BTreeMap.{insert_entry};
 ghost use Rattle.block_map.specs.Rising.{IsRising, IsPlaceIn};
@@ -107,6 +107,21 @@ pub(crate) fn open_block<K: Ord + Copy, V: Copy>(
     b
 }
 
+/// Puts an entry at a place of a block that has room. At its end, where keys mostly come, none is moved for it.
+fn insert_reserved<K: Copy, V: Copy>(block: &mut Block<K, V>, at: usize, entry: (K, V))
+    requires at { at ≤ vec_len block.old }
+    requires room { vec_len block.old < vec_capacity block.old }
+    ensures items { block.new.items ≡ insert block.old.items at entry }
+    ensures len { vec_len block.new ≡ vec_len block.old + 1 }
+    ensures capacity { vec_capacity block.new ≡ vec_capacity block.old }
+{
+    if at == block.len() {
+        block.push_reserved(entry);
+    } else {
+        let _ = block.insert(at, entry);
+    }
+}
+
 /// Puts an entry into a block that has a place left.
 pub(crate) fn put<K: Ord + Copy, V: Copy>(
     blocks: &mut Vec<Block<K, V>>,
@@ -129,7 +144,7 @@ pub(crate) fn put<K: Ord + Copy, V: Copy>(
     ensures len { vec_len blocks.new ≡ vec_len blocks.old }
     ensures capacity { vec_capacity blocks.new ≡ vec_capacity blocks.old }
 {
-    let _ = blocks[b].insert(at, (key, value));
+    insert_reserved(&mut blocks[b], at, (key, value));
 }
 
 /// Gives the entry at a place another value.

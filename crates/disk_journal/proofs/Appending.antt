@@ -1,10 +1,10 @@
 -- What the two writes of an append leave.
 use Rattle.std.proofs.Common.{◌≡◌, ℕ, ◌+◌, ◌^◌, ◌<◌, List, [], ◌∷◌, ◌++◌, length, sym, ◌∙◌, ap, subst, arith, length-append}
 use Rattle.arch_disk.specs.Image.{Image, Torn, InFile, Becomes, overwritten}
-use Rattle.arch_disk.specs.Disk.{Device, IsDurable, LeavesOnly}
-use Rattle.arch_disk.proofs.Moments.{joins, weakens, at_end}
+use Rattle.arch_disk.specs.Disk.{Device, IsDurable, IsOldBut, LeavesOnly}
+use Rattle.arch_disk.proofs.Moments.{elsewhere_on, weakens}
 use Rattle.disk_journal.specs.Format.{framed, written, HasRecords, HasStaged, IsClosed, HoldsNone}
-use Rattle.disk_journal.specs.State.{HasOnDisk, IsOnDisk, StateIs, IsOldBut, IsSame, extents_from}
+use Rattle.disk_journal.specs.State.{HasOnDisk, IsOnDisk, StateIs, IsSame, extents_from}
 use Rattle.disk_journal.specs.declared.journal.Extent.{Extent}
 use Rattle.disk_journal.specs.declared.journal.Journal.{Journal}
 use Rattle.disk_journal.specs.declared.journal.PendingFault.{PendingFault}
@@ -46,13 +46,8 @@ module _ {D : Type 0} (device : Device D) where
   pub elsewhere_one : (old new : D) (file at n : ℕ) → LeavesOnly device old new (Wrote device file at n old) → LeavesOnly device old new (IsOldBut device file old)
   elsewhere_one old new file at n run = weakens device old new _ _ run (λ c wrote. (wrote.0, wrote.1, wrote.2.others))
 
-  pub elsewhere_on : (old mid new : D) (file : ℕ) → LeavesOnly device old mid (IsOldBut device file old) → LeavesOnly device mid new (IsOldBut device file mid) → LeavesOnly device old new (IsOldBut device file old)
-  elsewhere_on old mid new file first second =
-      joins device old mid new _ _ first second
-      (λ c other. let from = at_end device old mid _ first other.0 other.1 in (from.0, from.1, λ g ne. other.2 g ne ∙ from.2 g ne))
-
   pub elsewhere_two : (old mid new : D) (file at n at' n' : ℕ) → LeavesOnly device old mid (Wrote device file at n old) → LeavesOnly device mid new (Wrote device file at' n' mid) → LeavesOnly device old new (IsOldBut device file old)
-  elsewhere_two old mid new file at n at' n' first second = elsewhere_on old mid new file (elsewhere_one old mid file at n first) (elsewhere_one mid new file at' n' second)
+  elsewhere_two old mid new file at n at' n' first second = elsewhere_on device file old mid new (elsewhere_one old mid file at n first) (elsewhere_one mid new file at' n' second)
 
   -- a journal keeps its records where its file does
   pub keeps_state : {journal : Journal} {bodies : List (List ℕ)} {pending : List ℕ} {old : D} {t : PendingFault} (new : D) → HasOnDisk device journal bodies pending old → journal.pending_fault ≡ t → StateIs device t journal.file bodies pending new → HasOnDisk device journal bodies pending new

@@ -4,13 +4,13 @@ use Rattle.std.specs.Prelude.{◌↔◌, Bool, true, false, IsTrue, Result, Ok, 
 use Rattle.std.specs.Int.{w32, from_be_bytes}
 use Rattle.std.proofs.lemmas.List.{append-nil, take_at, drop_at, drop-drop}
 use Rattle.arch_disk.specs.Image.{Image}
-use Rattle.arch_disk.specs.Disk.{Device, LeavesOnly, OnlyReads, raised}
+use Rattle.arch_disk.specs.Disk.{Device, LeavesOnly, OnlyReads, raised, writes_after}
 use Rattle.arch_disk.proofs.Moments.{weakens, at_end}
-use Rattle.disk_journal.specs.Faults.{TellsWrites, writes_after}
+use Rattle.disk_journal.specs.Faults.{TellsWrites}
 use Rattle.disk_journal.specs.Format.{framed, written, HasRecords, HasStaged, HoldsNone, IsBeforeOrAfter, IsDamagedAt}
 use Rattle.disk_journal.specs.Reading.{IsAt, IsCutShortAt, gate_of, file_read}
 use Rattle.disk_journal.specs.State.{HasOnDisk, IsOnDisk, IsReadFault, StateIs, extents_from, faults_of, file_of, count_of, unhealed_fault}
-use Rattle.disk_journal.specs.Calls.{BeginsOpen, body_of, records_of, body_behind, next_body_of, if_gate_written, unhealed_records_of, CrashLeavesRecords, LeavesOthers, IsAppended, IsAppendFailed, IsAppendRefusal, IsHealed, IsHealFailed, IsHealRefusal, IsPrepareRefusal, IsJournalCreateRefusal, IsJournalOpenRefusal, IsOpeningBegun, IsBeginRefusal, IsNextRefusal, IsReadWholeRefusal, StandsAtGate, content_read, read_so_far}
+use Rattle.disk_journal.specs.Calls.{BeginsOpen, body_of, records_of, body_behind, next_body_of, if_gate_written, unhealed_records_of, CrashLeavesRecords, IsAppended, IsAppendFailed, IsAppendRefusal, IsHealed, IsHealFailed, IsHealRefusal, IsPrepareRefusal, IsJournalCreateRefusal, IsJournalOpenRefusal, IsOpeningBegun, IsBeginRefusal, IsNextRefusal, IsReadWholeRefusal, StandsAtGate, content_read, read_so_far}
 use Rattle.disk_journal.specs.declared.journal.Extent.{Extent}
 use Rattle.disk_journal.specs.declared.journal.Journal.{Journal}
 use Rattle.disk_journal.specs.declared.opening.Opening.{Opening}
@@ -21,7 +21,7 @@ use Rattle.disk_journal.specs.declared.fault.JournalFault.TheVariants.{Exists, N
 use Rattle.disk_journal.proofs.Files.{length-framed, staged_either}
 use Rattle.disk_journal.proofs.Bodies.{behind, begins}
 use Rattle.disk_journal.proofs.Once.{frame_size, frame_tail}
-use Rattle.disk_journal.proofs.Appending.{touched_state, elsewhere_on}
+use Rattle.disk_journal.proofs.Appending.{touched_state}
 
 -- the bodies at the extents of records that stand somewhere in a file
 pub bodies_at : (bodies : List (List ℕ)) (front tail : List ℕ) (at : ℕ) → at ≡ length front → map (body_of (front ++ (written bodies ++ tail))) (extents_from at bodies) ≡ bodies
@@ -214,13 +214,6 @@ module _ {D : Type 0} (device : Device D) where
     tells_writes before after wrote refusal.writes,
   )
   not_prepared file before after OutOfMemory refusal exists moments = absurd refusal
-
-  -- other files over two runs of calls
-  pub others_on : (old mid new : D) (file : ℕ) → LeavesOthers device file old mid → LeavesOthers device file mid new → LeavesOthers device file old new
-  others_on old mid new file first second = record {
-    reads = λ transparent g ne. second.reads transparent g ne ∙ first.reads transparent g ne;
-    crash = elsewhere_on device old mid new file first.crash second.crash;
-  }
 
   -- an opening that has read some records of its file stands at the gate behind them
   pub stands_at_gate : (old new : Opening) (before after : D) (bodies : List (List ℕ)) → file_read new ≡ file_read old → device.reads after ≡ device.reads before

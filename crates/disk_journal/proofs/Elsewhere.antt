@@ -1,9 +1,9 @@
 -- A journal keeps its records while other files change, and while the disk is only looked at.
 use Rattle.std.proofs.Common.{◌≡◌, ◌≢◌, ℕ, List, refl, sym, ◌∙◌, ap, subst}
 use Rattle.arch_disk.specs.Image.{Image, AgreesBut}
-use Rattle.arch_disk.specs.Disk.{Device, OnlyReads}
+use Rattle.arch_disk.specs.Disk.{Device, IsOldBut, OnlyReads}
 use Rattle.disk_journal.specs.Format.{HasRecords, HasStaged}
-use Rattle.disk_journal.specs.State.{HasOnDisk, StateIs, IsOldBut}
+use Rattle.disk_journal.specs.State.{HasOnDisk, StateIs}
 use Rattle.disk_journal.specs.declared.journal.Journal.{Journal}
 use Rattle.disk_journal.specs.declared.journal.PendingFault.{PendingFault}
 use Rattle.disk_journal.specs.declared.journal.PendingFault.TheVariants.{Absent, GateClosed, GateWritten}

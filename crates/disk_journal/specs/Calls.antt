@@ -1,12 +1,12 @@
 -- What the calls of a journal answer, and what each answer leaves on the disk.
 use Rattle.std.specs.Prelude.{◌≡◌, ◌≢◌, ◌⊎◌, ℕ, ◌+◌, ◌-◌, ◌^◌, ◌<◌, ◌≤◌, ◌++◌, List, [], ◌∷◌, length, take, drop, map, get_or, min, true, false, IsTrue, Option, Some, None, Result, IfErr, IsErrAnd}
 use Rattle.std.specs.Int.{w32, from_be_bytes}
-use Rattle.arch_disk.specs.Image.{Image, AgreesBut}
-use Rattle.arch_disk.specs.Disk.{Device, IsDurable, LeavesOnly, NoWriteFailed, raised}
-use Rattle.disk_journal.specs.Faults.{IsDiskFault, IsFailure, TellsWrites}
+use Rattle.arch_disk.specs.Image.{Image}
+use Rattle.arch_disk.specs.Disk.{Device, IsDiskFault, IsDurable, LeavesOnly, NoWriteFailed, raised}
+use Rattle.disk_journal.specs.Faults.{IsFailure, TellsWrites}
 use Rattle.disk_journal.specs.Format.{HasRecords, IsDamagedAt, HoldsNone}
 use Rattle.disk_journal.specs.Reading.{IsAt, IsCutShortAt, gate_of, file_read}
-use Rattle.disk_journal.specs.State.{HasOnDisk, HasRoom, IsOldBut, IsReadFrom, count_of, file_of, unhealed_fault}
+use Rattle.disk_journal.specs.State.{HasOnDisk, HasRoom, IsReadFrom, count_of, file_of, unhealed_fault}
 use Rattle.disk_journal.specs.declared.journal.Extent.{Extent}
 use Rattle.disk_journal.specs.declared.journal.Journal.{Journal}
 use Rattle.disk_journal.specs.declared.journal.PendingFault.{PendingFault}
@@ -48,11 +48,6 @@ abbrev pub CrashLeavesRecords : {D : Type 0} → Device D → Journal → D → 
 CrashLeavesRecords device journal before after more = IsTrue device.is_transparent → LeavesOnly device before after
     (λ c. HasRecords (c (file_of journal)) (records_of device journal before)
     ⊎ HasRecords (c (file_of journal)) (records_of device journal before ++ more))
-
--- every file but this one reads as before, and power lost at any moment leaves of it what could have been left before
-pub record LeavesOthers {D : Type 0} (device : Device D) (file : ℕ) (before after : D) : Type 0 where
-  pub reads : IsTrue device.is_transparent → AgreesBut file (device.reads before) (device.reads after)
-  pub crash : LeavesOnly device before after (IsOldBut device file before)
 
 -- neither the count of faults nor that of failed writes has fallen
 pub record CountsNeverFall {D : Type 0} (device : Device D) (old new : D) : Type 0 where

@@ -4,16 +4,6 @@ use Rattle.arch_disk.specs.Disk.{Device, NoFault, NoWriteFailed, raised}
 use Rattle.disk_journal.specs.declared.fault.JournalFault.{JournalFault}
 use Rattle.disk_journal.specs.declared.fault.JournalFault.TheVariants.{DiskFault, OutOfMemory}
 
--- the count of failed writes after a call in which one failed, or none
-abbrev pub writes_after : Bool → ℕ → ℕ
-writes_after true count = raised count
-writes_after false count = count
-
--- a call of the disk failed, which the count of faults tells; that of failed writes tells whether it was a write
-pub record IsDiskFault {D : Type 0} (device : Device D) (before after : D) (wrote : Bool) : Type 0 where
-  pub rose : raised (device.fault_count before) ≤ device.fault_count after
-  pub writes : device.failed_writes after ≡ writes_after wrote (device.failed_writes before)
-
 -- whether a write failed where more than one may: the count of failed writes rose, or is as before
 abbrev pub TellsWrites : {D : Type 0} → Device D → D → D → Bool → Type 0
 TellsWrites device before after true = raised (device.failed_writes before) ≤ device.failed_writes after

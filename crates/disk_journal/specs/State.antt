@@ -1,7 +1,7 @@
 -- How a journal in memory and its file belong together.
 use Rattle.std.specs.Prelude.{◌≡◌, ℕ, ◌+◌, ◌<◌, false, List, [], ◌∷◌, length, Option, Some, None, vec_len, vec_capacity}
-use Rattle.arch_disk.specs.Image.{Image, AgreesBut}
-use Rattle.arch_disk.specs.Disk.{Device, IsDurable, AddsNoImage, LeavesOnly}
+use Rattle.arch_disk.specs.Image.{Image}
+use Rattle.arch_disk.specs.Disk.{Device, IsDurable}
 use Rattle.disk_journal.specs.Format.{written, HasRecords, HasStaged}
 use Rattle.disk_journal.specs.declared.journal.Journal.{Journal}
 use Rattle.disk_journal.specs.declared.fault.JournalFault.{JournalFault}
@@ -37,16 +37,6 @@ pub record IsOnDisk {D : Type 0} (device : Device D) (journal : Journal) (disk :
   pub bodies : List (List ℕ)
   pub pending : List ℕ
   pub keeps : HasOnDisk device journal bodies pending disk
-
--- the disk reads as before, and a crash leaves what it could have left before
-pub record IsUntouched {D : Type 0} (device : Device D) (old new : D) : Type 0 where
-  pub reads_same : device.reads new ≡ device.reads old
-  pub moments : LeavesOnly device old new (device.images old)
-  pub images : AddsNoImage device old new
-
--- in every other file the image is one of those from before
-abbrev pub IsOldBut : {D : Type 0} → Device D → ℕ → D → Image → Type 0
-IsOldBut device file old c = (d : Image) × device.images old d × AgreesBut file d c
 
 -- all but the room is the same
 pub record IsSame (old new : Journal) : Type 0 where

@@ -1,6 +1,7 @@
 // One record more, and what is done when that fails.
 ghost use Rattle.std.specs.Prelude.{◌≡◌, [], ◌∷◌, None, IsTrue, OnOk, IfOk, IfErr};
-ghost use Rattle.disk_journal.specs.Calls.{CountsNeverFall, CrashLeavesRecords, IsAppended, IsAppendRefusal, IsHealed, IsHealRefusal, LeavesOthers, unhealed_records_of};
+ghost use Rattle.arch_disk.specs.Disk.{LeavesOthers};
+ghost use Rattle.disk_journal.specs.Calls.{CountsNeverFall, CrashLeavesRecords, IsAppended, IsAppendRefusal, IsHealed, IsHealRefusal, unhealed_records_of};
 ghost use Rattle.disk_journal.specs.Faults.{TellsFaults};
 ghost use Rattle.disk_journal.specs.State.{IsOnDisk, HasRoom, file_of, unhealed_fault};
 

@@ -1,12 +1,11 @@
 // The records of one file.
 ghost use Rattle.std.specs.Prelude.{◌≡◌, ◌≢◌, ◌+◌, ◌<◌, ◌≤◌, ◌⊎◌, ◌++◌, [], ◌∷◌, List, ℕ, None, IsTrue, false, true, length, get_or, OnOk, OnErr, IfOk, IfErr, IfSome, slice_get};
 ghost use Rattle.arch_disk.specs.Image.{Image};
-ghost use Rattle.arch_disk.specs.Disk.{IsDurable, LeavesOnly, NoWriteFailed, OnlyReads, HasCause, raised};
+ghost use Rattle.arch_disk.specs.Disk.{HasCause, IsDurable, IsUntouched, LeavesOnly, LeavesOthers, NoWriteFailed, OnlyReads, raised};
 ghost use Rattle.disk_journal.specs.Format.{HasRecords, IsDamagedAt, HoldsNone, IsBeforeOrAfter};
-ghost use Rattle.disk_journal.specs.Calls.{BeginsOpen, IsPrepareRefusal, LeavesOthers};
+ghost use Rattle.disk_journal.specs.Calls.{BeginsOpen, IsPrepareRefusal};
 ghost use Rattle.disk_journal.specs.Faults.{TellsFaults};
 ghost use Rattle.disk_journal.specs.declared.fault.JournalFault.TheVariants.{DiskFault};
-ghost use Rattle.disk_journal.specs.State.{IsUntouched};
 
 use crate::steps::{flush, len_of, octet_at, octets_at, put};
 use crate::{Frame, JournalFault, Opening};

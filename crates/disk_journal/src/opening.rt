@@ -1,8 +1,8 @@
 // A journal that is being read, record after record, in one pass.
 ghost use Rattle.std.specs.Prelude.{◌≡◌, ◌≢◌, ◌+◌, ◌<◌, ◌^◌, ◌≤◌, ◌⊎◌, ◌++◌, [], ◌∷◌, List, ℕ, IsTrue, false, length, get_or, take, drop, OnOk, IfOk, IfErr, IfSome, None};
-ghost use Rattle.arch_disk.specs.Disk.{OnlyReads, raised};
+ghost use Rattle.arch_disk.specs.Disk.{IsUntouched, OnlyReads, raised};
 ghost use Rattle.disk_journal.specs.Faults.{TellsFaults};
-ghost use Rattle.disk_journal.specs.State.{IsReadFault, IsUntouched};
+ghost use Rattle.disk_journal.specs.State.{IsReadFault};
 ghost use Rattle.disk_journal.specs.declared.fault.JournalFault.TheVariants.{DiskFault};
 
 use crate::JournalFault;

@@ -1,12 +1,11 @@
 -- How the making of an archive of made packets went, and what was done behind it.
 use Rattle.std.proofs.Common.{◌≡◌, inl, inr, ℕ, ℤ, false, Option, Some, refl}
 use Rattle.std.specs.Prelude.{IsTrue}
-use Rattle.arch_disk.specs.Disk.{Device}
+use Rattle.arch_disk.specs.Disk.{Device, IsUntouched as JournalLeft}
 use Rattle.refusals.specs.declared.refusal.Refusal.{Refusal}
 use Rattle.refusals.specs.declared.refusal.Refusal.TheVariants.{OutOfMemory}
 use Rattle.disk_journal.specs.Calls.{BeginsOpen, CountsNeverFall}
 use Rattle.disk_journal.specs.Format.{HoldsNone}
-use Rattle.disk_journal.specs.State.{IsUntouched as JournalLeft}
 use Rattle.outer_traits.specs.States.{OutputState}
 use Rattle.archive_store.specs.Calls.{CrashLeavesHead, IsStoreCreateRefusal}
 use Rattle.archive_commands.proofs.CreatePlan.{ran_unmade}

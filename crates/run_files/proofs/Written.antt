@@ -1,18 +1,14 @@
 -- Pages that were written, one behind the other.
-use Rattle.std.proofs.Common.{◌≡◌, ◌≢◌, ◌⊎◌, inl, inr, ⊎_elim, ℕ, zero, suc, ◌+◌, ◌-◌, ◌*◌, ◌<◌, ◌≤◌, min, true, false, List, [], ◌∷◌, ◌++◌, length, get_or, take, drop, refl, sym, ap, ◌∙◌, subst, append_assoc, append-nil, length-append, arith}
+use Rattle.std.proofs.Common.{◌≡◌, ◌≢◌, ◌⊎◌, ⊎_elim, ℕ, zero, suc, ◌+◌, ◌-◌, ◌*◌, ◌<◌, ◌≤◌, min, true, false, List, [], ◌∷◌, ◌++◌, length, get_or, take, drop, refl, sym, ap, ◌∙◌, subst, append_assoc, append-nil, length-append, arith}
 use Rattle.std.specs.Prelude.{IsTrue}
 use Rattle.std.specs.List.{AllByRecursion}
 use Rattle.std.proofs.lemmas.Bool.{cases_lt}
 use Rattle.std.proofs.lemmas.Grind.{flat_map-append}
 use Rattle.std.proofs.lemmas.List.{drop-drop, length-take, length-drop, drop_all, take_min}
 use Rattle.arch_disk.specs.Image.{Image, AgreesBut}
-use Rattle.arch_disk.specs.Disk.{Device, LeavesOnly, NoFault, NoWriteFailed, raised}
-use Rattle.arch_disk.proofs.Moments.{started, weakens}
+use Rattle.arch_disk.specs.Disk.{Device, IsOldBut, LeavesOnly, LeavesOthers, NoFault, NoWriteFailed, raised}
+use Rattle.arch_disk.proofs.Moments.{others_on, started, weakens}
 use Rattle.arch_types.specs.declared.row.Row.{Row}
-use Rattle.arch_types.specs.declared.key.Key.{Key}
-use Rattle.disk_journal.specs.Calls.{LeavesOthers}
-use Rattle.disk_journal.specs.State.{IsOldBut}
-use Rattle.disk_journal.proofs.Appending.{elsewhere_on}
 use Rattle.row_codec.specs.Rows.{IsStored}
 use Rattle.run_pages.specs.Placed.{Placed, placed_rows, row_placed}
 use Rattle.run_pages.specs.Pages.{FitsPage, IsPage, page_octets}
@@ -130,16 +126,10 @@ module _ {D : Type 0} (device : Device D) (file : ℕ) where
     crash = weakens device old new (device.images old) (IsOldBut device file old) moments (λ c was. (c, was, λ g other. refl));
   }
 
-  pub others_on : (old mid new : D) → LeavesOthers device file old mid → LeavesOthers device file mid new → LeavesOthers device file old new
-  others_on old mid new first second = record {
-    reads = λ transparent g other. second.reads transparent g other ∙ first.reads transparent g other;
-    crash = elsewhere_on device old mid new file first.crash second.crash;
-  }
-
   -- a file that was emptied, and a sync
   pub others_emptied : (old mid new : D) → (IsTrue device.is_transparent → AgreesBut file (device.reads old) (device.reads mid)) → LeavesOnly device old mid (IsOldBut device file old) → device.reads new ≡ device.reads mid → LeavesOnly device mid new (device.images mid)
       → LeavesOthers device file old new
-  others_emptied old mid new reads elsewhere same moments = others_on old mid new (record { reads = reads; crash = elsewhere }) (others_synced mid new same moments)
+  others_emptied old mid new reads elsewhere same moments = others_on device file old mid new (record { reads = reads; crash = elsewhere }) (others_synced mid new same moments)
 
   pub fault_behind : (old mid new : D) (fault : RunFault) → NoFault device old mid → NoWriteFailed device old mid → IsWriteFault device mid new fault → IsWriteFault device old new fault
   fault_behind old mid new (Damaged f at) none writes h = absurd h

@@ -1,8 +1,7 @@
 -- A run that is read whole, page after page.
 use Rattle.std.specs.Prelude.{◌≡◌, ℕ, ◌+◌, ◌<◌, ◌≤◌, List, [], ◌∷◌, ◌++◌, length, Option, Some, None, IsTrue}
 use Rattle.std.specs.List.{flat_map}
-use Rattle.arch_disk.specs.Disk.{Device, IsDurable, NoFault, NoWriteFailed}
-use Rattle.disk_journal.specs.Faults.{IsDiskFault}
+use Rattle.arch_disk.specs.Disk.{Device, IsDiskFault, IsDurable, NoFault, NoWriteFailed}
 use Rattle.run_pages.specs.Placed.{Placed}
 use Rattle.run_pages.specs.Pages.{rows_of_page}
 use Rattle.run_pages.specs.Runs.{IsRunFile}

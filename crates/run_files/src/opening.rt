@@ -1,9 +1,8 @@
 //! A run file that is read whole, page after page.
 
 ghost use Rattle.std.specs.Prelude.{◌≡◌, ◌++◌, ◌∷◌, [], ◌+◌, ◌<◌, ◌≤◌, ℕ, List, length, IsTrue, Option, Some, None, true, false, take, drop, slice_get, OnOk, OnErr, IfOk, IfErr};
-ghost use Rattle.arch_disk.specs.Disk.{NoFault, OnlyReads};
+ghost use Rattle.arch_disk.specs.Disk.{IsUntouched, NoFault, OnlyReads};
 ghost use Rattle.arch_types.specs.declared.key.Key.{Key as AKey};
-ghost use Rattle.disk_journal.specs.State.{IsUntouched};
 ghost use Rattle.run_pages.specs.Order.{are_ordered};
 ghost use Rattle.run_files.specs.declared.fault.RunFault.TheVariants.{Limit};
 ghost use Rattle.run_files.specs.Opening.{IsOpenRefusal, IsRunOpened};

@@ -2,8 +2,7 @@
 
 ghost use Rattle.std.specs.Prelude.{◌≡◌, [], ◌++◌, ◌≤◌, ◌+◌, IsTrue, length, take, drop, OnOk, IfOk, IfErr};
 ghost use Rattle.arch_disk.specs.Image.{AgreesBut};
-ghost use Rattle.arch_disk.specs.Disk.{AddsNoImage, IsDurable, LeavesOnly, NoFault, NoWriteFailed, OnlyReads};
-ghost use Rattle.disk_journal.specs.State.{IsOldBut};
+ghost use Rattle.arch_disk.specs.Disk.{AddsNoImage, IsDurable, IsOldBut, LeavesOnly, NoFault, NoWriteFailed, OnlyReads};
 ghost use Rattle.run_files.specs.Faults.{IsLookFault, IsWriteFault};
 
 use crate::RunFault;

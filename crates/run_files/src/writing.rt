@@ -2,8 +2,7 @@
 
 ghost use Rattle.std.specs.Prelude.{◌≡◌, ◌≤◌, ◌+◌, ◌++◌, [], ℕ, IsTrue, length, OnOk, IfOk, IfErr};
 ghost use Rattle.std.specs.List.{AllByRecursion};
-ghost use Rattle.arch_disk.specs.Disk.{IsDurable, NoFault, NoWriteFailed};
-ghost use Rattle.disk_journal.specs.Calls.{LeavesOthers};
+ghost use Rattle.arch_disk.specs.Disk.{IsDurable, LeavesOthers, NoFault, NoWriteFailed};
 ghost use Rattle.run_pages.specs.Placed.{placed_rows};
 ghost use Rattle.run_pages.specs.Pages.{IsPage, page_octets};
 ghost use Rattle.run_pages.specs.Index.{IsPageEntry, index_octets};

@@ -1,6 +1,6 @@
 use Rattle.std.proofs.Common.{refl}
 use Rattle.arch_disk.proofs.Moments.{started, goes_on}
-use Rattle.disk_journal.specs.State.{IsOldBut}
+use Rattle.arch_disk.specs.Disk.{IsOldBut}
 use Rattle.run_files.proofs.steps.empty.Goals as goal
 
 pub returns-in-Ok-clause-elsewhere : goal.returns-in-Ok-clause-elsewhere

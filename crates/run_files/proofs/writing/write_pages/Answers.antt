@@ -1,9 +1,10 @@
-use Rattle.std.proofs.Common.{◌≡◌, ◌-◌, ◌+◌, ◌<◌, ℕ, [], ◌∷◌, ◌++◌, List, length, take, drop, sym, subst, arith}
+use Rattle.std.proofs.Common.{◌≡◌, ◌-◌, ◌+◌, ◌<◌, ℕ, [], ◌∷◌, ◌++◌, List, take, drop, sym, subst, arith}
+use Rattle.arch_disk.proofs.Moments.{others_on}
 use Rattle.run_pages.specs.Placed.{Placed, placed_rows}
 use Rattle.run_pages.specs.Pages.{IsPage}
 use Rattle.run_pages.specs.declared.index.PageEntry.{PageEntry}
 use Rattle.run_pages.proofs.Beside.{placed_rows_len}
-use Rattle.run_files.proofs.Written.{WrittenSoFar, all_pages, is_page, none_written, others_on, page_more, page_rows}
+use Rattle.run_files.proofs.Written.{WrittenSoFar, all_pages, is_page, none_written, page_more, page_rows}
 use Rattle.run_files.proofs.writing.write_pages.Goals as goal
 
 pub pages-init : goal.pages-init

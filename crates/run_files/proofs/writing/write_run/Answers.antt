@@ -1,12 +1,12 @@
 use Rattle.std.proofs.Common.{◌≡◌, ◌++◌, true, List, length, refl, sym, ap, ◌∙◌, subst, arith}
+use Rattle.arch_disk.proofs.Moments.{others_on}
 use Rattle.arch_types.specs.declared.row.Row.{Row}
-use Rattle.disk_journal.specs.Calls.{LeavesOthers}
 use Rattle.run_pages.specs.Index.{index_octets, is_index}
 use Rattle.run_pages.specs.Footer.{IsFooter, footer_octets}
 use Rattle.run_pages.specs.declared.index.PageEntry.{PageEntry}
 use Rattle.run_pages.specs.declared.footer.Footer.{Footer}
 use Rattle.run_files.proofs.RunMade.{few_pages, footer_fits, footer_told, index_made, run_made}
-use Rattle.run_files.proofs.Written.{others_emptied, others_on}
+use Rattle.run_files.proofs.Written.{others_emptied}
 use Rattle.run_files.proofs.writing.write_run.Goals as goal
 
 pub returns-in_err-flush-clause-others : goal.returns-in_err-flush-clause-others

@@ -1,10 +1,10 @@
 use Rattle.std.proofs.Common.{rules, ◌≡◌, ℕ, ◌+◌, [], ◌∷◌, ◌++◌, List, length, inl, refl, sym, ◌∙◌, ap, subst, arith, length-append}
 use Rattle.std.specs.Prelude.{IsTrue}
 use Rattle.arch_disk.specs.Image.{Image}
-use Rattle.arch_disk.specs.Disk.{LeavesOnly}
+use Rattle.arch_disk.specs.Disk.{LeavesOnly, LeavesOthers}
 use Rattle.arch_disk.proofs.Moments.{joins, weakens, started, at_end}
 use Rattle.disk_journal.specs.Format.{framed, HasRecords, HasStaged, IsBeforeOrAfter}
-use Rattle.disk_journal.specs.Calls.{LeavesOthers, records_of}
+use Rattle.disk_journal.specs.Calls.{records_of}
 use Rattle.disk_journal.specs.State.{StateIs, faults_of}
 use Rattle.disk_journal.specs.declared.journal.PendingFault.{PendingFault}
 use Rattle.disk_journal.proofs.Files.{length-framed, length-written, opened_done, record_inside, staged_either, sum_is}

@@ -1,10 +1,9 @@
 use Rattle.std.proofs.Common.{[], ℕ, subst, arith}
-use Rattle.arch_disk.specs.Disk.{LeavesOnly}
-use Rattle.arch_disk.proofs.Moments.{joins}
-use Rattle.disk_journal.specs.Calls.{LeavesOthers}
+use Rattle.arch_disk.specs.Disk.{LeavesOnly, LeavesOthers}
+use Rattle.arch_disk.proofs.Moments.{joins, others_on}
 use Rattle.disk_journal.specs.Format.{IsBeforeOrAfter}
 use Rattle.disk_journal.specs.State.{file_of}
-use Rattle.disk_journal.proofs.Calls.{append_crash_on, append_failed_on, heal_crash_on, refusal_failed, others_on}
+use Rattle.disk_journal.proofs.Calls.{append_crash_on, append_failed_on, heal_crash_on, refusal_failed}
 use Rattle.disk_journal.proofs.journal.Journal.append_first.Goals as goal
 
 pub returns-in-Err-clause-any_moment : goal.returns-in-Err-clause-any_moment
@@ -25,5 +24,5 @@ returns-in-Err-clause-any_moment g c transparent =
 pub returns-in-Err-clause-others : goal.returns-in-Err-clause-others
 returns-in-Err-clause-others g c =
     let device = g.D.Disk.device in
-    others_on device c.args.disk.now c.append.new.disk c.heal.new.disk (file_of c.args.self.now) c.append.ensures.others
+    others_on device (file_of c.args.self.now) c.args.disk.now c.append.new.disk c.heal.new.disk c.append.ensures.others
     (subst (λ (f : ℕ). LeavesOthers device f c.append.new.disk c.heal.new.disk) c.append.ensures.file c.heal.ensures.others)

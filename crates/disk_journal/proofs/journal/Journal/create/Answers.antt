@@ -1,10 +1,12 @@
 use Rattle.std.proofs.Common.{[], ℕ, inr, refl, sym, subst, arith}
 use Rattle.std.specs.Prelude.{true}
-use Rattle.disk_journal.specs.Calls.{LeavesOthers, IsJournalCreateRefusal}
+use Rattle.arch_disk.proofs.Moments.{others_on}
+use Rattle.arch_disk.specs.Disk.{LeavesOthers}
+use Rattle.disk_journal.specs.Calls.{IsJournalCreateRefusal}
 use Rattle.disk_journal.specs.Format.{HoldsNone}
 use Rattle.disk_journal.specs.declared.fault.JournalFault.TheVariants.{DiskFault}
 use Rattle.disk_journal.proofs.Appending.{keeps_same}
-use Rattle.disk_journal.proofs.Calls.{others_on, handed_on, not_prepared}
+use Rattle.disk_journal.proofs.Calls.{handed_on, not_prepared}
 use Rattle.disk_journal.proofs.Told.{told_on, told_write}
 use Rattle.disk_journal.proofs.journal.Journal.create.Goals as goal
 
@@ -41,13 +43,13 @@ returns-in_err-append_first-clause-refused g c =
 pub returns-in_err-append_first-clause-others : goal.returns-in_err-append_first-clause-others
 returns-in_err-append_first-clause-others g c =
     let device = g.D.Disk.device in
-    others_on device c.args.disk.now c.prepare.new.disk c.append_first.new.disk c.args.file c.prepare.ensures.others
+    others_on device c.args.file c.args.disk.now c.prepare.new.disk c.append_first.new.disk c.prepare.ensures.others
     (subst (λ (f : ℕ). LeavesOthers device f c.prepare.new.disk c.append_first.new.disk) c.reserve.ensures.same.file c.append_first.ensures.others)
 
 pub returns-clause-others : goal.returns-clause-others
 returns-clause-others g c =
     let device = g.D.Disk.device in
-    others_on device c.args.disk.now c.prepare.new.disk c.append_first.new.disk c.args.file c.prepare.ensures.others
+    others_on device c.args.file c.args.disk.now c.prepare.new.disk c.append_first.new.disk c.prepare.ensures.others
     (subst (λ (f : ℕ). LeavesOthers device f c.prepare.new.disk c.append_first.new.disk) c.reserve.ensures.same.file c.append_first.ensures.others)
 
 pub returns-in_err-prepare-clause-told : goal.returns-in_err-prepare-clause-told
