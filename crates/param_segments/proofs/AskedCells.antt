@@ -35,7 +35,7 @@ module _ {X : Type 0} (P : X → Type 0) where
   all_append [] ys p q = q
   all_append (x ∷ xs) ys p q = (p.0, all_append xs ys p.1 q)
 
-  all_reverse : (xs : List X) → AllByRecursion P xs → AllByRecursion P (reverse xs)
+  pub all_reverse : (xs : List X) → AllByRecursion P xs → AllByRecursion P (reverse xs)
   all_reverse [] all = tt
   all_reverse (x ∷ xs) all = subst (AllByRecursion P) (sym (reverse-append (x ∷ []) xs)) (all_append (reverse xs) (x ∷ []) (all_reverse xs all.1) (all.0, tt))
 

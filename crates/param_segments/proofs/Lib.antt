@@ -28,7 +28,10 @@ pub mod SegmentValues
 pub mod ListSteps
 pub mod SetAgain
 pub mod RunSteps
+pub mod FirstCells
+pub mod FirstItems
 pub mod RangeCells
+pub mod AskedOfEach
 pub mod AskedCells
 pub mod SetRuns
 pub mod Passed

@@ -1,6 +1,6 @@
 -- The cells of a range of times: those of each segment, merged, are those of the rows.
 use Rattle.std.proofs.Common.{◌≡◌, ◌∙◌, ℕ, ◌<◌, ℤ, List, [], ◌∷◌, ◌++◌, length, Bool, true, false, cond, inl, inr, Option, Some, None, refl, sym, ap, subst, arith}
-use Rattle.std.specs.Prelude.{◌≤ℤ◌, ◌==◌, filter, flat_map, if◌then◌else◌, int_lt, option_map, take, drop}
+use Rattle.std.specs.Prelude.{◌≤ℤ◌, ◌==◌, filter, flat_map, if◌then◌else◌, int_lt, map, option_map, take, drop}
 use Rattle.std.specs.List.{AllByRecursion, cons_option, filter_map, position}
 use Rattle.std.specs.List.Sorted.{IsPermutation, IsSortedBy, IsStrictlySortedBy}
 use Rattle.std.specs.declared.cmp.Ordering.TheVariants.{Less}
@@ -10,23 +10,27 @@ use Rattle.std.proofs.lemmas.List.{length-drop, length-take-le}
 use Rattle.std.proofs.lemmas.List.Quantifiers.{position-Some}
 use Rattle.std.proofs.lemmas.List.Sorted.{IsPermutation-sym}
 use Rattle.std.proofs.lemmas.Map.Keys.{sorted_head, sorted_tail}
+use Rattle.arch_types.specs.declared.direction.Direction.{Direction}
 use Rattle.arch_types.specs.declared.key.Key.{Key}
 use Rattle.arch_types.specs.Order.{key_cmp}
 use Rattle.container_extract.specs.Values.{raw_among}
 use Rattle.container_extract.specs.declared.values.RawValue.{RawValue}
 use Rattle.segment_codec.specs.OneColumn.{column_in, column_there}
-use Rattle.segment_codec.specs.RangeColumn.{column_in_range, is_key_in_range, keys_before, rows_in_range}
+use Rattle.segment_codec.specs.RangeColumn.{asked_column, asked_rows, first_in, is_key_in_range, keys_before, rows_in_range}
 use Rattle.segment_codec.specs.Segment.{IsSegment}
 use Rattle.segment_codec.specs.declared.one_column.ParameterColumn.{ParameterColumn}
 use Rattle.segment_codec.specs.declared.segment.Segment.{Segment}
 use Rattle.segment_codec.proofs.RangeSteps.{count_within, none_before, none_inside}
-use Rattle.param_segments.specs.CellRange.{is_raw_cell_in_range, raw_cells_in_range, segment_cells_in_range}
+use Rattle.param_segments.specs.CellRange.{is_raw_cell_in_range, raw_cells_in_range, segment_cells_asked, segment_cells_in_range}
 use Rattle.param_segments.specs.Cells.{cells_from, column_cells, is_cell_earlier, raw_cell, raw_cell_of}
+use Rattle.param_segments.specs.declared.cell_range.CellRange.{CellRange}
 use Rattle.param_segments.specs.Groups.{is_of_group, groups_of, set_of}
 use Rattle.param_segments.specs.Rows.{AreSetRows, SetRow}
 use Rattle.param_segments.specs.Segments.{rows_of_segment}
 use Rattle.param_segments.specs.declared.raw_cell.RawCell.{RawCell}
 use Rattle.param_segments.proofs.CellOrder.{Keeps, own_key, cells_same_by}
+use Rattle.param_segments.proofs.FirstCells.{cells_first, first_len, first_of_none}
+use Rattle.param_segments.proofs.MergedCells.{own_keys}
 use Rattle.param_segments.proofs.SegmentCells.{cells_of_groups, cells_rise, lengths, long_at, no_cell, segment_is_cells}
 use Rattle.param_segments.proofs.Sorting.{sorted_is}
 use Rattle.param_segments.proofs.Stored.{set_is_segments}
@@ -110,13 +114,20 @@ there_cases q s is (Some j) below = (long_at (length s.keys) s.columns j (below 
 column_is : (q : ℕ) (s : Segment) → IsSegment s → IsEven (column_in q s) × IsRising (column_in q s)
 column_is q s is = there_cases q s is (position (λ p. p == q) s.parameters) (λ j e. subst (λ (n : ℕ). j < n) (sym is.column_count) (position-Some (λ p. p == q) s.parameters j 0 e).0)
 
-range_cases : (low high : ℤ) (o : Option ParameterColumn) → IsEven o → IsRising o → IsEven (option_map (rows_in_range low high) o) × (column_cells (option_map (rows_in_range low high) o) ≡ filter (is_raw_cell_in_range low high) (column_cells o))
-range_cases low high None even rising = (tt, refl)
-range_cases low high (Some column) even rising = (part_long low high column.keys column.values even, column_range_cells low high column.keys column.values even rising)
+-- and of these the first so many that are asked
+asked_cases : (low high : ℤ) (direction : Direction) (limit : Option ℕ) (o : Option ParameterColumn) → IsEven o → IsRising o →
+    IsEven (option_map (asked_rows low high direction limit) o) × (column_cells (option_map (asked_rows low high direction limit) o) ≡ first_in direction limit (filter (is_raw_cell_in_range low high) (column_cells o)))
+asked_cases low high direction limit None even rising = (tt, sym (first_of_none direction limit))
+asked_cases low high direction limit (Some column) even rising =
+    let c = rows_in_range low high column in
+    let long = part_long low high column.keys column.values even in (
+      first_len direction limit c.values c.keys long,
+      cells_first direction limit c.keys c.values long ∙ ap (first_in direction limit) (column_range_cells low high column.keys column.values even rising),
+    )
 
--- what is read of a segment in a range are its cells there
-pub segment_range_cells : (q : ℕ) (low high : ℤ) (s : Segment) → IsSegment s → IsEven (column_in_range q low high s) × (column_cells (column_in_range q low high s) ≡ segment_cells_in_range q low high s)
-segment_range_cells q low high s is = let c = column_is q s is in range_cases low high (column_in q s) c.0 c.1
+pub segment_asked_cells : (q : ℕ) (range : CellRange) (s : Segment) → IsSegment s →
+    IsEven (asked_column q range.from range.to range.direction range.limit s) × (column_cells (asked_column q range.from range.to range.direction range.limit s) ≡ segment_cells_asked q range s)
+segment_asked_cells q range s is = let c = column_is q s is in asked_cases range.from range.to range.direction range.limit (column_in q s) c.0 c.1
 
 -- ---- rows
 
@@ -145,18 +156,39 @@ timely_are q low high (row ∷ rows) =
 
 -- ---- all segments
 
+timely_segment : (q : ℕ) (low high : ℤ) (s : Segment) → IsSegment s → segment_cells_in_range q low high s ≡ filter_map (timely_cell q low high) (rows_of_segment s)
+timely_segment q low high s is = ap (filter (is_raw_cell_in_range low high)) (segment_is_cells q s is) ∙ timely_are q low high (rows_of_segment s)
+
+-- the keys of the cells of each segment rise
+pub each_rises : (q : ℕ) (low high : ℤ) (ss : List Segment) → AllByRecursion IsSegment ss → AllByRecursion (λ s. IsStrictlySortedBy key_cmp (map (λ c. c.key) (segment_cells_in_range q low high s))) ss
+each_rises q low high [] all = tt
+each_rises q low high (s ∷ ss) all =
+    let keys = subst (IsStrictlySortedBy key_cmp) (sym (own_keys s.parameters s.keys s.columns)) all.0.rising in (
+      subst (λ (cells : List RawCell). IsStrictlySortedBy key_cmp (map (λ c. c.key) cells)) (sym (timely_segment q low high s all.0)) (cells_rise (timely_cell q low high) (rows_of_segment s) (keeps q low high) keys),
+      each_rises q low high ss all.1,
+    )
+
 each_timely : (q : ℕ) (low high : ℤ) (ss : List Segment) → AllByRecursion IsSegment ss → flat_map (segment_cells_in_range q low high) ss ≡ flat_map (λ s. filter_map (timely_cell q low high) (rows_of_segment s)) ss
 each_timely q low high [] all = refl
 each_timely q low high (s ∷ ss) all =
-    ap (λ (cells : List RawCell). cells ++ flat_map (segment_cells_in_range q low high) ss) (ap (filter (is_raw_cell_in_range low high)) (segment_is_cells q s all.0) ∙ timely_are q low high (rows_of_segment s))
+    ap (λ (cells : List RawCell). cells ++ flat_map (segment_cells_in_range q low high) ss) (timely_segment q low high s all.0)
     ∙ ap (λ (cells : List RawCell). filter_map (timely_cell q low high) (rows_of_segment s) ++ cells) (each_timely q low high ss all.1)
+
+-- those of each segment are those of the rows
+pub range_cells_same : (q : ℕ) (low high : ℤ) (ts : List SetRow) → AreSetRows ts → IsPermutation (flat_map (segment_cells_in_range q low high) (set_of ts)) (raw_cells_in_range q low high ts)
+range_cells_same q low high ts are =
+    let f = timely_cell q low high in
+    let groups : flat_map (segment_cells_in_range q low high) (set_of ts) ≡ flat_map (λ g. filter_map f (filter (is_of_group g) ts)) (groups_of ts) = each_timely q low high (set_of ts) (set_is_segments ts are) ∙ cells_of_groups f ts in
+    subst (λ (xs : List RawCell). IsPermutation xs (raw_cells_in_range q low high ts)) (sym groups) (subst (IsPermutation (flat_map (λ g. filter_map f (filter (is_of_group g) ts)) (groups_of ts))) (sym (timely_are q low high ts)) (cells_same_by f ts (keeps q low high) are))
+
+pub range_cells_rise : (q : ℕ) (low high : ℤ) (ts : List SetRow) → AreSetRows ts → IsStrictlySortedBy key_cmp (map (λ c. c.key) (raw_cells_in_range q low high ts))
+range_cells_rise q low high ts are =
+    subst (λ (cells : List RawCell). IsStrictlySortedBy key_cmp (map (λ c. c.key) cells)) (sym (timely_are q low high ts)) (cells_rise (timely_cell q low high) ts (keeps q low high) are.rising)
 
 -- what is gathered of a range, sorted by key, are the cells of the rows in it
 pub range_cells_are : (q : ℕ) (low high : ℤ) (ts : List SetRow) (mixed sorted : List RawCell) → AreSetRows ts → mixed ≡ flat_map (segment_cells_in_range q low high) (set_of ts) → IsPermutation mixed sorted → IsSortedBy is_cell_earlier sorted →
     sorted ≡ raw_cells_in_range q low high ts
 range_cells_are q low high ts mixed sorted are is same up =
-    let f = timely_cell q low high in
-    let all = filter_map f ts in
-    let groups : flat_map (segment_cells_in_range q low high) (set_of ts) ≡ flat_map (λ g. filter_map f (filter (is_of_group g) ts)) (groups_of ts) = each_timely q low high (set_of ts) (set_is_segments ts are) ∙ cells_of_groups f ts in
-    let whole : IsPermutation mixed all = subst (λ (xs : List RawCell). IsPermutation xs all) (sym (is ∙ groups)) (cells_same_by f ts (keeps q low high) are) in
-    sorted_is (λ (c : RawCell). c.key) no_cell all mixed sorted (cells_rise f ts (keeps q low high) are.rising) (IsPermutation-sym mixed all whole) same up ∙ sym (timely_are q low high ts)
+    let all = raw_cells_in_range q low high ts in
+    let whole : IsPermutation mixed all = subst (λ (xs : List RawCell). IsPermutation xs all) (sym is) (range_cells_same q low high ts are) in
+    sorted_is (λ (c : RawCell). c.key) no_cell all mixed sorted (range_cells_rise q low high ts are) (IsPermutation-sym mixed all whole) same up

@@ -23,7 +23,7 @@ ranked a b Less e apart above = e
 ranked a b Equal e apart above = absurd (let f : eq_by_cmp key_cmp a b ≡ true = ap is_eq e in cc)
 ranked a b Greater e apart above = absurd (let f : is_lt (key_cmp b a) ≡ true = ap is_lt (key_cmp_total.antisymm b a ∙ ap ordering_reverse e) in cc)
 
-flips : (x y : Key) → eq_by_cmp key_cmp x y ≡ eq_by_cmp key_cmp y x
+pub flips : (x y : Key) → eq_by_cmp key_cmp x y ≡ eq_by_cmp key_cmp y x
 flips x y = turned (key_cmp x y) (key_cmp y x) (key_cmp_total.antisymm x y)
   where
     turned : (o p : Ordering) → o ≡ ordering_reverse p → is_eq o ≡ is_eq p
@@ -35,7 +35,7 @@ module _ {X : Type 0} (key : X → Key) where
   abbrev earlier : X → X → Bool
   earlier a b = is_lt (key_cmp (key a) (key b))
 
-  rank : IsStrictWeakOrder earlier
+  pub rank : IsStrictWeakOrder earlier
   rank = ranks_by key_cmp_total key
 
   -- ---- two rising lists with the same items are one
@@ -126,7 +126,7 @@ module _ {X : Type 0} (key : X → Key) where
   all_earlier k [] all = tt
   all_earlier k (t ∷ ts) all = (less_is (key_cmp k (key t)) all.0, all_earlier k ts all.1)
 
-  rising : (ts : List X) → IsStrictlySortedBy key_cmp (map key ts) → IsRising earlier ts
+  pub rising : (ts : List X) → IsStrictlySortedBy key_cmp (map key ts) → IsRising earlier ts
   rising [] up = tt
   rising (t ∷ ts) up = (all_earlier (key t) ts (sorted_head key_cmp (key t) (map key ts) up), rising ts (sorted_tail key_cmp (key t) (map key ts) up))
 
@@ -136,7 +136,7 @@ module _ {X : Type 0} (key : X → Key) where
   key_at : (ts : List X) (k : ℕ) (d : X) → get_or (keys ts) k (key d) ≡ key (get_or ts k d)
   key_at ts k d = get_or-map key ts k d
 
-  sorted_rises : (d : X) (ts : List X) → IsSortedBy earlier ts → IsDistinct (eq_by_cmp key_cmp) (keys ts) → IsStrictlySortedBy key_cmp (keys ts)
+  pub sorted_rises : (d : X) (ts : List X) → IsSortedBy earlier ts → IsDistinct (eq_by_cmp key_cmp) (keys ts) → IsStrictlySortedBy key_cmp (keys ts)
   sorted_rises d ts up distinct = sorted_from_all_adjacent key_cmp_total (keys ts) (key d) (λ k lt.
       let len : length (keys ts) ≡ length ts = length-map ts key in
       let a = get_or (keys ts) k (key d) in

@@ -3,7 +3,7 @@ use Rattle.std.specs.Prelude.{ℕ, ℤ, Bool, List, filter}
 use Rattle.arch_types.specs.Directions.{in_direction, truncated}
 use Rattle.arch_types.specs.declared.cell.Cell.{Cell}
 use Rattle.mdb_items.specs.Database.{Database}
-use Rattle.segment_codec.specs.RangeColumn.{is_key_in_range}
+use Rattle.segment_codec.specs.RangeColumn.{first_in, is_key_in_range}
 use Rattle.segment_codec.specs.declared.segment.Segment.{Segment}
 use Rattle.param_segments.specs.Cells.{segment_cells, set_cells, set_raw_cells}
 use Rattle.param_segments.specs.Rows.{SetRow}
@@ -36,3 +36,7 @@ raw_cells_in_range q low high rows = filter (is_raw_cell_in_range low high) (set
 -- those of a segment
 abbrev pub segment_cells_in_range : ℕ → ℤ → ℤ → Segment → List RawCell
 segment_cells_in_range q low high s = filter (is_raw_cell_in_range low high) (segment_cells q s)
+
+-- and of these the first so many that a range asks, in their own order
+abbrev pub segment_cells_asked : ℕ → CellRange → Segment → List RawCell
+segment_cells_asked q range s = first_in range.direction range.limit (segment_cells_in_range q range.from range.to s)

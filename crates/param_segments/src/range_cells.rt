@@ -1,9 +1,10 @@
-//! The cells of a parameter in a range of times, in the segments of a set. Segments before the range are passed over.
+//! The cells of a parameter in a range of times, in the segments of a set. Segments before the range are passed over, and
+//! of each other one no more values are read than the limit asks.
 
 ghost use Rattle.std.specs.Prelude.{◌≡◌, ◌<◌, ◌<ℤ◌, ◌++◌, flat_map, length, true, IfOk, OnOk};
 ghost use Rattle.std.specs.List.{AllByRecursion};
 ghost use Rattle.arch_types.specs.Directions.{in_direction, truncated};
-ghost use Rattle.param_segments.specs.CellRange.{as_range_asks, raw_cells_in_range, segment_cells_in_range};
+ghost use Rattle.param_segments.specs.CellRange.{as_range_asks, raw_cells_in_range, segment_cells_asked};
 ghost use Rattle.param_segments.specs.Groups.{set_of};
 ghost use Rattle.param_segments.specs.Octets.{IsSpelledSet, rows_in_octets};
 ghost use Rattle.param_segments.specs.RowPlaces.{numbered_segment};
@@ -14,10 +15,10 @@ use crate::cell_range::CellRange;
 use crate::cells::{are_sorted, put_column};
 use crate::raw_cell::RawCell;
 use arch_types::direction::Direction;
-use segment_codec::{read_column_in_range, read_head};
+use segment_codec::{RowRange, read_column_in_range, read_head};
 use std::alloc::{AllocError, Global};
 
-/// Adds the raw cells that a parameter has in a range of times in the segment that stands in octets from a place on.
+/// Adds the raw cells that a range asks of a parameter in the segment that stands in octets from a place on.
 fn put_range_cells(
     alloc: Global,
     cells: &mut Vec<RawCell>,
@@ -28,9 +29,21 @@ fn put_range_cells(
 ) -> Result<(), AllocError>
     requires { (s : Segment) × HasSegmentAt octets.now at s }
     ensures { (s : Segment) → HasSegmentAt octets.now at s → OnOk result
-        (cells.new.items ≡ cells.old.items ++ segment_cells_in_range parameter range.from range.to s) }
+        (cells.new.items ≡ cells.old.items ++ segment_cells_asked parameter range s) }
 {
-    match read_column_in_range(alloc, octets, at, parameter, range.from, range.to)? {
+    let CellRange {
+        from,
+        to,
+        direction,
+        limit,
+    } = range;
+    let rows = RowRange {
+        from,
+        to,
+        direction,
+        limit,
+    };
+    match read_column_in_range(alloc, octets, at, parameter, rows)? {
         None => Ok(()),
         Some(column) => put_column(cells, column.keys.as_slice(), column.values.as_slice()),
     }
@@ -73,7 +86,7 @@ fn put_numbered_cells(
 ) -> Result<(), AllocError>
     requires spelled { IsSpelledSet octets.now starts.now }
     requires within { number < length starts.now }
-    ensures { OnOk result (cells.new.items ≡ cells.old.items ++ segment_cells_in_range parameter range.from range.to
+    ensures { OnOk result (cells.new.items ≡ cells.old.items ++ segment_cells_asked parameter range
         (numbered_segment (set_of (rows_in_octets octets.now)) number)) }
 {
     if ends_before(alloc, octets, starts, number, range.from)? {
@@ -89,7 +102,7 @@ fn put_numbered_cells(
     )
 }
 
-/// The raw cells of a parameter in a range of times, segment by segment.
+/// The raw cells of a parameter that a range asks of each segment, one segment after the other.
 fn gathered_range_cells(
     alloc: Global,
     octets: &[u8],
@@ -98,7 +111,7 @@ fn gathered_range_cells(
     range: CellRange,
 ) -> Result<Vec<RawCell>, AllocError>
     requires { IsSpelledSet octets.now starts.now }
-    ensures { IfOk result (λ cells. cells.items ≡ flat_map (segment_cells_in_range parameter range.from range.to)
+    ensures { IfOk result (λ cells. cells.items ≡ flat_map (segment_cells_asked parameter range)
         (set_of (rows_in_octets octets.now))) }
 {
     let mut cells = Vec::new(alloc);
@@ -108,7 +121,7 @@ fn gathered_range_cells(
     Ok(cells)
 }
 
-/// The raw cells of a parameter in a range of times, in the order of their keys.
+/// The same in the order of their keys: those that the range asks of all stand among them, and before the others.
 fn sorted_range_cells(
     alloc: Global,
     octets: &[u8],
@@ -117,8 +130,8 @@ fn sorted_range_cells(
     range: CellRange,
 ) -> Result<Vec<RawCell>, AllocError>
     requires { IsSpelledSet octets.now starts.now }
-    ensures { IfOk result (λ cells. cells.items ≡ raw_cells_in_range parameter range.from range.to
-        (rows_in_octets octets.now)) }
+    ensures { IfOk result (λ cells. as_range_asks range cells.items ≡ as_range_asks range
+        (raw_cells_in_range parameter range.from range.to (rows_in_octets octets.now))) }
 {
     let mut cells = gathered_range_cells(alloc, octets, starts, parameter, range)?;
     if are_sorted(&cells) {

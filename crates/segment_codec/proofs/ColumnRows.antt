@@ -1,14 +1,15 @@
 -- Some rows of a raw column.
-use Rattle.std.proofs.Common.{◌≡◌, ◌∙◌, ℕ, zero, suc, ℤ, pos, ◌+◌, ◌^◌, ◌≤◌, inl, inr, true, cond, eqb, ◌&&◌, List, [], ◌∷◌, Some, None, FitsSigned, refl, sym, ap, arith}
+use Rattle.std.proofs.Common.{◌≡◌, ◌∙◌, ℕ, zero, suc, ℤ, pos, ◌+◌, ◌*◌, ◌/◌, ◌%◌, ◌^◌, ◌≤◌, inl, inr, true, cond, eqb, ltb, length, ◌&&◌, List, [], ◌∷◌, Some, None, FitsSigned, refl, sym, ap, arith}
 use Rattle.std.specs.Prelude.{◌+ℤ◌, int_lt, map, replicate, take, drop}
 use Rattle.std.specs.Int.{w8, w128}
 use Rattle.std.specs.List.{list_any}
 use Rattle.std.proofs.lemmas.Bool.{eqb-true}
-use Rattle.std.proofs.lemmas.List.{drop-map}
+use Rattle.std.proofs.lemmas.List.{drop-map, length-map, length-replicate}
 use Rattle.octet_fields.specs.Reading.{both_at, mapped_at, number_at, signed_at, tested_at}
-use Rattle.octet_fields.proofs.Exact.{bind_some, some_is, test_some}
-use Rattle.segment_codec.specs.Bits.{packed_at}
+use Rattle.octet_fields.proofs.Exact.{bind_some, guard_some, some_is, test_some}
+use Rattle.segment_codec.specs.Bits.{digits_of, number_from_digits, octet_count, packed_at, spare_bits}
 use Rattle.segment_codec.specs.RawColumn.{ColumnParts, bit_len, column_parts_at, greatest, is_tight, is_width, raw_column_at, same_at, value_above, values_of_parts}
+use Rattle.segment_codec.proofs.Numbers.{length-digits_of}
 use Rattle.segment_codec.proofs.Columns.{and_true, chosen, fold_max_from, if_some, int_lt_true, values_same}
 
 -- ---- lists
@@ -97,3 +98,48 @@ varied_rows n octets r1 r2 r3 after values form low w fits other read_form read_
 -- so the numbers of some rows are how far their values lie above it
 pub part_above : (low : ℤ) (first count : ℕ) (values : List ℤ) (numbers : List ℕ) → values ≡ map (value_above low) numbers → map (value_above low) (take count (drop first numbers)) ≡ take count (drop first values)
 part_above low first count values numbers is = sym (part_map (value_above low) first count numbers) ∙ ap (λ (vs : List ℤ). take count (drop first vs)) (sym is)
+
+-- ---- a column has a value for each row
+
+packed_len : (w n : ℕ) (octets : List ℕ) (x : List ℕ × List ℕ) → packed_at w n octets ≡ Some x → length x.0 ≡ n
+unfolding packed_at
+packed_len w n octets x e =
+    let k = octet_count (w * n) in
+    let number = number_from_digits 8 (take k octets) in
+    let unit = 2 ^ spare_bits (w * n) in
+    let found : List ℕ × List ℕ = (digits_of w n (number / unit), drop k octets) in
+    let g = guard_some (ltb (length octets) k) (cond (eqb (number % unit) 0) (Some found) None) x e in
+    let h = if_some (eqb (number % unit) 0) (Some found) x g.1 in
+    ap (λ (y : List ℕ × List ℕ). length y.0) (sym (some_is found x h.1)) ∙ length-digits_of w n (number / unit)
+
+parts_len : (n : ℕ) (octets : List ℕ) (x : ColumnParts × List ℕ) → column_parts_at n octets ≡ Some x → length x.0.1.1 ≡ n
+unfolding column_parts_at
+parts_len n octets x e =
+    let t = bind_some (both_at (signed_at w128) (λ _. both_at (tested_at is_width (number_at w8)) (λ k. packed_at k n)) octets) _ x e in
+    let tight = test_some (is_tight t.0.0) (Some t.0) x t.2 in
+    let lows = bind_some (signed_at w128 octets) _ t.0 t.1 in
+    let more = bind_some (both_at (tested_at is_width (number_at w8)) (λ k. packed_at k n) lows.0.1) _ t.0 lows.2 in
+    let width = bind_some (tested_at is_width (number_at w8) lows.0.1) _ more.0 more.1 in
+    let pack = bind_some (packed_at width.0.0 n width.0.1) _ more.0 width.2 in
+    let made_more : (ℕ × List ℕ) × List ℕ = ((width.0.0, pack.0.0), pack.0.1) in
+    let made_whole : ColumnParts × List ℕ = ((lows.0.0, more.0.0), more.0.1) in
+    let e1 = some_is made_more more.0 pack.2 in
+    let e2 = some_is made_whole t.0 more.2 in
+    let e3 = some_is t.0 x tight.1 in
+    sym (ap (λ (y : (ℕ × List ℕ) × List ℕ). length y.0.1) e1 ∙ ap (λ (y : ColumnParts × List ℕ). length y.0.1.1) (e2 ∙ e3)) ∙ packed_len width.0.0 n width.0.1 pack.0 pack.1
+
+pub column_len : (n : ℕ) (octets : List ℕ) (x : List ℤ × List ℕ) → raw_column_at n octets ≡ Some x → length x.0 ≡ n
+unfolding raw_column_at same_at
+column_len n octets x e =
+    let p = bind_some (number_at w8 octets) (λ f. cond (eqb f.0 0) (same_at n f.1) (cond (eqb f.0 1) (mapped_at values_of_parts (column_parts_at n) f.1) None)) x e in
+    elim (chosen (eqb p.0.0 0) (same_at n p.0.1) (cond (eqb p.0.0 1) (mapped_at values_of_parts (column_parts_at n) p.0.1) None) x p.2) [
+      | inl zero_form ↦
+          let a = bind_some (signed_at w128 p.0.1) (λ a. Some (replicate n a.0, a.1)) x zero_form.1 in
+          let made : List ℤ × List ℕ = (replicate n a.0.0, a.0.1) in
+          ap (λ (y : List ℤ × List ℕ). length y.0) (sym (some_is made x a.2)) ∙ length-replicate n a.0.0
+      | inr rest ↦
+          let g = if_some (eqb p.0.0 1) (mapped_at values_of_parts (column_parts_at n) p.0.1) x rest.1 in
+          let a = bind_some (column_parts_at n p.0.1) (λ a. Some (values_of_parts a.0, a.1)) x g.1 in
+          let made : List ℤ × List ℕ = (values_of_parts a.0.0, a.0.1) in
+          ap (λ (y : List ℤ × List ℕ). length y.0) (sym (some_is made x a.2)) ∙ length-map a.0.0.1.1 (λ d. a.0.0.0 +ℤ pos d) ∙ parts_len n p.0.1 a.0 a.1
+    ]

@@ -14,6 +14,7 @@ pub mod Written
 pub mod Ranges
 pub mod Skipped
 pub mod RangeColumns
+pub mod FirstRows
 pub mod Places
 pub mod Heads
 pub mod Outlines

@@ -42,7 +42,7 @@ pub use fault::NotASegment;
 pub use one_column::{ParameterColumn, read_column};
 pub use outline::{RangeList, SegmentOutline, read_outline};
 pub use parameters::read_parameters;
-pub use range_column::read_column_in_range;
+pub use range_column::{RowRange, read_column_in_range};
 pub use reading::read_segment;
 pub use segment::{ColumnList, KeyList, MOST_ROWS, ParameterList, RawColumn, Segment};
 pub use segment_head::{SegmentHead, read_head};

@@ -1,11 +1,11 @@
 //! Reads what a segment has of a parameter in a range of times. Its keys are walked to the range's end, those behind it
-//! are passed over, and no value of a row outside is unpacked.
+//! are passed over, and no value of a row outside, or behind the limit, is unpacked.
 
-ghost use Rattle.std.specs.Prelude.{◌≡◌, ◌+◌, ◌<◌, ◌≤◌, ◌++◌, ◌∷◌, [], List, ℕ, length, option_map, Option, Some, IfOk, OnOk};
+ghost use Rattle.std.specs.Prelude.{◌≡◌, ◌+◌, ◌<◌, ◌≤◌, ◌++◌, ◌∷◌, [], List, ℕ, length, option_map, take, drop, Option, Some, IfOk, OnOk};
 ghost use Rattle.arch_types.specs.declared.key.Key.{Key as AKey};
 ghost use Rattle.segment_codec.specs.KeyColumn.{keys_at};
 ghost use Rattle.segment_codec.specs.OneColumn.{column_at_place, column_of};
-ghost use Rattle.segment_codec.specs.RangeColumn.{AreKeysUpTo, IsSpanOf, column_in_range, rows_in_range};
+ghost use Rattle.segment_codec.specs.RangeColumn.{AreKeysUpTo, IsSpanOf, asked_column, asked_rows, count_in, start_in};
 ghost use Rattle.segment_codec.specs.Segment.{HasSegmentAt, most_rows};
 ghost use Rattle.segment_codec.specs.declared.one_column.ParameterColumn.{ParameterColumn as AColumn};
 ghost use Rattle.segment_codec.specs.declared.segment.Segment.{Segment};
@@ -17,9 +17,20 @@ use crate::raw_column::values_in_rows;
 use crate::reading::row_count_at;
 use crate::segment::{KeyList, RawColumn};
 use crate::varint::varint_end;
+use arch_types::direction::Direction;
 use arch_types::key::Key;
 use octet_fields::{DecodeError, Short};
 use std::alloc::{AllocError, Global};
+
+/// Which rows of a segment are asked: those with `from <= time < to`, in milliseconds.
+#[derive(Clone, Copy, Debug)]
+pub struct RowRange {
+    pub from: i64,
+    pub to: i64,
+    pub direction: Direction,
+    /// At most so many, the first in the direction; all where it is `None`.
+    pub limit: Option<u64>,
+}
 
 /// The keys of a segment in a range of times.
 #[derive(Drop)]
@@ -96,72 +107,124 @@ fn gaps_end(count: u16, octets: &[u8]) -> Result<&[u8], Short>
     Ok(rest)
 }
 
-/// The rows of a range of times of the column at a place, where so many keys stand at the front, and the columns
-/// behind.
+/// Which of rows in a range are read.
+#[derive(Clone, Copy, Debug)]
+struct AskedRows {
+    /// How many rows of the range stand before them.
+    first: usize,
+    /// How many they are.
+    count: usize,
+}
+
+/// Of so many rows, how many a limit leaves.
+fn count_in(limit: Option<u64>, rows: usize) -> usize
+    ensures { result ≡ count_in limit rows }
+{
+    match limit {
+        None => rows,
+        Some(limit) => limit.min(rows as u64) as usize,
+    }
+}
+
+/// How many of so many rows stand before the first so many in a direction.
+fn start_in(direction: Direction, rows: usize, count: usize) -> usize
+    requires { count ≤ rows }
+    ensures { result ≡ start_in direction rows count }
+{
+    match direction {
+        Direction::Ascending => 0,
+        Direction::Descending => rows - count,
+    }
+}
+
+/// Of so many rows the first in a direction, up to a limit.
+fn rows_asked(rows: usize, direction: Direction, limit: Option<u64>) -> AskedRows
+    ensures within { result.first + result.count ≤ rows }
+    ensures count { result.count ≡ count_in limit rows }
+    ensures first { result.first ≡ start_in direction rows result.count }
+{
+    let count = count_in(limit, rows);
+    let first = start_in(direction, rows, count);
+    AskedRows { first, count }
+}
+
+/// So many keys from one on.
+fn part_of_keys(alloc: Global, keys: &KeyList, asked: AskedRows) -> Result<KeyList, AllocError>
+    requires { asked.first + asked.count ≤ length keys.now }
+    ensures { IfOk result (λ part. part ≡ take asked.count (drop asked.first keys.now)) }
+{
+    let (_, behind) = keys.as_slice().split_at(asked.first);
+    let (part, _) = behind.split_at(asked.count);
+    let list = Vec::from_slice(alloc, part)?;
+    Ok(KeyList::from_vec(list))
+}
+
+/// The rows of a range of times of the column at a place, the first of them in a direction up to a limit, where so many
+/// keys stand at the front, and the columns behind.
 fn column_rows(
     alloc: Global,
     rows: u16,
     place: usize,
-    from: i64,
-    to: i64,
+    range: RowRange,
     octets: &[u8],
 ) -> Result<ParameterColumn, DecodeError>
     requires some { 1 ≤ rows }
     requires few { rows ≤ most_rows }
     ensures { (column : AColumn) → column_at_place rows (Some place) octets.now ≡ Some (Some column) →
-        IfOk result (λ found. found ≡ rows_in_range from to column) }
+        IfOk result (λ found. found ≡ asked_rows range.from range.to range.direction range.limit column) }
 {
-    let (span, unread, rest) = walked_keys(alloc, rows, from, to, octets)?;
+    let (span, unread, rest) = walked_keys(alloc, rows, range.from, range.to, octets)?;
     let KeysInRange { before, keys } = span;
-    let count = keys.len();
-    if count == 0 {
+    let asked = rows_asked(keys.len(), range.direction, range.limit);
+    let keys = part_of_keys(alloc, &keys, asked)?;
+    if asked.count == 0 {
         let values = RawColumn::new(alloc);
         return Ok(ParameterColumn { keys, values });
     }
     let rest = gaps_end(unread, rest)?;
     let rest = columns_end(place, rows, rest)?;
-    let values = values_in_rows(alloc, rows, usize::from(before), count, rest)?;
+    let first = usize::from(before) + asked.first;
+    let values = values_in_rows(alloc, rows, first, asked.count, rest)?;
     Ok(ParameterColumn { keys, values })
 }
 
-/// The rows of a range of times of the column of a parameter in the segment that stands at the front.
+/// The rows of a range of times of the column of a parameter in the segment that stands at the front, the first of them
+/// in a direction up to a limit.
 fn range_column(
     alloc: Global,
     octets: &[u8],
     parameter: u16,
-    from: i64,
-    to: i64,
+    range: RowRange,
 ) -> Result<Option<ParameterColumn>, DecodeError>
-    ensures { (column : Option AColumn) → column_of parameter octets.now ≡ Some column →
-        IfOk result (λ found. found ≡ option_map (rows_in_range from to) column) }
+    ensures { (column : Option AColumn) → column_of parameter octets.now ≡ Some column → IfOk result (λ found.
+        found ≡ option_map (asked_rows range.from range.to range.direction range.limit) column) }
 {
     let (parameters, rest) = counted_parameters_at(alloc, octets)?;
     let (rows, rest) = row_count_at(rest)?;
     match place_of(parameters.as_slice(), parameter) {
         None => Ok(None),
         Some(place) => {
-            let column = column_rows(alloc, rows, place, from, to, rest)?;
+            let column = column_rows(alloc, rows, place, range, rest)?;
             Ok(Some(column))
         }
     }
 }
 
-/// The keys and the raw values of a parameter with `from <= time < to`, in milliseconds, in the segment whose spelling
-/// stands in octets from a place on, or nothing where the segment hasn't the parameter. No other value is unpacked.
+/// The keys and the raw values of a parameter in the rows that a range asks, in the segment whose spelling stands in
+/// octets from a place on, or nothing where the segment hasn't the parameter. No other value is unpacked.
 pub fn read_column_in_range(
     alloc: Global,
     octets: &[u8],
     at: usize,
     parameter: u16,
-    from: i64,
-    to: i64,
+    range: RowRange,
 ) -> Result<Option<ParameterColumn>, AllocError>
     requires { (s : Segment) × HasSegmentAt octets.now at s }
-    ensures { (s : Segment) → HasSegmentAt octets.now at s →
-        IfOk result (λ c. c ≡ column_in_range parameter from to s) }
+    ensures { (s : Segment) → HasSegmentAt octets.now at s → IfOk result (λ c.
+        c ≡ asked_column parameter range.from range.to range.direction range.limit s) }
 {
     let (_, front) = octets.split_at(at);
-    match range_column(alloc, front, parameter, from, to) {
+    match range_column(alloc, front, parameter, range) {
         Ok(column) => Ok(column),
         // a segment stands there, so nothing but memory can have been wanting
         Err(_) => Err(AllocError),

@@ -1,6 +1,3 @@
-use Rattle.std.proofs.Common.{FitsSigned}
-use Rattle.std.specs.Int.{w64}
-use Rattle.std.proofs.lemmas.Int.{to_z-of_z}
 use Rattle.segment_codec.specs.OneColumn.{column_in}
 use Rattle.segment_codec.proofs.Places.{at_within, column_at}
 use Rattle.segment_codec.proofs.range_column.read_column_in_range.Goals as goal
@@ -10,6 +7,4 @@ split_at-requires c = at_within c.args.octets.now c.args.at c.requires.0 c.requi
 
 pub returns-in-Ok : goal.returns-in-Ok
 returns-in-Ok c = λ s has.
-    let low : FitsSigned w64 c.args.from = c.ranges.from in
-    let high : FitsSigned w64 c.args.to = c.ranges.to in
-    simp to_z-of_z at (c.in-Ok.ensures (column_in c.args.parameter s) (column_at c.args.octets.now c.split_at.result.1.now c.args.at c.args.parameter s has c.split_at.ensures.back))
+    c.in-Ok.ensures (column_in c.args.parameter s) (column_at c.args.octets.now c.split_at.result.1.now c.args.at c.args.parameter s has c.split_at.ensures.back)
