@@ -2,13 +2,13 @@
 --
 -- Of an item that is among the first n of all, fewer than n stand before it: so fewer in its own list, where it is among the
 -- first n too. What is left of the lists, in order, begins with those n.
-use Rattle.std.proofs.Common.{◌≡◌, ◌∙◌, ℕ, zero, suc, ◌+◌, ◌<◌, ◌≤◌, List, [], ◌∷◌, ◌++◌, length, map, take, get_or, Bool, true, false, cond, ◌⊎◌, inl, inr, refl, sym, ap, subst, arith}
+use Rattle.std.proofs.Common.{◌≡◌, ◌∙◌, ℕ, zero, suc, ◌+◌, ◌<◌, List, [], ◌∷◌, ◌++◌, length, take, get_or, Bool, true, false, cond, ◌⊎◌, inl, inr, refl, sym, ap, subst, arith}
 use Rattle.std.specs.Prelude.{flat_map}
 use Rattle.std.specs.List.{AllByRecursion, Contains, count_by}
 use Rattle.std.specs.List.Sorted.{IsPermutation}
 use Rattle.std.specs.Cmp.{IsStrictWeakOrder}
 use Rattle.std.proofs.lemmas.List.Sorted.{Contains-permutation, IsPermutation-sym, sum_by-IsPermutation}
-use Rattle.std.proofs.lemmas.List.Sums.{sum_by-append}
+use Rattle.std.proofs.lemmas.List.Sums.{sum_by-append, sum_by-cons}
 use Rattle.param_segments.proofs.Ordering.{IsRising}
 
 module _ {X : Type 0} {lt : X → X → Bool} (o : IsStrictWeakOrder lt) where
@@ -53,9 +53,18 @@ module _ {X : Type 0} {lt : X → X → Bool} (o : IsStrictWeakOrder lt) where
   abbrev before : X → List X → ℕ
   before z xs = count_by (λ x. lt x z) xs
 
+  before_more : (z x : X) (xs : List X) → before z (x ∷ xs) ≡ cond (lt x z) 1 0 + before z xs
+  before_more z x xs = sum_by-cons (λ y. cond (lt y z) 1 0) x xs
+
+  one_more : (z x : X) (xs : List X) → lt x z ≡ true → before z (x ∷ xs) ≡ 1 + before z xs
+  one_more z x xs e = before_more z x xs ∙ ap (λ (b : Bool). cond b 1 0 + before z xs) e
+
+  no_more : (z x : X) (xs : List X) → lt x z ≡ false → before z (x ∷ xs) ≡ before z xs
+  no_more z x xs e = before_more z x xs ∙ ap (λ (b : Bool). cond b 1 0 + before z xs) e ∙ omega arith
+
   none_before : (z : X) (xs : List X) → AllByRecursion (λ x. lt z x ≡ true) xs → before z xs ≡ 0
   none_before z [] all = refl
-  none_before z (x ∷ xs) all = ap (λ (b : Bool). cond b 1 0 + before z xs) (o.one_way z x all.0) ∙ none_before z xs all.1
+  none_before z (x ∷ xs) all = no_more z x xs (o.one_way z x all.0) ∙ none_before z xs all.1
 
   -- before one of the first so many items are fewer
   few_before : (n : ℕ) (z : X) (xs : List X) → IsRising lt xs → IsItem z (take n xs) → before z xs < n
@@ -64,12 +73,12 @@ module _ {X : Type 0} {lt : X → X → Bool} (o : IsStrictWeakOrder lt) where
   few_before (suc n) z (x ∷ xs) up (inl e) =
       let head : lt x z ≡ false = ap (lt x) e ∙ itself x (lt x x) refl in
       let rest : before z xs ≡ 0 = none_before z xs (subst (λ (y : X). AllByRecursion (λ w. lt y w ≡ true) xs) (sym e) up.0) in
-      let whole : before z (x ∷ xs) ≡ 0 = ap (λ (b : Bool). cond b 1 0 + before z xs) head ∙ rest in
+      let whole : before z (x ∷ xs) ≡ 0 = no_more z x xs head ∙ rest in
       omega (arith, whole)
   few_before (suc n) z (x ∷ xs) up (inr m) =
       let head : lt x z ≡ true = below (λ w. lt x w ≡ true) z xs up.0 (from_take z n xs m) in
       let more = few_before n z xs up.1 m in
-      let whole : before z (x ∷ xs) ≡ 1 + before z xs = ap (λ (b : Bool). cond b 1 0 + before z xs) head in
+      let whole : before z (x ∷ xs) ≡ 1 + before z xs = one_more z x xs head in
       omega (arith, whole, more)
 
   -- and where fewer are before an item, it's one of the first so many
@@ -79,7 +88,7 @@ module _ {X : Type 0} {lt : X → X → Bool} (o : IsStrictWeakOrder lt) where
   among_first (suc n) z (x ∷ xs) up (inl e) few = inl e
   among_first (suc n) z (x ∷ xs) up (inr m) few =
       let head : lt x z ≡ true = below (λ w. lt x w ≡ true) z xs up.0 m in
-      let whole : before z (x ∷ xs) ≡ 1 + before z xs = ap (λ (b : Bool). cond b 1 0 + before z xs) head in
+      let whole : before z (x ∷ xs) ≡ 1 + before z xs = one_more z x xs head in
       inr (among_first n z xs up.1 m (omega (arith, few, whole)))
 
   -- ---- the first so many of each list

@@ -29,6 +29,7 @@ pub mod ListSteps
 pub mod SetAgain
 pub mod RunSteps
 pub mod FirstCells
+pub mod FirstOfEach
 pub mod FirstItems
 pub mod RangeCells
 pub mod AskedOfEach

@@ -31,17 +31,11 @@ fn put_range_cells(
     ensures { (s : Segment) → HasSegmentAt octets.now at s → OnOk result
         (cells.new.items ≡ cells.old.items ++ segment_cells_asked parameter range s) }
 {
-    let CellRange {
-        from,
-        to,
-        direction,
-        limit,
-    } = range;
     let rows = RowRange {
-        from,
-        to,
-        direction,
-        limit,
+        from: range.from,
+        to: range.to,
+        direction: range.direction,
+        limit: range.limit,
     };
     match read_column_in_range(alloc, octets, at, parameter, rows)? {
         None => Ok(()),
