@@ -1,6 +1,6 @@
 -- The first child among those that ask for a number and the others.
-use Rattle.std.proofs.Common.{◌≡◌, ◌∙◌, ◌≤◌, ◌<◌, ◌+◌, ℕ, zero, suc, List, [], ◌∷◌, length, get_or, Option, Some, None, Bool, true, false, cond, inl, inr, refl, ap, sym, subst, arith}
-use Rattle.std.specs.Prelude.{◌==◌, ◌&&◌, ◌||◌, ℤ, nat_le, nat_lt, map, slice_get, if◌then◌else◌}
+use Rattle.std.proofs.Common.{◌≡◌, ◌∙◌, ◌≤◌, ◌<◌, ℕ, zero, suc, List, [], ◌∷◌, length, get_or, Option, Some, None, Bool, true, false, cond, inl, inr, refl, ap, sym, subst, arith}
+use Rattle.std.specs.Prelude.{◌==◌, ◌&&◌, ℤ, nat_le, nat_lt, map, slice_get, if◌then◌else◌}
 use Rattle.std.specs.List.{filter, find, list_all}
 use Rattle.std.specs.Ordering.{int_eq}
 use Rattle.std.proofs.lemmas.Bool.{cases_Bool, eqb-true, le-leb, lt-leb}
@@ -16,7 +16,7 @@ use Rattle.mdb_lookups.specs.Children.{children_from, children_of, is_parent_of}
 use Rattle.mdb_lookups.specs.NumberedChildren.{AreByNumber, asks_one, conditions_of, is_number, is_other, number_asked, number_at}
 use Rattle.mdb_lookups.specs.PlacedConditions.{placed_below, placed_condition, placed_of}
 use Rattle.container_extract.specs.declared.values.RawValue.{RawValue}
-use Rattle.container_extract.specs.Step.{children_asking, earlier_of, first_unless, holds_at, holds_by_places, is_behind, is_met_at}
+use Rattle.container_extract.specs.Step.{children_asking, first_unless, holds_at, holds_by_places, is_behind, is_met_at}
 use Rattle.container_extract.specs.Values.{compares, is_met}
 
 -- ---- numbers that rise

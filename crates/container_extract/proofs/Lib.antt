@@ -14,3 +14,4 @@ pub mod Names
 pub mod Positions
 pub mod Children
 pub mod ByNumber
+pub mod Childless

@@ -1,5 +1,5 @@
 -- The extraction of a packet, and a parameter's values over a history.
-use Rattle.std.specs.Prelude.{ℕ, ℤ, List, map, flat_map, Option, option_map}
+use Rattle.std.specs.Prelude.{◌≡◌, ◌<◌, ◌++◌, ℕ, ℤ, List, length, map, flat_map, Option, option_map}
 use Rattle.std.specs.List.{filter_map, take_while}
 use Rattle.arch_types.specs.declared.cell.Cell.{Cell}
 use Rattle.arch_types.specs.declared.key.Key.{Key}
@@ -26,6 +26,11 @@ raw_values_along db packet chain = map (raw_value_of db packet) (take_while (fit
 -- the raw extraction of a packet
 abbrev pub raw_extraction : Database → List ℕ → List RawValue
 raw_extraction db packet = raw_values_along db packet (chain_of db packet)
+
+-- the raw values are the raw extraction but for the entries of the chain's last container, which has this number
+pub record AreButLast (db : Database) (packet : List ℕ) (values : List RawValue) (n : ℕ) : Type 0 where
+  pub known : n < length db.containers
+  pub rest : raw_extraction db packet ≡ values ++ map (raw_value_of db packet) (take_while (fits db packet) (entries_at db n))
 
 -- a value at the key of its packet
 abbrev pub cell_at : Key → ParameterValue → Cell

@@ -1,8 +1,9 @@
 //! What comes after a container.
 
-ghost use Rattle.std.specs.Prelude.{◌≡◌, ◌+◌, ◌<◌, ◌≤◌, ◌||◌, length, slice_get, option_copied, vec_len, vec_capacity};
+ghost use Rattle.std.specs.Prelude.{◌≡◌, ◌+◌, ◌<◌, ◌≤◌, ◌||◌, [], length, slice_get, IsTrue, option_copied, vec_len, vec_capacity};
 ghost use Rattle.std.specs.List.{find};
 ghost use Rattle.mdb_items.specs.Database.{IsDatabase};
+ghost use Rattle.mdb_lookups.specs.Children.{children_of};
 ghost use Rattle.container_extract.specs.Chain.{entries_at, first_child, has_archive, name_along};
 ghost use Rattle.container_extract.specs.Step.{AreAbove, AreOfPath, IsStep, children_asking, earlier_of, first_unless, holds_at, is_behind};
 
@@ -137,6 +138,15 @@ pub(crate) fn next_of(
         return None;
     }
     first_child(mdb, number, values.as_slice())
+}
+
+/// No container stands directly below the one with a number.
+pub(crate) fn is_childless(mdb: &Mdb, number: u16) -> bool
+    requires { number < length mdb.now.containers }
+    ensures { IsTrue result → children_of mdb.now.containers number ≡ [] }
+{
+    let children = mdb.numbered_children(number);
+    children.by_number.is_empty() && children.others.is_empty()
 }
 
 fn has_archive(container: Option<&Container>) -> bool

@@ -1,13 +1,14 @@
 //! Raw extractions in buffers that are used again.
 
-ghost use Rattle.std.specs.Prelude.{◌≡◌, ◌+◌, [], option_copied, IfOk};
-ghost use Rattle.container_extract.specs.Chain.{chain_of, packet_name_of};
-ghost use Rattle.container_extract.specs.Extraction.{raw_extraction};
+ghost use Rattle.std.specs.Prelude.{◌≡◌, ◌+◌, ◌≤◌, [], length, option_copied, vec_capacity, vec_len, IfNone, IfOk, IfSome};
+ghost use Rattle.container_extract.specs.Chain.{chain_of, entries_at, packet_name_of};
+ghost use Rattle.container_extract.specs.Extraction.{AreButLast, raw_extraction};
 ghost use Rattle.container_extract.specs.Laws.{AreRawValues};
 ghost use Rattle.container_extract.specs.Room.{HasPacketRoom};
 ghost use Rattle.container_extract.specs.Values.{raw_among};
 
-use crate::containers::{name_along, next_of};
+use crate::containers::{is_childless, name_along, next_of};
+use crate::entries::take_entries;
 use crate::values::RawValue;
 use arch_types::steps::Steps;
 use mdb_model::Mdb;
@@ -77,6 +78,32 @@ impl RawExtracted {
         self.chain.clear();
     }
 
+    /// Goes down from the root, in place of what was extracted before. Where the last container of the chain has no child,
+    /// its number is given in place of the values of its entries, which nothing else asks for.
+    fn descend(&mut self, mdb: &Mdb, packet: &[u8]) -> Option<u16>
+        requires { HasPacketRoom self.old }
+        ensures room { HasPacketRoom self.new }
+        ensures chain { self.new.chain.items ≡ chain_of mdb.now packet.now }
+        ensures whole { IfNone result (self.new.values.items ≡ raw_extraction mdb.now packet.now) }
+        ensures but_last { IfSome result (AreButLast mdb.now packet.now self.new.values.items) }
+        ensures last_room { IfSome result (λ number.
+            vec_len self.new.values + length (entries_at mdb.now number) ≤ vec_capacity self.new.values) }
+    {
+        self.restart();
+        let mut number = 0;
+        mdb.is_sound();
+        'down: loop {
+            self.chain.push_reserved(number);
+            if is_childless(mdb, number) {
+                return Some(number);
+            }
+            match next_of(mdb, packet, number, &mut self.values) {
+                None => return None,
+                Some(child) => number = child,
+            }
+        }
+    }
+
     /// Goes down from the root, in place of what was extracted before. The octets need not be a whole packet.
     pub(crate) fn walk(&mut self, mdb: &Mdb, packet: &[u8])
         requires { HasPacketRoom self.old }
@@ -84,15 +111,10 @@ impl RawExtracted {
         ensures chain { self.new.chain.items ≡ chain_of mdb.now packet.now }
         ensures values { self.new.values.items ≡ raw_extraction mdb.now packet.now }
     {
-        self.restart();
-        let mut number = 0;
         mdb.is_sound();
-        'down: loop {
-            self.chain.push_reserved(number);
-            match next_of(mdb, packet, number, &mut self.values) {
-                None => return,
-                Some(child) => number = child,
-            }
+        if let Some(last) = self.descend(mdb, packet) {
+            let entries = mdb.container(last).entries.as_slice();
+            take_entries(mdb, packet, entries, &mut self.values);
         }
     }
 }
@@ -127,7 +149,7 @@ impl Extractor {
     pub fn packet_name(&mut self, mdb: &Mdb, packet: &[u8]) -> u16
         ensures { result ≡ packet_name_of mdb.now packet.now }
     {
-        self.extracted.walk(mdb, packet);
+        self.extracted.descend(mdb, packet);
         name_along(mdb.container_list(), self.extracted.chain.as_slice())
     }
 }

@@ -1,7 +1,7 @@
 use Rattle.std.proofs.Common.{◌-◌, length}
 use Rattle.container_extract.specs.Room.{HasPacketRoom}
 use Rattle.container_extract.proofs.Walk.{IsWalk}
-use Rattle.container_extract.proofs.raw_extraction.RawExtracted.walk.Given as goal
+use Rattle.container_extract.proofs.raw_extraction.RawExtracted.descend.Given as goal
 
 abbrev pub invariant-down : goal.invariant-down
 invariant-down l = record {
