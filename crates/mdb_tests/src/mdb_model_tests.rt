@@ -402,6 +402,41 @@ fn bad_container(row: usize, rule: u8) -> MdbFault {
     }
 }
 
+/// Whether these containers, over parameters that are numbered from 0 to 65,536, have this fault.
+fn has_over_most(alloc: Global, containers: &str, fault: MdbFault) -> bool {
+    match listed(alloc, parameters_header_text(), 65_537, "n", ",uint,8,") {
+        Ok(parameters) => has(
+            with_containers(alloc, parameters.as_str(), containers),
+            Some(fault),
+        ),
+        Err(_) => false,
+    }
+}
+
+// The rules come before the limits: they tell numbers apart that 16 bits don't.
+#[test]
+fn rules_of_numbers_beyond_16_bits(rt: HostRuntime) {
+    let limit = MdbFault::Limit {
+        which: MdbLimit::Parameters,
+        number: 4096,
+    };
+    assert!(rt; has_over_most(rt.alloc(), "|root,,,,n0,|,,,,n65536,", limit));
+    assert!(rt;
+        has_over_most(
+            rt.alloc(),
+            "|root,,,,n65536,|,,,,n65536,",
+            bad_container(3, 25)
+        )
+    );
+    assert!(rt;
+        has_over_most(
+            rt.alloc(),
+            "|root,,,,n0,|a,root,n65536==1,,,",
+            bad_container(3, 21)
+        )
+    );
+}
+
 /// What is answered for a root of 256 entries, and what follows.
 fn full_root(alloc: Global, rest: &str) -> Result<Mdb, MdbFault> {
     let mut text = listed(alloc, "|root,,,,,", 256, ",,,,n", ",")?;
