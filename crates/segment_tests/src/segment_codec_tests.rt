@@ -4,8 +4,9 @@ ghost use Rattle.std.specs.Prelude.{◌≤◌};
 ghost use Rattle.segment_codec.specs.declared.segment.Segment.{Segment as ASegment};
 ghost use Rattle.segment_codec.specs.Segment.{HasSegmentAt, IsSegment};
 
+use arch_types::direction::Direction;
 use segment_codec::{
-    NotASegment, Segment, put_segment, read_column, read_column_in_range, read_segment,
+    NotASegment, RowRange, Segment, put_segment, read_column, read_column_in_range, read_segment,
     write_segment,
 };
 use std::alloc::{AllocError, Global};
@@ -470,7 +471,13 @@ fn span_is(
 ) -> bool
     requires { (s : ASegment) × HasSegmentAt octets.now 0 s }
 {
-    match read_column_in_range(alloc, octets, 0, parameter, from, to) {
+    let all = RowRange {
+        from,
+        to,
+        direction: Direction::Ascending,
+        limit: None,
+    };
+    match read_column_in_range(alloc, octets, 0, parameter, all) {
         Ok(Some(column)) => {
             column.values.as_slice() == values && column.keys.len() == values.len()
         }
