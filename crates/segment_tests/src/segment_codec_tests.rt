@@ -63,6 +63,19 @@ const TWO_SPANS: &[Span] = &[
     (3, 0, 1_500, &[]),
 ];
 
+/// A direction, a limit, and the values that a segment has of a parameter up to it.
+type Part = (Direction, Option<u64>, &'static [i128]);
+
+const TWO_PARTS: &[Part] = &[
+    (Direction::Ascending, Some(1), &[3]),
+    (Direction::Descending, Some(1), &[10]),
+    (Direction::Descending, Some(2), &[3, 10]),
+    (Direction::Descending, None, &[3, 10]),
+    (Direction::Ascending, Some(0), &[]),
+    (Direction::Descending, Some(0), &[]),
+    (Direction::Ascending, Some(u64::MAX), &[3, 10]),
+];
+
 /// A raw column's form 1, and 0 as its least value.
 const FROM_ZERO: &[u8] = &[1, 0, 0, 0, 0, 0, 0, 0, 0, 0, 0, 0, 0, 0, 0, 0, 0];
 
@@ -128,6 +141,10 @@ fn far_spans() -> &'static [Span] {
 
 fn two_spans() -> &'static [Span] {
     TWO_SPANS
+}
+
+fn two_parts() -> &'static [Part] {
+    TWO_PARTS
 }
 
 fn from_zero() -> &'static [u8] {
@@ -460,24 +477,11 @@ fn one_column_of_two(rt: HostRuntime) {
     assert!(rt; reads_one_column(rt.alloc(), two()));
 }
 
-/// Whether a segment has these values of a parameter in a range of times, and a key for each.
-fn span_is(
-    alloc: Global,
-    octets: &[u8],
-    parameter: u16,
-    from: i64,
-    to: i64,
-    values: &[i128],
-) -> bool
+/// Whether a segment has these values of a parameter in the rows of a range, and a key for each.
+fn span_is(alloc: Global, octets: &[u8], parameter: u16, range: RowRange, values: &[i128]) -> bool
     requires { (s : ASegment) × HasSegmentAt octets.now 0 s }
 {
-    let all = RowRange {
-        from,
-        to,
-        direction: Direction::Ascending,
-        limit: None,
-    };
-    match read_column_in_range(alloc, octets, 0, parameter, all) {
+    match read_column_in_range(alloc, octets, 0, parameter, range) {
         Ok(Some(column)) => {
             column.values.as_slice() == values && column.keys.len() == values.len()
         }
@@ -490,7 +494,31 @@ fn spans_are(alloc: Global, octets: &[u8], spans: &[Span]) -> bool
     requires { (s : ASegment) × HasSegmentAt octets.now 0 s }
 {
     for (parameter, from, to, values) in spans {
-        if !span_is(alloc, octets, *parameter, *from, *to, values) {
+        let range = RowRange {
+            from: *from,
+            to: *to,
+            direction: Direction::Ascending,
+            limit: None,
+        };
+        if !span_is(alloc, octets, *parameter, range, values) {
+            return false;
+        }
+    }
+    true
+}
+
+/// Whether a segment has such values of the parameter 3 in each direction up to a limit.
+fn parts_are(alloc: Global, octets: &[u8], parts: &[Part]) -> bool
+    requires { (s : ASegment) × HasSegmentAt octets.now 0 s }
+{
+    for (direction, limit, values) in parts {
+        let range = RowRange {
+            from: 1_500,
+            to: 2_501,
+            direction: *direction,
+            limit: *limit,
+        };
+        if !span_is(alloc, octets, 3, range, values) {
             return false;
         }
     }
@@ -505,10 +533,19 @@ fn are_spans_of(alloc: Global, octets: &[u8], spans: &[Span]) -> bool {
     }
 }
 
+/// Whether octets spell a segment with such values up to limits.
+fn are_parts_of(alloc: Global, octets: &[u8], parts: &[Part]) -> bool {
+    match read_segment(alloc, octets, 0) {
+        Ok(_) => parts_are(alloc, octets, parts),
+        Err(_) => false,
+    }
+}
+
 #[test]
 fn columns_in_ranges(rt: HostRuntime) {
     assert!(rt; are_spans_of(rt.alloc(), far(), far_spans()));
     assert!(rt; are_spans_of(rt.alloc(), two(), two_spans()));
+    assert!(rt; are_parts_of(rt.alloc(), two(), two_parts()));
 }
 
 /// Adds the segment that octets spell.
