@@ -402,37 +402,29 @@ fn bad_container(row: usize, rule: u8) -> MdbFault {
     }
 }
 
-/// Whether these containers, over parameters that are numbered from 0 to 65,536, have this fault.
-fn has_over_most(alloc: Global, containers: &str, fault: MdbFault) -> bool {
-    match listed(alloc, parameters_header_text(), 65_537, "n", ",uint,8,") {
-        Ok(parameters) => has(
-            with_containers(alloc, parameters.as_str(), containers),
-            Some(fault),
-        ),
-        Err(_) => false,
-    }
+/// What is answered for a root with two entries, over parameters that are numbered from 0 to 65,536.
+fn with_far(alloc: Global, entry: &str, other: &str) -> Result<Mdb, MdbFault> {
+    let parameters = listed(alloc, parameters_header_text(), 65_537, "n", ",uint,8,")?;
+    let containers = format!(in alloc; "|root,,,,{entry},|,,,,{other},")?;
+    with_containers(alloc, parameters.as_str(), containers.as_str())
 }
 
-// The rules come before the limits: they tell numbers apart that 16 bits don't.
+// Numbers that 16 bits don't tell apart; the rules come before the limits.
 #[test]
-fn rules_of_numbers_beyond_16_bits(rt: HostRuntime) {
+fn far_numbers_differ(rt: HostRuntime) {
     let limit = MdbFault::Limit {
         which: MdbLimit::Parameters,
         number: 4096,
     };
-    assert!(rt; has_over_most(rt.alloc(), "|root,,,,n0,|,,,,n65536,", limit));
+    assert!(rt; has(with_far(rt.alloc(), "n0", "n65536"), Some(limit)));
+}
+
+#[test]
+fn far_number_repeats(rt: HostRuntime) {
     assert!(rt;
-        has_over_most(
-            rt.alloc(),
-            "|root,,,,n65536,|,,,,n65536,",
-            bad_container(3, 25)
-        )
-    );
-    assert!(rt;
-        has_over_most(
-            rt.alloc(),
-            "|root,,,,n0,|a,root,n65536==1,,,",
-            bad_container(3, 21)
+        has(
+            with_far(rt.alloc(), "n65536", "n65536"),
+            Some(bad_container(3, 25))
         )
     );
 }
