@@ -59,6 +59,14 @@ fn page() -> &'static [u8] {
     PAGE
 }
 
+/// The octets of the worked run.
+pub(crate) fn worked_run(alloc: Global) -> Option<Vec<u8>> {
+    let mut octets = PAGE.to_vec(alloc).ok()?;
+    octets.extend_from_slice(INDEX).ok()?;
+    octets.extend_from_slice(FOOTER).ok()?;
+    Some(octets)
+}
+
 fn changes() -> &'static [Change] {
     CHANGES
 }

@@ -1,0 +1,465 @@
+//! Runs on a disk in memory: written, opened, read back by page and by key; the worked run octet by octet; octets of a run of two pages
+//! changed; each call of the disk failing once.
+//!
+//! What looks at a disk is generic in it: over a `MemDisk` each clause speaks of its list of calls, and that costs minutes to prove.
+
+ghost use Rattle.std.specs.Prelude.{◌≡◌, ◌≤◌, IsTrue, length, IfOk, IfSome, OnOk};
+ghost use Rattle.std.specs.List.{AllByRecursion};
+ghost use Rattle.run_pages.specs.Placed.{placed_rows};
+ghost use Rattle.run_pages.specs.Pages.{FitsPage, IsPage, rows_of_page};
+ghost use Rattle.run_files.specs.Run.{IsRunOn};
+
+use crate::run_pages_tests::worked_run;
+use arch_disk::{Disk, Failed, MemDisk};
+use arch_types::key::Key;
+use arch_types::octets::Octets;
+use arch_types::row::{Row, Rows};
+use run_files::{MAX_ROWS, Run, RunFault, open_run, write_run};
+use run_pages::{PageRows, Positions, are_ordered, read_page};
+use std::alloc::{AllocError, Global};
+use std::test::*;
+
+const FILE: u32 = 1;
+
+const OTHER_FILE: u32 = 0;
+
+/// How many rows a run has, and how many pages.
+type RowsAndPages = (u16, u32);
+
+const RUNS: &[RowsAndPages] = &[(1, 1), (64, 1), (65, 2), (200, 4)];
+
+/// The octets of the run of 65 rows up to a place: the octet at which it is damaged where one of them is another, and whether it may
+/// be a run of other rows then.
+type Part = (usize, u64, bool);
+
+const PARTS: &[Part] = &[
+    (2_114, 0, true), // the first page: 64 rows of 33 octets
+    (2_149, 2_114, true), // the second: one row
+    (2_173, 0, false), // the first page's entry
+    (2_178, 2_114, false), // the second's first key, which that page hasn't then,
+    (2_179, 0, false), // or which isn't above the first page's last
+    (2_185, 2_114, false),
+    (2_217, 0, false), // the second's place and length, and the footer
+];
+
+/// The places of the run of 65 rows whose octets are changed: its first row, and all behind the first page.
+const CHANGED: &[(usize, usize)] = &[(0, 35), (2_114, 2_217)];
+
+/// The number of a call of the disk, and whether it writes: the calls of `begun` and then of writing and opening 65 rows.
+type Failing = (u64, bool);
+
+const FAILING: &[Failing] = &[
+    (3, true), // the cut
+    (4, true), // its sync
+    (5, true), // the pages
+    (6, true),
+    (7, true), // index and footer
+    (8, true), // the sync
+    (9, true), // the sync of the opening
+    (10, false), // the length
+    (11, false), // the footer
+    (12, false), // the index
+    (13, false), // the pages
+    (14, false),
+];
+
+// They are functions, so that they stand in no goal of their callers.
+fn runs() -> &'static [RowsAndPages] {
+    RUNS
+}
+
+fn parts() -> &'static [Part] {
+    PARTS
+}
+
+fn changed() -> &'static [(usize, usize)] {
+    CHANGED
+}
+
+fn failing() -> &'static [Failing] {
+    FAILING
+}
+
+// ---- rows
+
+/// The worked row with the packet count `number`, two seconds behind the one before, at the position `position`.
+fn one_row(alloc: Global, number: u16, position: u16) -> Option<PageRows>
+    ensures { IfSome result (λ page. IsPage (rows_of_page page)) }
+{
+    let (second, count) = (number.saturating_mul(2).saturating_add(1), number | 0xC000);
+    let mut octets = Vec::new(alloc);
+    octets.extend_from_slice(&[0, 1, 0, 0, 0, 0, 0, 0]).ok()?;
+    octets.extend_from_slice(&position.to_be_bytes()).ok()?;
+    octets
+        .extend_from_slice(&[0, 0, 0, 0, 0, 0, 0, 0x23, 0x28, 1, 0, 2, 0x08, 0x64])
+        .ok()?;
+    octets.extend_from_slice(&count.to_be_bytes()).ok()?;
+    octets.extend_from_slice(&[0, 6, 0, 0]).ok()?;
+    octets.extend_from_slice(&second.to_be_bytes()).ok()?;
+    octets.extend_from_slice(&[0x80, 0, 0x2A]).ok()?;
+    read_page(alloc, &Octets::from_vec(alloc, octets).ok()?).ok()
+}
+
+/// Adds the first row of a page to others.
+fn add_row(rows: &mut Vec<Row>, positions: &mut Vec<u64>, page: &PageRows) -> Result<(), AllocError>
+    requires page { IsPage (rows_of_page page.now) }
+    requires beside { length positions.old.items ≡ length rows.old.items }
+    requires each { AllByRecursion FitsPage (placed_rows positions.old.items rows.old.items) }
+    ensures beside { OnOk result (length positions.new.items ≡ length rows.new.items) }
+    ensures each { OnOk result (AllByRecursion FitsPage (placed_rows positions.new.items rows.new.items)) }
+{
+    rows.push(page.rows.as_slice()[0].copy()?)?;
+    positions.push(page.positions.as_slice()[0])?;
+    Ok(())
+}
+
+/// So many rows, the last of them at position 0.
+fn made(alloc: Global, count: u16) -> Option<PageRows>
+    ensures { IfSome result (λ rows. AllByRecursion FitsPage (rows_of_page rows)) }
+{
+    let mut rows = Vec::new(alloc);
+    let mut positions = Vec::new(alloc);
+    for number in 0..count {
+        let page = one_row(alloc, number, count - 1 - number)?;
+        add_row(&mut rows, &mut positions, &page).ok()?;
+    }
+    Some(PageRows {
+        rows: Rows::from_vec(rows),
+        positions: Positions::from_vec(positions),
+    })
+}
+
+/// Writes rows as a run. Rows that are none are past the limit.
+fn written<D: Disk>(alloc: Global, disk: &mut D, rows: &PageRows) -> Result<Run, RunFault>
+    requires { AllByRecursion FitsPage (rows_of_page rows.now) }
+    ensures { IsTrue D.device.is_transparent → IfOk result (λ run. IsRunOn D.device run disk.new) }
+{
+    let (rows, positions) = (rows.rows.as_slice(), rows.positions.as_slice());
+    let Some(first) = rows.first() else {
+        return Err(RunFault::Limit);
+    };
+    if rows.len() as u64 > MAX_ROWS || !are_ordered(rows, first.table, first.key, None) {
+        return Err(RunFault::Limit);
+    }
+    write_run(alloc, disk, FILE, rows, positions)
+}
+
+// ---- read back
+
+/// Whether a page has the rows of a list from a place on.
+fn has_rows_from(page: &PageRows, rows: &PageRows, from: usize) -> bool {
+    let (these, positions) = (page.rows.as_slice(), page.positions.as_slice());
+    for i in 0..these.len() {
+        let Some(row) = rows.rows.as_slice().get(from.saturating_add(i)) else {
+            return false;
+        };
+        if these[i].key != row.key || these[i].packet.as_slice() != row.packet.as_slice() {
+            return false;
+        }
+        if rows.positions.as_slice().get(from.saturating_add(i)) != positions.get(i) {
+            return false;
+        }
+    }
+    true
+}
+
+/// Whether the pages of a run have the rows of a list, 64 each but the last.
+fn has_rows<D: Disk>(alloc: Global, disk: &mut D, run: &Run, rows: &PageRows) -> bool
+    requires { IsTrue D.device.is_transparent → IsRunOn D.device run.now disk.old }
+    ensures { IsTrue D.device.is_transparent → IsRunOn D.device run.now disk.new }
+{
+    let mut from: usize = 0;
+    for page in 0..run.page_count() {
+        let Ok(held) = run.rows_of(alloc, disk, page) else {
+            return false;
+        };
+        if !has_rows_from(&held, rows, from) {
+            return false;
+        }
+        from = from.saturating_add(held.rows.len());
+    }
+    from == rows.rows.len()
+}
+
+/// Whether a run gives this position for a key.
+fn has_position<D: Disk>(
+    alloc: Global,
+    disk: &mut D,
+    run: &Run,
+    key: Key,
+    position: Option<u64>,
+) -> bool
+    requires { IsTrue D.device.is_transparent → IsRunOn D.device run.now disk.old }
+    ensures { IsTrue D.device.is_transparent → IsRunOn D.device run.now disk.new }
+{
+    run.position(alloc, disk, key).ok() == Some(position)
+}
+
+/// Whether a run has a key at a position, and no key a millisecond beside it.
+fn has_key<D: Disk>(alloc: Global, disk: &mut D, run: &Run, key: Key, position: u64) -> bool
+    requires { IsTrue D.device.is_transparent → IsRunOn D.device run.now disk.old }
+    ensures { IsTrue D.device.is_transparent → IsRunOn D.device run.now disk.new }
+{
+    let before = Key {
+        time: key.time.saturating_sub(1),
+        seq: key.seq,
+    };
+    let behind = Key {
+        time: key.time.saturating_add(1),
+        seq: key.seq,
+    };
+    let is_there = has_position(alloc, disk, run, key, Some(position));
+    let is_none_before = has_position(alloc, disk, run, before, None);
+    let is_none_behind = has_position(alloc, disk, run, behind, None);
+    is_there && is_none_before && is_none_behind
+}
+
+/// Whether a run has the key of each row at its position.
+fn has_keys<D: Disk>(alloc: Global, disk: &mut D, run: &Run, rows: &PageRows) -> bool
+    requires { IsTrue D.device.is_transparent → IsRunOn D.device run.now disk.old }
+{
+    for i in 0..rows.rows.len() {
+        let key = rows.rows.as_slice()[i].key;
+        if !has_key(alloc, disk, run, key, rows.positions.as_slice()[i]) {
+            return false;
+        }
+    }
+    true
+}
+
+/// Whether a run has the rows of a list, page by page and by their keys.
+fn has_all<D: Disk>(alloc: Global, disk: &mut D, run: &Run, rows: &PageRows) -> bool
+    requires { IsTrue D.device.is_transparent → IsRunOn D.device run.now disk.old }
+{
+    let by_page = has_rows(alloc, disk, run, rows);
+    by_page && has_keys(alloc, disk, run, rows)
+}
+
+/// Whether rows are written as a run of so many pages, and stand in what is opened.
+fn is_read_back<D: Disk>(alloc: Global, disk: &mut D, rows: &PageRows, pages: u32) -> bool
+    requires { AllByRecursion FitsPage (rows_of_page rows.now) }
+{
+    let Ok(written) = written(alloc, disk, rows) else {
+        return false;
+    };
+    let Ok(opened) = open_run(alloc, disk, FILE) else {
+        return false;
+    };
+    written.page_count() == pages
+        && opened.page_count() == pages
+        && written.last() == opened.last()
+        && opened.sealed_row_count() == rows.rows.len() as u64
+        && has_all(alloc, disk, &opened, rows)
+}
+
+/// The rows of the first run that isn't read back.
+fn lost_run(alloc: Global, runs: &[RowsAndPages]) -> Option<u16> {
+    for (count, pages) in runs {
+        let Some(rows) = made(alloc, *count) else {
+            return Some(*count);
+        };
+        if !is_read_back(alloc, &mut MemDisk::new(alloc), &rows, *pages) {
+            return Some(*count);
+        }
+    }
+    None
+}
+
+#[test]
+fn reads_back(rt: HostRuntime) {
+    assert_eq!(rt; lost_run(rt.alloc(), runs()), None);
+}
+
+// ---- octets
+
+/// The octets of a file.
+fn content<D: Disk>(alloc: Global, disk: &mut D, file: u32) -> Option<Vec<u8>> {
+    let len = disk.len(file).ok()?;
+    let mut octets = vec![in alloc; 0u8; usize::try_from(len).ok()?].ok()?;
+    disk.read_at(file, 0, &mut octets).ok()?;
+    Some(octets)
+}
+
+/// Whether a file has these octets.
+fn has_content<D: Disk>(alloc: Global, disk: &mut D, file: u32, want: &[u8]) -> bool {
+    match content(alloc, disk, file) {
+        Some(octets) => octets.as_slice() == want,
+        None => false,
+    }
+}
+
+/// The octets of the run that rows are written as, where they can be.
+fn octets_of<D: Disk>(alloc: Global, disk: &mut D, rows: &PageRows) -> Option<Vec<u8>>
+    requires { AllByRecursion FitsPage (rows_of_page rows.now) }
+{
+    written(alloc, disk, rows).ok()?;
+    content(alloc, disk, FILE)
+}
+
+/// The octets of a run of so many rows.
+fn run_of(alloc: Global, count: u16) -> Option<Vec<u8>> {
+    let rows = made(alloc, count)?;
+    octets_of(alloc, &mut MemDisk::new(alloc), &rows)
+}
+
+/// Whether the run of one row is the worked one.
+fn is_worked_run(alloc: Global) -> bool {
+    match (run_of(alloc, 1), worked_run(alloc)) {
+        (Some(octets), Some(want)) => octets == want,
+        _ => false,
+    }
+}
+
+#[test]
+fn worked_octets(rt: HostRuntime) {
+    assert!(rt; is_worked_run(rt.alloc()));
+}
+
+/// What is told of a place of the run of 65 rows.
+fn part_at(place: usize) -> Option<(u64, bool)> {
+    for (end, at, may_be_read) in parts() {
+        if place < *end {
+            return Some((*at, *may_be_read));
+        }
+    }
+    None
+}
+
+/// Whether a file of these octets is refused as is told, or a run of 65 rows.
+fn is_told<D: Disk>(alloc: Global, disk: &mut D, octets: &[u8], part: (u64, bool)) -> bool {
+    if disk.cut(FILE, 0).is_err() || disk.write_at(FILE, 0, octets).is_err() {
+        return false;
+    }
+    match open_run(alloc, disk, FILE) {
+        Ok(run) => part.1 && run.sealed_row_count() == 65,
+        Err(fault) => {
+            fault
+                == RunFault::Damaged {
+                    file: FILE,
+                    at: part.0,
+                }
+        }
+    }
+}
+
+/// Whether octets with another one at a place are told so.
+fn is_change_told(alloc: Global, octets: &[u8], place: usize) -> bool {
+    let (Some(part), Ok(mut changed)) = (part_at(place), octets.to_vec(alloc)) else {
+        return false;
+    };
+    if place < changed.len() {
+        changed[place] ^= 1;
+    }
+    is_told(alloc, &mut MemDisk::new(alloc), &changed, part)
+}
+
+/// The first of some places of octets whose change isn't told.
+fn untold_between(alloc: Global, octets: &[u8], from: usize, to: usize) -> Option<usize> {
+    for place in from..to {
+        if !is_change_told(alloc, octets, place) {
+            return Some(place);
+        }
+    }
+    None
+}
+
+/// How many of the ranges of places that are changed are told.
+fn told_ranges(alloc: Global, octets: &[u8], changed: &[(usize, usize)]) -> usize {
+    for (i, (from, to)) in changed.iter().enumerate() {
+        if untold_between(alloc, octets, *from, *to).is_some() {
+            return i;
+        }
+    }
+    changed.len()
+}
+
+#[test]
+fn refuses_changed_octets(rt: HostRuntime) {
+    let alloc = rt.alloc();
+    let (len, told) = match run_of(alloc, 65) {
+        Some(octets) => (octets.len(), told_ranges(alloc, &octets, changed())),
+        None => (0, 0),
+    };
+    assert_eq!(rt; len, 2_217);
+    assert_eq!(rt; told, 2);
+}
+
+// ---- calls that fail
+
+/// Makes a file beside the run's.
+fn begun<D: Disk>(disk: &mut D) -> Result<(), Failed> {
+    disk.write_at(OTHER_FILE, 0, &[0xAA, 0x55])?;
+    disk.sync(OTHER_FILE)
+}
+
+/// Writes rows as a run and opens it.
+fn written_and_opened<D: Disk>(
+    alloc: Global,
+    disk: &mut D,
+    rows: &PageRows,
+) -> Result<Run, RunFault>
+    requires { AllByRecursion FitsPage (rows_of_page rows.now) }
+{
+    written(alloc, disk, rows)?;
+    open_run(alloc, disk, FILE)
+}
+
+/// Whether a call of the disk fails so, leaves the other file as it was, and all goes well when it is tried again.
+fn fails_so<D: Disk>(
+    alloc: Global,
+    disk: &mut D,
+    rows: &PageRows,
+    octets: &[u8],
+    wrote: bool,
+) -> bool
+    requires { AllByRecursion FitsPage (rows_of_page rows.now) }
+{
+    if begun(disk).is_err() {
+        return false;
+    }
+    let is_refused = match written_and_opened(alloc, disk, rows) {
+        Ok(_) => false,
+        Err(fault) => fault == RunFault::DiskFault { wrote },
+    };
+    is_refused
+        && has_content(alloc, disk, OTHER_FILE, &[0xAA, 0x55])
+        && written_and_opened(alloc, disk, rows).is_ok()
+        && has_content(alloc, disk, FILE, octets)
+}
+
+/// How many of these calls fail so, from the first on.
+fn failures(alloc: Global, rows: &PageRows, octets: &[u8], failing: &[Failing]) -> usize
+    requires { AllByRecursion FitsPage (rows_of_page rows.now) }
+{
+    for (place, (call, wrote)) in failing.iter().enumerate() {
+        let Ok(calls) = Vec::from_slice(alloc, &[*call]) else {
+            return place;
+        };
+        if !fails_so(
+            alloc,
+            &mut MemDisk::failing(alloc, calls),
+            rows,
+            octets,
+            *wrote,
+        ) {
+            return place;
+        }
+    }
+    failing.len()
+}
+
+/// The same of the calls of a run of 65 rows.
+fn failures_told(alloc: Global) -> usize {
+    let Some(rows) = made(alloc, 65) else {
+        return 0;
+    };
+    match run_of(alloc, 65) {
+        Some(octets) => failures(alloc, &rows, &octets, failing()),
+        None => 0,
+    }
+}
+
+#[test]
+fn each_call_fails(rt: HostRuntime) {
+    assert_eq!(rt; failures_told(rt.alloc()), 12);
+}
