@@ -1,12 +1,12 @@
 -- The first so many rows of a column in a direction.
-use Rattle.std.proofs.Common.{◌≡◌, ◌∙◌, ℕ, zero, suc, ℤ, ◌+◌, ◌-◌, ◌≤◌, List, [], ◌∷◌, ◌++◌, length, take, take_all, drop, reverse, Option, Some, None, refl, sym, ap, subst, arith}
+use Rattle.std.proofs.Common.{◌≡◌, ◌∙◌, ℕ, zero, suc, ℤ, ◌+◌, ◌-◌, ◌≤◌, List, [], ◌∷◌, ◌++◌, length, take, take_all, drop, reverse, Option, Some, None, refl, sym, ap, arith}
 use Rattle.std.specs.Prelude.{filter, min}
 use Rattle.std.proofs.lemmas.List.{drop-take, length-drop, length-reverse, length-take-le, reverse-append, reverse-reverse, take-append-drop, take_at, take_min}
 use Rattle.arch_types.specs.declared.direction.Direction.{Direction}
 use Rattle.arch_types.specs.declared.direction.Direction.TheVariants.{Ascending, Descending}
 use Rattle.arch_types.specs.declared.key.Key.{Key}
 use Rattle.segment_codec.specs.OneColumn.{column_of_parts}
-use Rattle.segment_codec.specs.RangeColumn.{IsSpanOf, asked_rows, count_in, first_in, first_rows, is_key_in_range, keys_before, rows_in_range, start_in}
+use Rattle.segment_codec.specs.RangeColumn.{IsSpanOf, asked_rows, count_in, first_in, is_key_in_range, keys_before, start_in}
 use Rattle.segment_codec.specs.KeyColumn.{keys_at}
 use Rattle.segment_codec.specs.RawColumn.{raw_column_at}
 use Rattle.segment_codec.specs.declared.one_column.ParameterColumn.{ParameterColumn}

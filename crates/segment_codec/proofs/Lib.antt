@@ -18,3 +18,4 @@ pub mod FirstRows
 pub mod Places
 pub mod Heads
 pub mod Outlines
+pub mod VarintEnds

@@ -1,15 +1,12 @@
 -- The rows of a range of times of a column.
-use Rattle.std.proofs.Common.{◌≡◌, ◌∙◌, ℕ, ℤ, List, length, Option, Some, None, ap}
-use Rattle.std.specs.Prelude.{filter, option_map, take, drop}
+use Rattle.std.proofs.Common.{◌≡◌, ◌∙◌, ℕ, List, Option, Some, None, ap}
+use Rattle.std.specs.Prelude.{option_map}
 use Rattle.octet_fields.specs.Reading.{◌>>=◌}
 use Rattle.octet_fields.proofs.Exact.{bind_some, some_is}
-use Rattle.arch_types.specs.declared.key.Key.{Key}
 use Rattle.segment_codec.specs.KeyColumn.{keys_at}
 use Rattle.segment_codec.specs.OneColumn.{column_at_place, column_of_parts, columns_end}
-use Rattle.segment_codec.specs.RangeColumn.{IsSpanOf, is_key_in_range, keys_before, rows_in_range}
 use Rattle.segment_codec.specs.RawColumn.{raw_column_at}
 use Rattle.segment_codec.specs.declared.one_column.ParameterColumn.{ParameterColumn}
-use Rattle.segment_codec.specs.declared.range_column.KeysInRange.{KeysInRange}
 
 -- where a column was read at a place, its keys were, and its values behind the columns before it
 pub read_parts : (rows place : ℕ) (octets : List ℕ) (column : ParameterColumn) → column_at_place rows (Some place) octets ≡ Some (Some column) →

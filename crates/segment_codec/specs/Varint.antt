@@ -1,5 +1,5 @@
 -- Unsigned varints.
-use Rattle.std.specs.Prelude.{ℕ, zero, suc, ◌+◌, ◌-◌, ◌*◌, ◌/◌, ◌%◌, ◌^◌, Bool, List, [], ◌∷◌, Option, Some, None, nat_lt, if◌then◌else◌}
+use Rattle.std.specs.Prelude.{ℕ, zero, suc, ◌+◌, ◌-◌, ◌*◌, ◌/◌, ◌%◌, ◌^◌, Bool, List, [], ◌∷◌, length, filter, Option, Some, None, nat_lt, if◌then◌else◌}
 use Rattle.octet_fields.specs.Reading.{Reader, ◌>>=◌, tested_at}
 
 -- at most so many octets of the varint of a number
@@ -25,3 +25,15 @@ is_short n = nat_lt n (2 ^ 98)
 -- reads a varint of at most 14 octets
 unfoldable pub short_varint_at : Reader ℕ
 short_varint_at = tested_at is_short varint_at
+
+-- ---- passing over varints
+
+-- the octets behind so many that each end a varint, each below 128
+abbrev pub behind_ends : List ℕ → ℕ → Option (List ℕ)
+behind_ends octets zero = Some octets
+behind_ends [] (suc n) = None
+behind_ends (octet ∷ rest) (suc n) = behind_ends rest (if nat_lt octet 128 then n else suc n)
+
+-- how many of octets end a varint
+abbrev pub ends_in : List ℕ → ℕ
+ends_in octets = length (filter (λ octet. nat_lt octet 128) octets)

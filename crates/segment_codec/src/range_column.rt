@@ -16,7 +16,7 @@ use crate::parameters::counted_parameters_at;
 use crate::raw_column::values_in_rows;
 use crate::reading::row_count_at;
 use crate::segment::{KeyList, RawColumn};
-use crate::varint::varint_end;
+use crate::varint::varints_end;
 use arch_types::direction::Direction;
 use arch_types::key::Key;
 use octet_fields::{DecodeError, Short};
@@ -100,11 +100,7 @@ fn walked_keys(
 fn gaps_end(count: u16, octets: &[u8]) -> Result<&[u8], Short>
     ensures { (after : List ℕ) → AreKeysUpTo count octets.now after → IfOk result (λ rest. rest.now ≡ after) }
 {
-    let mut rest = octets;
-    for _ in 0..count {
-        rest = varint_end(rest)?;
-    }
-    Ok(rest)
+    varints_end(count, octets)
 }
 
 /// Which of rows in a range are read.
@@ -149,10 +145,13 @@ fn rows_asked(rows: usize, direction: Direction, limit: Option<u64>) -> AskedRow
 }
 
 /// So many keys from one on.
-fn part_of_keys(alloc: Global, keys: &KeyList, asked: AskedRows) -> Result<KeyList, AllocError>
-    requires { asked.first + asked.count ≤ length keys.now }
-    ensures { IfOk result (λ part. part ≡ take asked.count (drop asked.first keys.now)) }
+fn part_of_keys(alloc: Global, keys: KeyList, asked: AskedRows) -> Result<KeyList, AllocError>
+    requires { asked.first + asked.count ≤ length keys }
+    ensures { IfOk result (λ part. part ≡ take asked.count (drop asked.first keys)) }
 {
+    if asked.count == keys.len() {
+        return Ok(keys);
+    }
     let (_, behind) = keys.as_slice().split_at(asked.first);
     let (part, _) = behind.split_at(asked.count);
     let list = Vec::from_slice(alloc, part)?;
@@ -176,7 +175,7 @@ fn column_rows(
     let (span, unread, rest) = walked_keys(alloc, rows, range.from, range.to, octets)?;
     let KeysInRange { before, keys } = span;
     let asked = rows_asked(keys.len(), range.direction, range.limit);
-    let keys = part_of_keys(alloc, &keys, asked)?;
+    let keys = part_of_keys(alloc, keys, asked)?;
     if asked.count == 0 {
         let values = RawColumn::new(alloc);
         return Ok(ParameterColumn { keys, values });
