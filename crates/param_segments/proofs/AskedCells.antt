@@ -22,11 +22,11 @@ module _ {X : Type 0} (P : X → Type 0) where
   kept_cases true x xs p all = (p, all)
   kept_cases false x xs p all = all
 
-  all_filter : (test : X → Bool) (xs : List X) → AllByRecursion P xs → AllByRecursion P (filter test xs)
+  pub all_filter : (test : X → Bool) (xs : List X) → AllByRecursion P xs → AllByRecursion P (filter test xs)
   all_filter test [] all = tt
   all_filter test (x ∷ xs) all = kept_cases (test x) x (filter test xs) all.0 (all_filter test xs all.1)
 
-  all_take : (n : ℕ) (xs : List X) → AllByRecursion P xs → AllByRecursion P (take n xs)
+  pub all_take : (n : ℕ) (xs : List X) → AllByRecursion P xs → AllByRecursion P (take n xs)
   all_take zero xs all = tt
   all_take (suc n) [] all = tt
   all_take (suc n) (x ∷ xs) all = (all.0, all_take n xs all.1)
@@ -39,7 +39,7 @@ module _ {X : Type 0} (P : X → Type 0) where
   all_reverse [] all = tt
   all_reverse (x ∷ xs) all = subst (AllByRecursion P) (sym (reverse-append (x ∷ []) xs)) (all_append (reverse xs) (x ∷ []) (all_reverse xs all.1) (all.0, tt))
 
-  all_directed : (direction : Direction) (xs : List X) → AllByRecursion P xs → AllByRecursion P (in_direction direction xs)
+  pub all_directed : (direction : Direction) (xs : List X) → AllByRecursion P xs → AllByRecursion P (in_direction direction xs)
   all_directed Ascending xs all = all
   all_directed Descending xs all = all_reverse xs all
 

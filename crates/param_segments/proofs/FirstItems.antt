@@ -1,22 +1,23 @@
--- The first so many items of rising lists together are among the first so many of each.
+-- The first so many items of rising lists together, where of each list no more are gathered than can be among them.
 --
--- Of an item that is among the first n of all, fewer than n stand before it: so fewer in its own list, where it is among the
--- first n too. What is left of the lists, in order, begins with those n.
-use Rattle.std.proofs.Common.{◌≡◌, ◌∙◌, ℕ, zero, suc, ◌+◌, ◌<◌, List, [], ◌∷◌, ◌++◌, length, take, get_or, Bool, true, false, cond, ◌⊎◌, inl, inr, refl, sym, ap, subst, arith}
-use Rattle.std.specs.Prelude.{flat_map}
+-- Of an item that is among the first n of all, fewer than n stand before it. So what was left behind n gathered items is
+-- none of them, and what was gathered, in order, begins with those n.
+use Rattle.std.proofs.Common.{◌≡◌, ◌∙◌, ℕ, zero, suc, ◌+◌, ◌<◌, ◌≤◌, List, [], ◌∷◌, ◌++◌, length, take, drop, get_or, Bool, true, false, cond, ◌⊎◌, inl, inr, refl, sym, ap, subst, arith}
+use Rattle.std.specs.Prelude.{◌-◌}
 use Rattle.std.specs.List.{AllByRecursion, Contains, count_by}
 use Rattle.std.specs.List.Sorted.{IsPermutation}
 use Rattle.std.specs.Cmp.{IsStrictWeakOrder}
-use Rattle.std.proofs.lemmas.List.Sorted.{Contains-permutation, IsPermutation-sym, sum_by-IsPermutation}
+use Rattle.std.proofs.lemmas.List.{append_assoc, length-take, take-append-drop}
+use Rattle.std.proofs.lemmas.List.Sorted.{Contains-permutation, IsPermutation-append_comm, IsPermutation-append_left, IsPermutation-append_right, IsPermutation-refl, IsPermutation-sym, IsPermutation-trans, sum_by-IsPermutation}
 use Rattle.std.proofs.lemmas.List.Sums.{sum_by-append, sum_by-cons}
 use Rattle.param_segments.proofs.Ordering.{IsRising}
 
 module _ {X : Type 0} {lt : X → X → Bool} (o : IsStrictWeakOrder lt) where
-  abbrev IsItem : X → List X → Type 0
+  abbrev pub IsItem : X → List X → Type 0
   IsItem z [] = ⊥
   IsItem z (x ∷ xs) = (z ≡ x) ⊎ IsItem z xs
 
-  below : (P : X → Type 0) (z : X) (xs : List X) → AllByRecursion P xs → IsItem z xs → P z
+  pub below : (P : X → Type 0) (z : X) (xs : List X) → AllByRecursion P xs → IsItem z xs → P z
   below P z [] all is = absurd is
   below P z (x ∷ xs) all (inl e) = subst P (sym e) all.0
   below P z (x ∷ xs) all (inr m) = below P z xs all.1 m
@@ -38,19 +39,20 @@ module _ {X : Type 0} {lt : X → X → Bool} (o : IsStrictWeakOrder lt) where
   to_left z (x ∷ xs) ys (inl e) = inl e
   to_left z (x ∷ xs) ys (inr m) = inr (to_left z xs ys m)
 
-  to_right : (z : X) (xs ys : List X) → IsItem z ys → IsItem z (xs ++ ys)
-  to_right z [] ys m = m
-  to_right z (x ∷ xs) ys m = inr (to_right z xs ys m)
-
   from_take : (z : X) (n : ℕ) (xs : List X) → IsItem z (take n xs) → IsItem z xs
   from_take z zero xs m = absurd m
   from_take z (suc n) [] m = absurd m
   from_take z (suc n) (x ∷ xs) (inl e) = inl e
   from_take z (suc n) (x ∷ xs) (inr m) = inr (from_take z n xs m)
 
+  from_drop : (z : X) (n : ℕ) (xs : List X) → IsItem z (drop n xs) → IsItem z xs
+  from_drop z zero xs m = m
+  from_drop z (suc n) [] m = absurd m
+  from_drop z (suc n) (x ∷ xs) m = inr (from_drop z n xs m)
+
   -- ---- how many items are before one
 
-  abbrev before : X → List X → ℕ
+  abbrev pub before : X → List X → ℕ
   before z xs = count_by (λ x. lt x z) xs
 
   before_more : (z x : X) (xs : List X) → before z (x ∷ xs) ≡ cond (lt x z) 1 0 + before z xs
@@ -81,35 +83,47 @@ module _ {X : Type 0} {lt : X → X → Bool} (o : IsStrictWeakOrder lt) where
       let whole : before z (x ∷ xs) ≡ 1 + before z xs = one_more z x xs head in
       omega (arith, whole, more)
 
-  -- and where fewer are before an item, it's one of the first so many
-  among_first : (n : ℕ) (z : X) (xs : List X) → IsRising lt xs → IsItem z xs → before z xs < n → IsItem z (take n xs)
-  among_first zero z xs up m few = absurd (omega (arith, few))
-  among_first (suc n) z [] up m few = absurd m
-  among_first (suc n) z (x ∷ xs) up (inl e) few = inl e
-  among_first (suc n) z (x ∷ xs) up (inr m) few =
-      let head : lt x z ≡ true = below (λ w. lt x w ≡ true) z xs up.0 m in
-      let whole : before z (x ∷ xs) ≡ 1 + before z xs = one_more z x xs head in
-      inr (among_first n z xs up.1 m (omega (arith, few, whole)))
+  both_before : (z : X) (xs ys : List X) → before z (xs ++ ys) ≡ before z xs + before z ys
+  both_before z xs ys = sum_by-append (λ x. cond (lt x z) 1 0) xs ys
 
-  -- ---- the first so many of each list
+  pub same_before : (z : X) (xs ys : List X) → IsPermutation xs ys → before z ys ≡ before z xs
+  same_before z xs ys same = sum_by-IsPermutation (λ x. cond (lt x z) 1 0) xs ys same
 
-  module _ {S : Type 0} (own : S → List X) where
-    from_each : (n : ℕ) (z : X) (ss : List S) → IsItem z (flat_map (λ s. take n (own s)) ss) → IsItem z (flat_map own ss)
-    from_each n z [] m = absurd m
-    from_each n z (s ∷ ss) m = elim (in_append z (take n (own s)) (flat_map (λ t. take n (own t)) ss) m) [
-      | inl here ↦ to_left z (own s) (flat_map own ss) (from_take z n (own s) here)
-      | inr there ↦ to_right z (own s) (flat_map own ss) (from_each n z ss there)
-    ]
+  -- before an item stand so many where all are before it
+  all_before : (z : X) (xs : List X) → AllByRecursion (λ x. lt x z ≡ true) xs → before z xs ≡ length xs
+  all_before z [] all = refl
+  all_before z (x ∷ xs) all = let whole = one_more z x xs all.0 in let more = all_before z xs all.1 in omega (arith, whole, more)
 
-    to_each : (n : ℕ) (z : X) (ss : List S) → AllByRecursion (λ s. IsRising lt (own s)) ss → IsItem z (flat_map own ss) → before z (flat_map own ss) < n → IsItem z (flat_map (λ s. take n (own s)) ss)
-    to_each n z [] up m few = absurd m
-    to_each n z (s ∷ ss) up m few =
-        let sum : before z (own s ++ flat_map own ss) ≡ before z (own s) + before z (flat_map own ss) = sum_by-append (λ x. cond (lt x z) 1 0) (own s) (flat_map own ss) in
-        let rest = flat_map (λ t. take n (own t)) ss in
-        elim (in_append z (own s) (flat_map own ss) m) [
-          | inl here ↦ to_left z (take n (own s)) rest (among_first n z (own s) up.0 here (omega (arith, few, sum)))
-          | inr there ↦ to_right z (take n (own s)) rest (to_each n z ss up.1 there (omega (arith, few, sum)))
-        ]
+  -- of a rising list the first so many are before each of the others
+  front_before : (n : ℕ) (z : X) (xs : List X) → IsRising lt xs → IsItem z (drop n xs) → n ≤ before z (take n xs)
+  front_before zero z xs up m = omega arith
+  front_before (suc n) z [] up m = absurd m
+  front_before (suc n) z (x ∷ xs) up m =
+      let head : lt x z ≡ true = below (λ w. lt x w ≡ true) z xs up.0 (from_drop z n xs m) in
+      let more = front_before n z xs up.1 m in
+      let whole = one_more z x (take n xs) head in
+      omega (arith, whole, more)
+
+  through_cases : (x y z : X) (b : Bool) → lt x y ≡ true → lt y z ≡ true → lt x z ≡ b → lt x z ≡ true
+  through_cases x y z true h k e = e
+  through_cases x y z false h k e = absurd (let f = o.chain x z y e (o.one_way y z k) in cc)
+
+  through : (x y z : X) → lt x y ≡ true → lt y z ≡ true → lt x z ≡ true
+  through x y z h k = through_cases x y z (lt x z) h k refl
+
+  test_cases : (x y z : X) (b : Bool) → lt y z ≡ true → lt x y ≡ b → cond (lt x y) 1 0 ≤ cond (lt x z) 1 0
+  test_cases x y z true h e = rw (e, through x y z e h) (omega arith)
+  test_cases x y z false h e = rw e (omega arith)
+
+  -- before a later item stand no fewer
+  before_later : (y z : X) (xs : List X) → lt y z ≡ true → before y xs ≤ before z xs
+  before_later y z [] h = omega arith
+  before_later y z (x ∷ xs) h =
+      let own = before_more y x xs in
+      let other = before_more z x xs in
+      let one = test_cases x y z (lt x y) h refl in
+      let more = before_later y z xs h in
+      omega (arith, own, other, one, more)
 
   -- ---- rising lists of which one has the first so many items of the other
 
@@ -149,16 +163,68 @@ module _ {X : Type 0} {lt : X → X → Bool} (o : IsStrictWeakOrder lt) where
   moved : (z : X) (xs ys : List X) → IsPermutation xs ys → IsItem z xs → IsItem z ys
   moved z xs ys same m = let h = Contains-permutation xs ys z same (contains_from z xs m) in item_from z ys h.0 h.1 h.2
 
-  -- the first so many of each of rising lists, put in order, begin with the first so many of all
-  pub first_of_each : {S : Type 0} (own : S → List X) (n : ℕ) (ss : List S) (all part : List X) → AllByRecursion (λ s. IsRising lt (own s)) ss → IsPermutation (flat_map own ss) all → IsRising lt all → IsPermutation (flat_map (λ s. take n (own s)) ss) part → IsRising lt part →
-      take n part ≡ take n all
-  first_of_each own n ss all part each whole up same rises =
-      let mixed = flat_map own ss in
-      let some = flat_map (λ s. take n (own s)) ss in
-      first_same n all part up rises
-      (λ z m. moved z mixed all whole (from_each own n z ss (moved z part some (IsPermutation-sym some part same) m)))
+  -- ---- enough of all
+
+  middle : (a b c d : List X) → IsPermutation ((a ++ b) ++ (c ++ d)) ((a ++ c) ++ (b ++ d))
+  middle a b c d =
+      let inner : IsPermutation (b ++ (c ++ d)) (c ++ (b ++ d)) =
+      subst (λ (l : List X). IsPermutation l (c ++ (b ++ d))) (append_assoc b c d) (subst (IsPermutation ((b ++ c) ++ d)) (append_assoc c b d) (IsPermutation-append_left d (b ++ c) (c ++ b) (IsPermutation-append_comm b c))) in
+      subst (λ (l : List X). IsPermutation l ((a ++ c) ++ (b ++ d))) (sym (append_assoc a b (c ++ d)))
+      (subst (IsPermutation (a ++ (b ++ (c ++ d)))) (sym (append_assoc a c (b ++ d))) (IsPermutation-append_right a (b ++ (c ++ d)) (c ++ (b ++ d)) inner))
+
+  -- some items were gathered of all, and before each that was left stand so many of them
+  abbrev pub HasEnough : ℕ → List X → List X → Type 0
+  HasEnough n all gathered = (left : List X) × IsPermutation (gathered ++ left) all × ((z : X) → IsItem z left → n ≤ before z gathered)
+
+  pub enough_of_none : (n : ℕ) → HasEnough n [] []
+  enough_of_none n = ([], IsPermutation-refl [], λ z m. absurd m)
+
+  pub enough_moved : (n : ℕ) (all gathered whole moved_to : List X) → HasEnough n all gathered → IsPermutation all whole → IsPermutation gathered moved_to → HasEnough n whole moved_to
+  enough_moved n all gathered whole moved_to has same to = (
+    has.0,
+    IsPermutation-trans (moved_to ++ has.0) (gathered ++ has.0) whole (IsPermutation-append_left has.0 moved_to gathered (IsPermutation-sym gathered moved_to to)) (IsPermutation-trans (gathered ++ has.0) all whole has.1 same),
+    λ z m. let e = same_before z gathered moved_to to in let h = has.2 z m in omega (arith, e, h),
+  )
+
+  -- the first so many of a rising list more, where that many and those before each of its items are enough
+  pub enough_more : (n w : ℕ) (all gathered piece : List X) → HasEnough n all gathered → IsRising lt piece → ((z : X) → IsItem z piece → n ≤ w + before z gathered) → HasEnough n (all ++ piece) (gathered ++ take w piece)
+  enough_more n w all gathered piece has up wanted =
+      let front = take w piece in
+      let back = drop w piece in
+      let joined : IsPermutation ((gathered ++ has.0) ++ (front ++ back)) (all ++ piece) = subst (λ (l : List X). IsPermutation ((gathered ++ has.0) ++ l) (all ++ piece)) (sym (take-append-drop w piece)) (IsPermutation-append_left piece (gathered ++ has.0) all has.1) in (
+        has.0 ++ back,
+        IsPermutation-trans ((gathered ++ front) ++ (has.0 ++ back)) ((gathered ++ has.0) ++ (front ++ back)) (all ++ piece) (middle gathered front has.0 back) joined,
+        λ z m.
+            let sum = both_before z gathered front in
+            elim (in_append z has.0 back m) [
+              | inl old ↦ let many = has.2 z old in omega (arith, sum, many)
+              | inr new ↦ let own = wanted z (from_drop z w piece new) in let first = front_before w z piece up new in omega (arith, sum, own, first)
+            ],
+      )
+
+  -- what is wanted behind an item is wanted less what was taken, behind a later one that all of it stands before
+  pub wanted_less : (n w : ℕ) (gathered piece : List X) (y z : X) → lt y z ≡ true → AllByRecursion (λ x. lt x z ≡ true) (take w piece) → n ≤ w + before y gathered → n ≤ (w - length (take w piece)) + before z (gathered ++ take w piece)
+  wanted_less n w gathered piece y z later all wanted =
+      let front = take w piece in
+      let sum = both_before z gathered front in
+      let own = all_before z front all in
+      let more = before_later y z gathered later in
+      let short = length-take w piece in
+      omega (arith, sum, own, more, short, wanted)
+
+  -- what has enough of all, in order, begins with the first so many of all
+  pub first_of_enough : (n : ℕ) (all gathered whole sorted : List X) → HasEnough n all gathered → IsPermutation all whole → IsRising lt whole → IsPermutation gathered sorted → IsRising lt sorted → take n sorted ≡ take n whole
+  first_of_enough n all gathered whole sorted has same up to rises =
+      let both = gathered ++ has.0 in
+      first_same n whole sorted up rises
+      (λ z m. moved z all whole same (moved z both all has.1 (to_left z gathered has.0 (moved z sorted gathered (IsPermutation-sym gathered sorted to) m))))
       (λ z m.
-      let few : before z all < n = few_before n z all up m in
-      let count : before z all ≡ before z mixed = sum_by-IsPermutation (λ x. cond (lt x z) 1 0) mixed all whole in
-      let here : IsItem z mixed = moved z all mixed (IsPermutation-sym mixed all whole) (from_take z n all m) in
-      moved z some part same (to_each own n z ss each here (omega (arith, few, count))))
+      let few : before z whole < n = few_before n z whole up m in
+      let here : IsItem z both = moved z all both (IsPermutation-sym both all has.1) (moved z whole all (IsPermutation-sym all whole same) (from_take z n whole m)) in
+      let count : before z whole ≡ before z all = same_before z all whole same in
+      let count_both : before z all ≡ before z both = same_before z both all has.1 in
+      let sum = both_before z gathered has.0 in
+      elim (in_append z gathered has.0 here) [
+        | inl there ↦ moved z gathered sorted to there
+        | inr behind ↦ absurd (let many = has.2 z behind in omega (arith, few, count, count_both, sum, many))
+      ])

@@ -29,12 +29,13 @@ pub mod ListSteps
 pub mod SetAgain
 pub mod RunSteps
 pub mod FirstCells
-pub mod FirstOfEach
 pub mod FirstItems
 pub mod RangeCells
-pub mod AskedOfEach
 pub mod AskedCells
 pub mod SetRuns
+pub mod DirectedCells
+pub mod AskedGroups
+pub mod GatheredCells
 pub mod Passed
 pub mod SegmentsOfSet
 pub mod RunsComplete

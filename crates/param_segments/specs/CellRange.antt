@@ -1,11 +1,14 @@
 -- The cells that a range asks of a set.
-use Rattle.std.specs.Prelude.{ℕ, ℤ, Bool, List, filter}
+use Rattle.std.specs.Prelude.{◌≡◌, ◌⊎◌, ℕ, ◌-◌, ◌<◌, ℤ, Bool, List, Option, filter}
+use Rattle.std.specs.List.Sorted.{IsPermutation, IsSortedBy}
 use Rattle.arch_types.specs.Directions.{in_direction, truncated}
 use Rattle.arch_types.specs.declared.cell.Cell.{Cell}
+use Rattle.arch_types.specs.declared.direction.Direction.{Direction}
 use Rattle.mdb_items.specs.Database.{Database}
 use Rattle.segment_codec.specs.RangeColumn.{first_in, is_key_in_range}
 use Rattle.segment_codec.specs.declared.segment.Segment.{Segment}
-use Rattle.param_segments.specs.Cells.{segment_cells, set_cells, set_raw_cells}
+use Rattle.param_segments.specs.Cells.{is_cell_earlier, segment_cells, set_cells, set_raw_cells}
+use Rattle.param_segments.specs.RowPlaces.{numbered_segment}
 use Rattle.param_segments.specs.Rows.{SetRow}
 use Rattle.param_segments.specs.declared.cell_range.CellRange.{CellRange}
 use Rattle.param_segments.specs.declared.raw_cell.RawCell.{RawCell}
@@ -40,3 +43,25 @@ segment_cells_in_range q low high s = filter (is_raw_cell_in_range low high) (se
 -- and of these the first so many that a range asks, in their own order
 abbrev pub segment_cells_asked : ℕ → CellRange → Segment → List RawCell
 segment_cells_asked q range s = first_in range.direction range.limit (segment_cells_in_range q range.from range.to s)
+
+-- ---- the groups of a set, in a direction
+
+-- the segment so many steps into a set
+abbrev pub segment_at : Direction → List Segment → ℕ → Segment
+segment_at direction segments step = numbered_segment (in_direction direction segments) step
+
+-- it's of the same group as the one a step before
+abbrev pub GoesOn : Direction → List Segment → ℕ → Type 0
+GoesOn direction segments step =
+    (0 < step) × ((segment_at direction segments (step - 1)).parameters ≡ (segment_at direction segments step).parameters)
+
+-- how many cells it's asked for: those that its group still wants, or as many as the limit
+abbrev pub IsAskedOf : Direction → List Segment → ℕ → ℕ → ℕ → ℕ → Type 0
+IsAskedOf direction segments step limit wanted asked =
+    (asked ≡ limit) ⊎ ((asked ≡ wanted) × GoesOn direction segments step)
+
+-- what was gathered, in the order of keys, begins in a direction with the first so many of all
+abbrev pub GivesFirst : Direction → Option ℕ → List RawCell → List RawCell → Type 0
+GivesFirst direction limit gathered all =
+    (sorted : List RawCell) → IsPermutation gathered sorted → IsSortedBy is_cell_earlier sorted →
+    truncated limit (in_direction direction sorted) ≡ truncated limit (in_direction direction all)
