@@ -1,0 +1,4 @@
+pub mod Order
+pub mod Blocks
+pub mod Searching
+pub mod Putting

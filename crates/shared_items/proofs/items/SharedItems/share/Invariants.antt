@@ -1,0 +1,6 @@
+use Rattle.std.proofs.Common.{◌≡◌, take, map}
+use Rattle.std.specs.Arc.{arc_value}
+use Rattle.shared_items.proofs.items.SharedItems.share.Given as goal
+
+abbrev pub invariant-loop-block : goal.invariant-loop-block
+invariant-loop-block g l = map arc_value l.blocks.items ≡ map arc_value (take l.block-index l.block-items)
