@@ -11,6 +11,7 @@
 
 mod block;
 mod items;
+pub mod laws;
 mod numbered;
 mod search;
 
