@@ -6,6 +6,7 @@ use Rattle.std.proofs.MapsCrossing as maps
 use Rattle.glance_log.proofs.sight.Sight.TheSendSync as sight
 use Rattle.left_right.proofs.reader.Factory.TheSendSync as factory
 use Rattle.left_right.proofs.reader.Reader.TheSendSync as seat
+use Rattle.shared_items.proofs.items.SharedItems.TheSendSync as shared
 use Rattle.glance_board.proofs.listing.Listing.TheSendSync as listing
 use Rattle.glance_board.proofs.reader.BoardReader.TheSendSync as board_reader
 use Rattle.mdb_items.specs.contracts.calibration.Calibration as Calibration
@@ -16,9 +17,11 @@ use Rattle.mdb_lookups.specs.contracts.numbered_children.NumberedChildren as Num
 use Rattle.mdb_model.specs.contracts.mdb.Inner as Inner
 use Rattle.mdb_model.specs.contracts.mdb.Mdb as Mdb
 use Rattle.param_segments.specs.contracts.set.SegSet as SegSet
+use Rattle.shared_items.specs.contracts.items.SharedItems as SharedItems
 use Rattle.glance_board.specs.declared.archived.Archived as archived
 use Rattle.glance_board.specs.contracts.contents.Contents as Contents
 use Rattle.glance_board.specs.contracts.contents.PublishedMark as PublishedMark
+use Rattle.glance_board.specs.contracts.contents.PublishedMarkNumbered.TheImpl.{ghosts}
 use Rattle.glance_board.specs.contracts.listing.Listing as Listing
 use Rattle.glance_board.specs.contracts.reader.BoardReader as BoardReader
 
@@ -78,11 +81,17 @@ mark_send = search (crosses, set_send, set_sync, sendable) depth 60
 mark_sync : IsSync PublishedMark.the_row
 mark_sync = search (crosses, set_send, set_sync, sendable) depth 60
 
+marks_send : IsSend (SharedItems.the_row PublishedMark.the_row ghosts)
+marks_send = search (shared.the_send, crosses, mark_send, mark_sync, sendable) depth 60
+
+marks_sync : IsSync (SharedItems.the_row PublishedMark.the_row ghosts)
+marks_sync = search (shared.the_sync, crosses, mark_send, mark_sync, sendable) depth 60
+
 contents_send : IsSend Contents.the_row
-contents_send = search (crosses, mdb_send, mdb_sync, mark_send, sendable) depth 60
+contents_send = search (crosses, mdb_send, mdb_sync, marks_send, sendable) depth 60
 
 contents_sync : IsSync Contents.the_row
-contents_sync = search (crosses, mdb_send, mdb_sync, mark_sync, sendable) depth 60
+contents_sync = search (crosses, mdb_send, mdb_sync, marks_sync, sendable) depth 60
 
 -- ---- listings, and who looks at them: whatever the archive is
 pub listing_send : (X : RattleType) (stays : archived.Ghosts X.Denot) → IsSend (Listing.the_row X stays)

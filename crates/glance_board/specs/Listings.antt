@@ -59,6 +59,7 @@ pub record IsListing {X : Type 0} (stays : X → StayingFacts) (at : Sighting X)
   pub archive : X
   pub fixed : at.fixed ≡ Some archive
   pub front : contents.front ≡ length at.history
+  pub fills : contents.fills ≡ length at.fills
   pub exponent : contents.exponent ≡ (stays archive).exponent
   pub database : arc_value contents.mdb ≡ database_of (stays archive) at.history
   pub marks : AreListedMarks (stays archive) at.history at.fills contents.marks

@@ -1,7 +1,6 @@
 -- What contracts see of a shelf.
-use Rattle.std.specs.Prelude.{◌≡◌, ◌⊎◌, List, [], ◌∷◌, Option, Some, None, fold}
-use Rattle.glance_log.specs.declared.publication.Publication.{Publication}
-use Rattle.glance_log.specs.Sightings.{Sighting, IsFollowedBy, sighting}
+use Rattle.std.specs.Prelude.{◌≡◌, List, [], ◌∷◌, Option, Some, None, fold}
+use Rattle.glance_log.specs.Sightings.{Sighting, IsFollowedBy}
 use Rattle.glance_board.specs.declared.rule.Watched.{Watched}
 
 -- the publication that readers see, and the one that was made last
@@ -29,7 +28,3 @@ pub record IsShelf {X : Type 0} (v : Watched X) (shown : Sighting X) (pending : 
   pub pends : IsFollowedBy shown (last_to_show shown pending)
   pub makes : IsFollowedBy (last_to_show shown pending) made
   pub last : IsLastMade (last_to_show shown pending) waiting made
-
--- a publication was made last, or none was
-abbrev pub IsMadeOrSame : {X : Type 0} → ShelfView X → ShelfView X → Publication X → Type 0
-IsMadeOrSame old new p = (new.made ≡ sighting old.made.book p) ⊎ (new.made ≡ old.made)

@@ -1,9 +1,9 @@
 //! What a listing has beside its publication.
 
 use intervals::{Exponent, Interval};
-use item_list::Items;
 use mdb_model::Mdb;
 use param_segments::SegSet;
+use shared_items::{Numbered, SharedItems};
 use std::alloc::Global;
 use std::sync::Arc;
 
@@ -19,14 +19,24 @@ pub struct PublishedMark {
     pub set: Option<Arc<SegSet, Global>>,
 }
 
-/// Marks in the order of their intervals.
-pub type PublishedMarks = Items<PublishedMark>;
+impl Numbered for PublishedMark {
+    ghost number_of = { λ mark. mark.interval.0 };
+
+    fn number(&self) -> i64 {
+        self.interval.0
+    }
+}
+
+/// Marks in the order of their intervals. What didn't change between two publications they share.
+pub type PublishedMarks = SharedItems<PublishedMark>;
 
 /// What a retrieval over a publication needs of it.
 #[derive(Drop)]
 pub struct Contents {
     /// The length of the history.
     pub front: u64,
+    /// The length of the fill list.
+    pub fills: u64,
     /// The exponent of the archive's intervals.
     pub exponent: Exponent,
     /// The database in force.

@@ -5,7 +5,6 @@ ghost use Rattle.std.specs.Option.{option_to_list};
 ghost use Rattle.left_right.specs.Sides.{view};
 ghost use Rattle.glance_log.specs.Sightings.{IsFollowedBy, MayFollow, sighting};
 ghost use Rattle.glance_board.specs.Listings.{IsListing};
-ghost use Rattle.glance_board.specs.Shelves.{IsMadeOrSame};
 
 use crate::archived::Archived;
 use crate::contents::Contents;
@@ -30,8 +29,10 @@ where
     Listing<X>: Absorb<Listing<X>, State = Sight<X>>,
 {
     publisher: Publisher<X>,
+    /// What was made last.
+    made: Listing<X>,
     board: Board<X>,
-    /// What was made last, where the board doesn't have it yet.
+    /// The same, where the board doesn't have it yet.
     waiting: Option<Listing<X>>,
 }
 
@@ -39,7 +40,7 @@ impl<X: Archived> Model for Shelf<X>
 where
     Listing<X>: Absorb<Listing<X>, State = Sight<X>>,
 {
-    ghost use Rattle.std.specs.Prelude.{drop};
+    ghost use Rattle.std.specs.Prelude.{◌≡◌, drop};
     ghost use Rattle.glance_board.specs.Shelves.{IsShelf, ShelfView, shelf_view};
 
     ghost Value = { ShelfView X };
@@ -47,7 +48,7 @@ where
     ghost view = { λ s. shelf_view s.board.desk.shown.value s.publisher };
 
     ghost invariant = { λ s. IsShelf s.board.desk.place.me.0.client s.board.desk.shown.value
-        (drop s.board.behind s.board.log.items) s.waiting s.publisher };
+        (drop s.board.behind s.board.log.items) s.waiting s.publisher × (s.made ≡ s.publisher) };
 }
 
 /// Hands what waits to the board. It comes back where there is no memory.
@@ -107,10 +108,11 @@ impl<X: Archived> Shelf<X> {
         ensures shown { IfOk result (λ shelf. shelf.shown ≡ publisher) }
     {
         let contents = Arc::new(alloc, contents)?;
-        let first = Listing::new(publisher.last(), contents);
-        let board = board_of(rt, alloc, first, readers)?;
+        let made = Listing::new(publisher.last(), contents);
+        let board = board_of(rt, alloc, made.copy()?, readers)?;
         Ok(Shelf {
             publisher,
+            made,
             board,
             waiting: None,
         })
@@ -124,29 +126,6 @@ impl<X: Archived> Shelf<X> {
         let mut seat = self.board.factory().reader()?;
         seat.learn::<Informs>(self.board.tell::<Copies>());
         Ok(BoardReader::of(seat, self.board.published().sight()))
-    }
-
-    /// Publishes what a value tells, with its contents. Refused for want of memory: what is published may have been made
-    /// for all that, and stands on the board once `show` has found memory.
-    pub fn publish<A, M: Tells<A, X>, R: Wait>(
-        self,
-        rt: &R,
-        alloc: Global,
-        about: &A,
-        contents: Contents,
-    ) -> (Shelf<X>, Result<(), AllocError>)
-        requires follows { MayFollow self.made (M.publication about.now) }
-        requires listing { IsListing X.stays (sighting self.made.book (M.publication about.now)) contents }
-        ensures made { OnOk result.1 (result.0.made ≡ sighting self.made.book (M.publication about.now)) }
-        ensures shown { OnOk result.1 (result.0.shown ≡ result.0.made) }
-        ensures refused { IsMadeOrSame self result.0 (M.publication about.now) }
-        ensures later { IsFollowedBy self.shown result.0.shown }
-    {
-        let mut shelf = self;
-        if let Err(error) = shelf.make::<A, M>(alloc, about, contents) {
-            return (shelf, Err(error));
-        }
-        shelf.show(rt)
     }
 
     /// Makes a publication of what a value tells, which waits until `show` has found memory. Refused for want of memory,
@@ -164,9 +143,11 @@ impl<X: Archived> Shelf<X> {
         ensures refused { OnErr result (self.new ≡ self.old) }
     {
         let contents = Arc::new(alloc, contents)?;
+        let shared = Arc::try_clone(&contents)?;
         let Some(sight) = self.publisher.publish::<A, M>(about) else {
             return Err(AllocError);
         };
+        self.made = Listing::new(sight.again(), shared);
         self.waiting = Some(Listing::new(sight, contents));
         Ok(())
     }
@@ -179,6 +160,7 @@ impl<X: Archived> Shelf<X> {
     {
         let Shelf {
             publisher,
+            made,
             mut board,
             waiting,
         } = self;
@@ -187,6 +169,7 @@ impl<X: Archived> Shelf<X> {
                 let (board, shown) = board.publish_as::<Sees, R>(rt);
                 let shelf = Shelf {
                     publisher,
+                    made,
                     board,
                     waiting: None,
                 };
@@ -195,6 +178,7 @@ impl<X: Archived> Shelf<X> {
             Err(listing) => {
                 let shelf = Shelf {
                     publisher,
+                    made,
                     board,
                     waiting: Some(listing),
                 };
@@ -210,10 +194,18 @@ impl<X: Archived> Shelf<X> {
         self.publisher.last()
     }
 
+    /// What was made last, with its contents.
+    pub fn made(&self) -> &Listing<X>
+        ensures { result.now ≡ self.now.made }
+    {
+        &self.made
+    }
+
     /// Takes what is shown away from the readers, and waits until none reads.
     pub fn close<R: Wait>(self, rt: &R) {
         let Shelf {
             publisher: _publisher,
+            made: _made,
             board,
             waiting: _waiting,
         } = self;

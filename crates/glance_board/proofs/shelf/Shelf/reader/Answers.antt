@@ -21,4 +21,4 @@ of-requires g c =
     let w = view c.learn.new.self.place in
     let same : w ≡ v = c.learn.ensures.1 ∙ c.tell.ensures.given.1 in
     let shown : c.sight.result ≡ c.self.inside.board.desk.shown.value = c.sight.ensures ∙ c.published.ensures ∙ ap (λ (p : Part (Sighting g.row.X.Denot)). p.value) c.tell.ensures.kept.0 in
-    has_seen w c.sight.result (ap (λ (u : Watched g.row.X.Denot). u.seen) same ∙ c.self.invariant.seen ∙ ap (λ (s : Sighting g.row.X.Denot). s ∷ []) (sym shown))
+    has_seen w c.sight.result (ap (λ (u : Watched g.row.X.Denot). u.seen) same ∙ c.self.invariant.0.seen ∙ ap (λ (s : Sighting g.row.X.Denot). s ∷ []) (sym shown))

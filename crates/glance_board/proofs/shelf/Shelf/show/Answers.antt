@@ -15,7 +15,7 @@ publish_as-board-requires g c = λ next same.
     let b = c.self.inside.board in
     let n = c.append_waiting.new.board in
     let all : last_to_show n.desk.shown.value (drop n.behind n.log.items) ≡ last_to_show b.desk.shown.value (drop b.behind b.log.items ++ option_to_list c.self.inside.waiting) = rw (c.in-Ok.ensures.desk, c.in-Ok.ensures.pending) refl in
-    let on = handed_follows b.desk.place.me.0.client b.desk.shown.value (drop b.behind b.log.items) c.self.inside.waiting c.self.inside.publisher c.self.invariant next (same ∙ all) in
+    let on = handed_follows b.desk.place.me.0.client b.desk.shown.value (drop b.behind b.log.items) c.self.inside.waiting c.self.inside.publisher c.self.invariant.0 next (same ∙ all) in
     let from : IsFollowedBy n.desk.shown.value next = rw (c.in-Ok.ensures.desk) on in
     shows_on n.desk.place.id n.desk.place.me.0.client n.desk.shown.value next from
 
@@ -26,9 +26,11 @@ invariant_of-shelf g c =
     let p = c.publish_as-board.result.0 in
     let made = c.self.inside.publisher in
     let handed : IsShelf n.desk.place.me.0.client n.desk.shown.value (drop n.behind n.log.items) None made
-    = rw (c.in-Ok.ensures.desk, c.in-Ok.ensures.pending) (handed_only b.desk.place.me.0.client b.desk.shown.value (drop b.behind b.log.items) c.self.inside.waiting made c.self.invariant) in
-    still_shelf n.desk.place.me.0.client p.desk.place.me.0.client n.desk.shown.value p.desk.shown.value (drop n.behind n.log.items) (drop p.behind p.log.items) made c.publish_as-board.result.1
-    c.publish_as-board.ensures.values c.publish_as-board.ensures.rule handed
+    = rw (c.in-Ok.ensures.desk, c.in-Ok.ensures.pending) (handed_only b.desk.place.me.0.client b.desk.shown.value (drop b.behind b.log.items) c.self.inside.waiting made c.self.invariant.0) in (
+      still_shelf n.desk.place.me.0.client p.desk.place.me.0.client n.desk.shown.value p.desk.shown.value (drop n.behind n.log.items) (drop p.behind p.log.items) made c.publish_as-board.result.1
+          c.publish_as-board.ensures.values c.publish_as-board.ensures.rule handed,
+      c.self.invariant.1,
+    )
 
 pub returns-in-Ok-clause-shown : goal.returns-in-Ok-clause-shown
 returns-in-Ok-clause-shown g c =
@@ -37,7 +39,7 @@ returns-in-Ok-clause-shown g c =
     let p = c.publish_as-board.result.0 in
     let made = c.self.inside.publisher in
     let handed : IsShelf n.desk.place.me.0.client n.desk.shown.value (drop n.behind n.log.items) None made
-    = rw (c.in-Ok.ensures.desk, c.in-Ok.ensures.pending) (handed_only b.desk.place.me.0.client b.desk.shown.value (drop b.behind b.log.items) c.self.inside.waiting made c.self.invariant) in
+    = rw (c.in-Ok.ensures.desk, c.in-Ok.ensures.pending) (handed_only b.desk.place.me.0.client b.desk.shown.value (drop b.behind b.log.items) c.self.inside.waiting made c.self.invariant.0) in
     is_shown n.desk.place.me.0.client p.desk.place.me.0.client n.desk.shown.value p.desk.shown.value (drop n.behind n.log.items) (drop p.behind p.log.items) made c.publish_as-board.result.1
     c.publish_as-board.ensures.values handed.last
 
@@ -48,7 +50,7 @@ returns-in-Ok-clause-later g c =
     let p = c.publish_as-board.result.0 in
     let made = c.self.inside.publisher in
     let handed : IsShelf n.desk.place.me.0.client n.desk.shown.value (drop n.behind n.log.items) None made
-    = rw (c.in-Ok.ensures.desk, c.in-Ok.ensures.pending) (handed_only b.desk.place.me.0.client b.desk.shown.value (drop b.behind b.log.items) c.self.inside.waiting made c.self.invariant) in
+    = rw (c.in-Ok.ensures.desk, c.in-Ok.ensures.pending) (handed_only b.desk.place.me.0.client b.desk.shown.value (drop b.behind b.log.items) c.self.inside.waiting made c.self.invariant.0) in
     let later : IsFollowedBy n.desk.shown.value p.desk.shown.value = later_shown n.desk.place.me.0.client p.desk.place.me.0.client n.desk.shown.value p.desk.shown.value (drop n.behind n.log.items) (drop p.behind p.log.items)
     c.publish_as-board.result.1 c.publish_as-board.ensures.values handed.pends in
     let from : IsFollowedBy b.desk.shown.value p.desk.shown.value = rw (← c.in-Ok.ensures.desk) later in
