@@ -1,12 +1,12 @@
 //! Readers, and what they may know of each other.
 
-ghost use Rattle.std.specs.Prelude.{◌≡◌, [], ◌∷◌, ◌++◌, IfErr, IfOk, MatchOption, OnErr, OnOk, replicate};
+ghost use Rattle.std.specs.Prelude.{◌≡◌, [], ◌∷◌, ◌++◌, IfErr, IfOk, MatchOption, OnErr, OnOk};
 ghost use Rattle.glance_log.specs.Sightings.{IsFollowedBy};
 ghost use Rattle.glance.specs.Answers.{IsNowAnswer, IsNowRefusal};
 
 use crate::answering::answered;
 use asks::{Answer, Request};
-use glance_board::{Archived, BoardReader, Shelf};
+use glance_board::{Archived, BoardReader};
 use glance_log::Sight;
 use refusals::Refusal;
 use std::alloc::{AllocError, Global};
@@ -79,16 +79,22 @@ impl<X: Archived> Model for Glances<X> {
 }
 
 impl<X: Archived> Glances<X> {
-    /// So many glances, which have seen what a shelf shows. Refused for want of memory, or where its board has fewer places.
-    pub fn of(alloc: Global, shelf: &mut Shelf<X>, readers: usize) -> Result<Glances<X>, AllocError>
-        ensures shown { IfOk result (λ glances. glances ≡ replicate readers shelf.old.shown) }
-        ensures same { shelf.new ≡ shelf.old }
+    /// None, to which glances are added.
+    pub fn new(alloc: Global) -> Glances<X>
+        ensures { result ≡ [] }
     {
-        let mut left = Vec::new(alloc);
-        for _ in 0..readers {
-            left.push(Glance::of(shelf.reader()?))?;
+        Glances {
+            left: Vec::new(alloc),
         }
-        Ok(Glances { left })
+    }
+
+    /// Adds one. The one error is want of memory.
+    pub fn add(&mut self, glance: Glance<X>) -> Result<(), AllocError>
+        ensures added { OnOk result (self.new ≡ self.old ++ glance ∷ []) }
+        ensures refused { OnErr result (self.new ≡ self.old) }
+    {
+        self.left.push(glance)?;
+        Ok(())
     }
 
     /// Takes one. None exactly where all have been taken.
