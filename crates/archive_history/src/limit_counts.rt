@@ -1,7 +1,9 @@
 //! What the limits count: octets of packets, and rows in each interval.
 
-ghost use Rattle.std.specs.Prelude.{◌≡◌, ◌+◌, ◌<◌, ◌≤◌, ◌^◌, [], max, IfOk, OnOk, OnErr};
+ghost use Rattle.std.specs.Prelude.{◌≡◌, ◌+◌, ◌*◌, ◌<◌, ◌≤◌, ◌^◌, [], max, IfOk, OnOk, OnErr};
+ghost use Rattle.std.specs.BTreeMap.{insert_entry};
 ghost use Rattle.intervals.specs.declared.interval.Interval.{Interval as AnInterval};
+ghost use Rattle.intervals.specs.Interval.{interval_cmp};
 ghost use Rattle.archive_history.specs.LimitCounts.{HasAtMost, interval_row_count, one_at};
 
 use block_map::growing_index::GrowingIndex;
@@ -95,5 +97,30 @@ impl LimitCounts {
     {
         let rows = self.rows.add_one(interval);
         self.most = self.most.max(rows);
+    }
+
+    /// Counts so many more rows of an interval, as so many calls of `add_row` do, but looks it up once. Takes no memory.
+    pub fn add_rows(&mut self, interval: Interval, count: u64)
+        requires room { 0 < self.old.room }
+        requires small { interval_row_count self.old.rows interval + count < 2 ^ 64 }
+        ensures rows { (i : AnInterval) →
+            interval_row_count self.new.rows i ≡ interval_row_count self.old.rows i + one_at interval i * count }
+        ensures octets { self.new.octets ≡ self.old.octets }
+        ensures room { self.old.room ≤ self.new.room + 1 }
+    {
+        let rows = self.rows_of(interval) + count;
+        put_count(&mut self.rows, interval, rows);
+        self.most = self.most.max(rows);
+    }
+}
+
+/// Gives an interval this count. Takes no memory.
+fn put_count(counts: &mut GrowingIndex<Interval, u64>, interval: Interval, count: u64)
+    requires { 0 < counts.old.room }
+    ensures entries { counts.new.entries ≡ insert_entry interval_cmp counts.old.entries interval count }
+    ensures room { counts.old.room ≤ counts.new.room + 1 }
+{
+    if counts.replace(interval, count).is_none() {
+        counts.insert(interval, count);
     }
 }
