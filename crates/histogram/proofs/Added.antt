@@ -1,84 +1,81 @@
 -- What is true of a histogram's fields is true after an addition.
-use Rattle.std.proofs.Common.{◌≡◌, ◌≢◌, ℕ, ◌≤ℤ◌, ◌+◌, ℤ, eqb, List, [], ◌∷◌, ◌++◌, Bool, true, false, refl, sym, ◌∙◌, ap, subst, arith}
-use Rattle.std.specs.Prelude.{None, neg_ℤ, pos, ◌^◌, int_lt}
-use Rattle.std.specs.BTreeMap.Range.{entries_from}
+use Rattle.std.proofs.Common.{◌≡◌, ◌≢◌, ℕ, ◌+◌, ◌<◌, ◌≤◌, ℤ, eqb, List, [], ◌∷◌, ◌++◌, Bool, true, false, max, refl, sym, ◌∙◌, ap, subst, arith}
+use Rattle.std.specs.Prelude.{◌^◌}
 use Rattle.std.proofs.lemmas.Bool.{eqb-true, eqb-false}
-use Rattle.arch_types.specs.Order.{place_by, order_by}
 use Rattle.arch_types.specs.declared.spans.Span.{Span}
-use Rattle.block_map.specs.Index.{Listing, IsAdded}
-use Rattle.block_map.specs.Rising.{IsRising}
+use Rattle.block_map.specs.Index.{Listing}
 use Rattle.histogram.specs.declared.histogram.NamedTime.{NamedTime}
 use Rattle.histogram.specs.declared.near.SpanStart.{SpanStart}
-use Rattle.histogram.specs.Times.{named_time_cmp, HistogramView, spans_of, spans_of_times, times_of, IsHistogramOf}
-use Rattle.histogram.specs.Spans.{histogram_of}
-use Rattle.histogram.specs.Near.{span_of_time, with_span}
-use Rattle.histogram.specs.SpanEntries.{spans_in, earliest_key, near_span, last_key, HasTakenNear}
+use Rattle.histogram.specs.Times.{HistogramView, HasTimes, named_times, spans_of, spans_of_times, times_of, AreOneSpan, IsHistogramOf}
+use Rattle.histogram.specs.Near.{with_span}
+use Rattle.histogram.specs.SpanEntries.{HasPut, total}
 use Rattle.histogram.specs.Histogram.{histogram_view, IsHistogram}
-use Rattle.histogram.proofs.Times.{one_more_placed, sorted_placed, sorted_in_order, order-push, own_times, other_times}
-use Rattle.histogram.proofs.Addition.{one_more}
-use Rattle.histogram.proofs.Entries.{Put, put, spans_are}
-
--- ---- the records, with one more time
-
--- what an addition does to the records
-pub record IsAddition (at : NamedTime) (old new : HistogramView) : Type 0 where
-  pub own : spans_of at.pname new ≡ with_span at.time (span_of_time at.time) (spans_of at.pname old)
-  pub others : (pname : ℕ) → pname ≢ at.pname → spans_of pname new ≡ spans_of pname old
-
--- for whatever times of the packet name the records were those
-pub records-push : (at : NamedTime) (old new : HistogramView) → IsAddition at old new → (times : List ℤ) → spans_of at.pname old ≡ spans_of_times times → spans_of at.pname new ≡ spans_of_times (times ++ at.time ∷ [])
-records-push at old new is times were =
-    let ordered = order_by int_lt times in
-    is.own ∙ ap (with_span at.time (span_of_time at.time)) were
-    ∙ sym (one_more ordered (place_by int_lt ordered at.time) at.time (one_more_placed at.time ordered) (sorted_placed at.time ordered (sorted_in_order times)))
-    ∙ ap histogram_of (sym (order-push times at.time))
-
--- for whatever times of all packet names
-pub histogram-push : (at : NamedTime) (old new : HistogramView) → IsAddition at old new → (times : List NamedTime) → IsHistogramOf old times → IsHistogramOf new (times ++ at ∷ [])
-histogram-push at old new is times were pname = by (eqb pname at.pname) refl
-  where
-    own : spans_of at.pname new ≡ spans_of_times (times_of at.pname (times ++ at ∷ []))
-    own = records-push at old new is (times_of at.pname times) (were at.pname) ∙ ap spans_of_times (sym (own_times at times))
-
-    by : (b : Bool) → eqb pname at.pname ≡ b → spans_of pname new ≡ spans_of_times (times_of pname (times ++ at ∷ []))
-    by true same = subst (λ (n : ℕ). spans_of n new ≡ spans_of_times (times_of n (times ++ at ∷ []))) (sym (eqb-true pname at.pname same)) own
-    by false differ =
-        let ne = eqb-false pname at.pname differ in
-        is.others pname ne ∙ were pname ∙ ap spans_of_times (sym (other_times pname at times ne))
-
--- ---- the fields
+use Rattle.histogram.proofs.Times.{own_times, other_times}
+use Rattle.histogram.proofs.Entries.{spans_are}
+use Rattle.histogram.proofs.Runs.{run_added}
 
 -- where a record is put
 abbrev pub start_of : Span → SpanStart
 start_of span = record { first = span.first; count = span.count }
 
-module _ (index mid new : Listing NamedTime SpanStart) (at : NamedTime) (span : Span) (low : neg_ℤ (pos (2 ^ 63)) ≤ℤ at.time)
-    (taken : HasTakenNear at index mid span) (none : near_span at (entries_from (named_time_cmp (earliest_key at)) mid.entries) ≡ None)
-    (is : IsAdded named_time_cmp mid new (last_key at.pname span) (start_of span)) where
-  it_is_put : Put at span taken.holds taken.ordered low mid.entries
-  it_is_put = put at span taken.holds taken.ordered low mid.entries taken.rising taken.whole taken.clear none
+-- ---- the records, with more times
 
-  own : spans_in at.pname new.entries ≡ with_span at.time (span_of_time at.time) (spans_in at.pname index.entries)
-  own = rw is.0 (it_is_put.own ∙ taken.own)
+-- what an addition does to the records
+pub record IsAddition (pname : ℕ) (span : Span) (old new : HistogramView) : Type 0 where
+  pub own : spans_of pname new ≡ with_span span span (spans_of pname old)
+  pub others : (other : ℕ) → other ≢ pname → spans_of other new ≡ spans_of other old
 
-  others : (pname : ℕ) → pname ≢ at.pname → spans_in pname new.entries ≡ spans_in pname index.entries
-  others pname ne = rw is.0 (it_is_put.others pname ne ∙ taken.others pname ne)
+module _ (pname : ℕ) (span : Span) (old new : HistogramView) (is : IsAddition pname span old new) (more : List ℤ) (one : AreOneSpan span more) where
+  -- for whatever times of the packet name the records were those
+  pub records-append : (times : List ℤ) → spans_of pname old ≡ spans_of_times times → spans_of pname new ≡ spans_of_times (times ++ more)
+  records-append times were = is.own ∙ ap (with_span span span) were ∙ sym (run_added times more span one)
 
-  pub added_to : (room left : ℕ) → IsAddition at (histogram_view index room) (histogram_view new left)
+  -- for whatever times of all packet names
+  pub histogram-append : (times : List NamedTime) → IsHistogramOf old times → IsHistogramOf new (times ++ named_times pname more)
+  histogram-append times were name = by (eqb name pname) refl
+    where
+      own : spans_of pname new ≡ spans_of_times (times_of pname (times ++ named_times pname more))
+      own = records-append (times_of pname times) (were pname) ∙ ap spans_of_times (sym (own_times pname times more))
+
+      by : (b : Bool) → eqb name pname ≡ b → spans_of name new ≡ spans_of_times (times_of name (times ++ named_times pname more))
+      by true same = subst (λ (n : ℕ). spans_of n new ≡ spans_of_times (times_of n (times ++ named_times pname more))) (sym (eqb-true name pname same)) own
+      by false differ =
+          let ne = eqb-false name pname differ in
+          is.others name ne ∙ were name ∙ ap spans_of_times (sym (other_times pname name ne times more))
+
+-- ---- the fields
+
+module _ (pname : ℕ) (span : Span) (index new : Listing NamedTime SpanStart) (put : HasPut pname span index new) where
+  pub added_to : (room left : ℕ) → IsAddition pname span (histogram_view index room) (histogram_view new left)
   added_to room left = record {
-    own = spans_are at.pname new.entries ∙ own ∙ ap (with_span at.time (span_of_time at.time)) (sym (spans_are at.pname index.entries));
-    others = λ pname ne. spans_are pname new.entries ∙ others pname ne ∙ sym (spans_are pname index.entries);
+    own = spans_are pname new.entries ∙ put.own ∙ ap (with_span span span) (sym (spans_are pname index.entries));
+    others = λ other ne. spans_are other new.entries ∙ put.others other ne ∙ sym (spans_are other index.entries);
   }
 
-  pub added : (rows room left : ℕ) → IsHistogram index rows room → left + 1 ≡ room → IsRising named_time_cmp new.entries → IsHistogram new (rows + 1) left
-  added rows room left h one rising = record {
-    rising = rising;
-    whole = rw is.0 it_is_put.whole;
+  pub added : (more : List ℤ) → AreOneSpan span more → (rows room left : ℕ) → HasTimes (histogram_view index room) → total index.entries ≤ rows → left + 1 ≤ index.room → rows + span.count + left < 2 ^ 64 → IsHistogram new (rows + span.count) left
+  added more one rows room left has few enough small = record {
+    rising = put.rising;
+    whole = put.whole;
     times = record {
-      times = h.times.times ++ at ∷ [];
-      records = histogram-push at (histogram_view index room) (histogram_view new left) (added_to room left) h.times.times h.times.records;
+      times = has.times ++ named_times pname more;
+      records = histogram-append pname span (histogram_view index room) (histogram_view new left) (added_to room left) more one has.times has.records;
     };
-    counted = rw is.0 (omega (arith, it_is_put.counted, taken.counted, h.counted));
-    has_room = omega (arith, is.1, taken.room, h.has_room, one);
-    small = omega (arith, h.small, one);
+    counted = omega (arith, put.counted, few);
+    has_room = omega (arith, put.room, enough);
+    small = small;
   }
+
+-- ---- an index with one more place, and then the times of a record
+
+module _ (pname : ℕ) (span : Span) (old reserved new : Listing NamedTime SpanStart) (room : ℕ) (made : reserved ≡ record { entries = old.entries; room = max old.room (room + 1) })
+    (put : HasPut pname span reserved new) where
+  pub spanned : IsAddition pname span (histogram_view old room) (histogram_view new room)
+  spanned = subst (λ (i : Listing NamedTime SpanStart). IsAddition pname span (histogram_view i room) (histogram_view new room)) made (added_to pname span reserved new put room room)
+
+  pub spanned_fields : (rows : ℕ) → IsHistogram old rows room → (more : List ℤ) → AreOneSpan span more → rows + span.count + room < 2 ^ 64 → IsHistogram new (rows + span.count) room
+  spanned_fields rows kept more one small =
+      let has = subst (λ (i : Listing NamedTime SpanStart). HasTimes (histogram_view i room)) (sym made) kept.times in
+      let few = subst (λ (i : Listing NamedTime SpanStart). total i.entries ≤ rows) (sym made) kept.counted in
+      let most : room + 1 ≤ max old.room (room + 1) = omega arith in
+      let enough = subst (λ (i : Listing NamedTime SpanStart). room + 1 ≤ i.room) (sym made) most in
+      added pname span reserved new put more one rows room room has few enough small

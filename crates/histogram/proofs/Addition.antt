@@ -36,13 +36,13 @@ true_near a b up h = grind (arith, ints, h)
 pub false_near : (a b : ℤ) → a ≤ℤ b → is_near a b ≡ false → (a +ℤ pos 60_000) <ℤ b
 false_near a b up h = grind (arith, ints, h)
 
-min_second : (x y : ℤ) → y ≤ℤ x → int_min x y ≡ y
+pub min_second : (x y : ℤ) → y ≤ℤ x → int_min x y ≡ y
 min_second x y h = omega (arith, ints, clamps)
 
 min_first : (x y : ℤ) → x ≤ℤ y → int_min x y ≡ x
 min_first x y h = omega (arith, ints, clamps)
 
-max_first : (x y : ℤ) → y ≤ℤ x → int_max x y ≡ x
+pub max_first : (x y : ℤ) → y ≤ℤ x → int_max x y ≡ x
 max_first x y h = omega (arith, ints, clamps)
 
 -- the lesser of two numbers has what both have
@@ -52,6 +52,10 @@ min_has P x y p q = by (int_lt y x)
     by : (b : Bool) → P (cond b y x)
     by true = q
     by false = p
+
+-- one time put in
+abbrev pub with_time : ℤ → List Span → List Span
+with_time t = with_span (span_of_time t) (span_of_time t)
 
 -- ---- the records, one time before the other
 
@@ -169,7 +173,7 @@ grown_far a t current (s ∷ spans) far all =
 
 module _ (t : ℤ) where
   -- before all records
-  at_head : (spans : List Span) → IsFrom t spans → AreApart spans → with_span t (span_of_time t) spans ≡ before t spans
+  at_head : (spans : List Span) → IsFrom t spans → AreApart spans → with_time t spans ≡ before t spans
   at_head [] low apart = refl
   at_head (s ∷ spans) low apart =
       let ahead : is_apart s.last t ≡ false = false_lt (s.last +ℤ pos 60_000) t (omega (arith, ints, low.0, apart.0)) in
@@ -207,20 +211,20 @@ module _ (t : ℤ) where
     past_false true far = near_false a t (lt_true (a +ℤ pos 60_000) t far)
     past_false false near = near_true a t up (lt_false (a +ℤ pos 60_000) t near)
 
-    in_none : with_span t (span_of_time t) (span_of_time a ∷ []) ≡ before a (span_of_time t ∷ [])
+    in_none : with_time t (span_of_time a ∷ []) ≡ before a (span_of_time t ∷ [])
     in_none = by (is_apart a t) refl
       where
-        by : (b : Bool) → is_apart a t ≡ b → with_span t (span_of_time t) (span_of_time a ∷ []) ≡ before a (span_of_time t ∷ [])
+        by : (b : Bool) → is_apart a t ≡ b → with_time t (span_of_time a ∷ []) ≡ before a (span_of_time t ∷ [])
         by true far = rw (far, past_false true far) refl
         by false near = rw (near, reached, least, greatest, past_false false near) refl
 
     module _ (s : Span) (spans : List Span) (low : a ≤ℤ s.first) (lows : IsFrom a spans) (ordered : s.first ≤ℤ s.last)
         (later : AllByRecursion (λ r. (s.last +ℤ pos 60_000) <ℤ r.first) spans) where
       -- the time before is in the first record
-      in_first : is_near a s.first ≡ true → with_span t (span_of_time t) (span a s.last (s.count + 1) ∷ spans) ≡ before a (with_span t (span_of_time t) (s ∷ spans))
+      in_first : is_near a s.first ≡ true → with_time t (span a s.last (s.count + 1) ∷ spans) ≡ before a (with_time t (s ∷ spans))
       in_first near = by (is_apart s.last t) refl
         where
-          by : (b : Bool) → is_apart s.last t ≡ b → cond b (span a s.last (s.count + 1) ∷ with_span t (span_of_time t) spans) (joined_near t (span_of_time t) (span a s.last (s.count + 1) ∷ spans)) ≡ before a (cond b (s ∷ with_span t (span_of_time t) spans) (joined_near t (span_of_time t) (s ∷ spans)))
+          by : (b : Bool) → is_apart s.last t ≡ b → cond b (span a s.last (s.count + 1) ∷ with_time t spans) (joined_near t (span_of_time t) (span a s.last (s.count + 1) ∷ spans)) ≡ before a (cond b (s ∷ with_time t spans) (joined_near t (span_of_time t) (s ∷ spans)))
           by true past = rw near refl
           by false there =
               let limit = true_near a s.first low near in
@@ -232,7 +236,7 @@ module _ (t : ℤ) where
               ∙ sym (grown_near a t (joined (span_of_time t) s) spans floor first lows))
 
       -- it is in a record of its own
-      in_own : is_near a s.first ≡ false → with_span t (span_of_time t) (span_of_time a ∷ s ∷ spans) ≡ before a (with_span t (span_of_time t) (s ∷ spans))
+      in_own : is_near a s.first ≡ false → with_time t (span_of_time a ∷ s ∷ spans) ≡ before a (with_time t (s ∷ spans))
       in_own far = by (is_apart a t) refl (is_apart s.last t) refl
         where
           gap : (a +ℤ pos 60_000) <ℤ s.first
@@ -241,7 +245,7 @@ module _ (t : ℤ) where
           all_far : AllByRecursion (λ r. is_near a r.first ≡ false) spans
           all_far = all_weaker (λ r. (s.last +ℤ pos 60_000) <ℤ r.first) (λ r. is_near a r.first ≡ false) (λ r h. near_false a r.first (omega (arith, ints, h, gap, ordered))) spans later
 
-          by : (b : Bool) → is_apart a t ≡ b → (c : Bool) → is_apart s.last t ≡ c → with_span t (span_of_time t) (span_of_time a ∷ s ∷ spans) ≡ before a (with_span t (span_of_time t) (s ∷ spans))
+          by : (b : Bool) → is_apart a t ≡ b → (c : Bool) → is_apart s.last t ≡ c → with_time t (span_of_time a ∷ s ∷ spans) ≡ before a (with_time t (s ∷ spans))
           by true past true ended = rw (past, ended, far) refl
           by true past false there = rw (past, there) (sym (grown_far a t (span_of_time t) (s ∷ spans) (past_false true past) (far, all_far)))
           by false near true ended =
@@ -252,11 +256,11 @@ module _ (t : ℤ) where
               rw (near, there, reached, least, greatest) (sym (grown_near a t (span_of_time t) (s ∷ spans) up (past_false false near) (low, lows)))
 
     -- after an earlier time
-    behind : (spans : List Span) → IsFrom a spans → AreApart spans → with_span t (span_of_time t) (before a spans) ≡ before a (with_span t (span_of_time t) spans)
+    behind : (spans : List Span) → IsFrom a spans → AreApart spans → with_time t (before a spans) ≡ before a (with_time t spans)
     behind [] low apart = in_none
     behind (s ∷ spans) low apart = by (is_near a s.first) refl
       where
-        by : (b : Bool) → is_near a s.first ≡ b → with_span t (span_of_time t) (cond b (span a s.last (s.count + 1) ∷ spans) (span_of_time a ∷ s ∷ spans)) ≡ before a (with_span t (span_of_time t) (s ∷ spans))
+        by : (b : Bool) → is_near a s.first ≡ b → with_time t (cond b (span a s.last (s.count + 1) ∷ spans) (span_of_time a ∷ s ∷ spans)) ≡ before a (with_time t (s ∷ spans))
         by true near = in_first s spans low.0 low.1 apart.0 apart.1 near
         by false far = in_own s spans low.0 low.1 apart.0 apart.1 far
 
@@ -268,15 +272,15 @@ module _ (t : ℤ) where
   sorted_without [] ys sorted = sorted.1
   sorted_without (x ∷ xs) ys sorted = ((all_without (λ u. x ≤ℤ u) xs ys sorted.0).0, sorted_without xs ys sorted.1)
 
-  put_in : (xs ys : List ℤ) → AreSorted (xs ++ t ∷ ys) → histogram_of (xs ++ t ∷ ys) ≡ with_span t (span_of_time t) (histogram_of (xs ++ ys))
+  put_in : (xs ys : List ℤ) → AreSorted (xs ++ t ∷ ys) → histogram_of (xs ++ t ∷ ys) ≡ with_time t (histogram_of (xs ++ ys))
   put_in [] ys sorted = histogram_of-first t ys ∙ sym (at_head (histogram_of ys) (from_histogram t ys sorted.0) (apart_histogram ys sorted.1))
   put_in (x ∷ xs) ys sorted =
       let rest = all_without (λ u. x ≤ℤ u) xs ys sorted.0 in
       histogram_of-first x (xs ++ t ∷ ys) ∙ ap (before x) (put_in xs ys sorted.1)
       ∙ sym (behind x rest.1 (histogram_of (xs ++ ys)) (from_histogram x (xs ++ ys) rest.0) (apart_histogram (xs ++ ys) (sorted_without xs ys sorted.1)))
-      ∙ ap (with_span t (span_of_time t)) (sym (histogram_of-first x (xs ++ ys)))
+      ∙ ap (with_time t) (sym (histogram_of-first x (xs ++ ys)))
 
 -- the records of sorted times and one more
-pub one_more : (old new : List ℤ) (t : ℤ) → HasOneMore old new t → AreSorted new → histogram_of new ≡ with_span t (span_of_time t) (histogram_of old)
+pub one_more : (old new : List ℤ) (t : ℤ) → HasOneMore old new t → AreSorted new → histogram_of new ≡ with_time t (histogram_of old)
 one_more old new t more sorted =
-    ap histogram_of more.is ∙ put_in t more.before more.after (rw more.is at sorted) ∙ ap (λ (l : List ℤ). with_span t (span_of_time t) (histogram_of l)) (sym more.was)
+    ap histogram_of more.is ∙ put_in t more.before more.after (rw more.is at sorted) ∙ ap (λ (l : List ℤ). with_time t (histogram_of l)) (sym more.was)

@@ -1,4 +1,4 @@
--- The records near a time, taken out of an index and put in as one.
+-- The records near times, taken out of an index and put in as one.
 use Rattle.std.proofs.Common.{◌≡◌, ◌≢◌, ℕ, pos, ◌≤ℤ◌, ◌+◌, ◌<◌, eqb, inl, inr, List, [], ◌∷◌, length, Bool, true, false, cond, Some, None, refl, sym, ◌∙◌, ap, subst, arith}
 use Rattle.std.specs.Prelude.{neg_ℤ, ◌^◌, ◌+ℤ◌, int_lt, map, filter}
 use Rattle.std.specs.List.{AllByRecursion}
@@ -94,62 +94,62 @@ past_name pname k (e ∷ es) below above =
     no (inl names) same = omega (arith, names, same, above)
     no (inr times) same = omega (arith, times.0, same, above)
 
--- ---- where a time stands among entries
+-- ---- where times stand among entries
 
-module _ (at : NamedTime) where
+module _ (pname : ℕ) (at : Span) where
   -- an entry below the earliest place
-  below_earliest : (e : NamedTime × SpanStart) → IsSpanEntry e → named_time_cmp (earliest_key at) e.0 ≡ Greater → e.0.pname ≡ at.pname → is_apart e.0.time at.time ≡ true
-  below_earliest e whole is same = by (ranked_as (earliest_key at) e.0 Greater is)
+  below_earliest : (e : NamedTime × SpanStart) → IsSpanEntry e → named_time_cmp (earliest_key pname at) e.0 ≡ Greater → e.0.pname ≡ pname → is_apart e.0.time at.first ≡ true
+  below_earliest e whole is same = by (ranked_as (earliest_key pname at) e.0 Greater is)
     where
-      by : IsBefore e.0 (earliest_key at) → is_apart e.0.time at.time ≡ true
+      by : IsBefore e.0 (earliest_key pname at) → is_apart e.0.time at.first ≡ true
       by (inl names) = absurd (omega (arith, names, same))
-      by (inr times) = true_lt (e.0.time +ℤ pos 60_000) at.time (omega (arith, ints, clamps, times.1, whole.0))
+      by (inr times) = true_lt (e.0.time +ℤ pos 60_000) at.first (omega (arith, ints, clamps, times.1, whole.0))
 
-  from_earliest : (e : NamedTime × SpanStart) → is_le (named_time_cmp (earliest_key at) e.0) ≡ true → e.0.pname ≡ at.pname → is_apart e.0.time at.time ≡ false
-  from_earliest e from same = by (named_time_cmp (earliest_key at) e.0) refl from
+  from_earliest : (e : NamedTime × SpanStart) → is_le (named_time_cmp (earliest_key pname at) e.0) ≡ true → e.0.pname ≡ pname → is_apart e.0.time at.first ≡ false
+  from_earliest e from same = by (named_time_cmp (earliest_key pname at) e.0) refl from
     where
-      by : (r : Ordering) → named_time_cmp (earliest_key at) e.0 ≡ r → is_le r ≡ true → is_apart e.0.time at.time ≡ false
-      by Less is le = less (ranked_as (earliest_key at) e.0 Less is)
+      by : (r : Ordering) → named_time_cmp (earliest_key pname at) e.0 ≡ r → is_le r ≡ true → is_apart e.0.time at.first ≡ false
+      by Less is le = less (ranked_as (earliest_key pname at) e.0 Less is)
         where
-          less : IsBefore (earliest_key at) e.0 → is_apart e.0.time at.time ≡ false
+          less : IsBefore (earliest_key pname at) e.0 → is_apart e.0.time at.first ≡ false
           less (inl names) = absurd (omega (arith, names, same))
-          less (inr times) = false_lt (e.0.time +ℤ pos 60_000) at.time (omega (arith, ints, clamps, times.1))
-      by Equal is le = let equal = ranked_as (earliest_key at) e.0 Equal is in false_lt (e.0.time +ℤ pos 60_000) at.time (omega (arith, ints, clamps, equal.1))
+          less (inr times) = false_lt (e.0.time +ℤ pos 60_000) at.first (omega (arith, ints, clamps, times.1))
+      by Equal is le = let equal = ranked_as (earliest_key pname at) e.0 Equal is in false_lt (e.0.time +ℤ pos 60_000) at.first (omega (arith, ints, clamps, equal.1))
       by Greater is le = cc
 
-  -- where no entry is apart before the time, a record put in grows at the head
-  grows : (span : Span) (spans : List Span) → AllByRecursion (λ s. is_apart s.last at.time ≡ false) spans → with_span at.time span spans ≡ joined_near at.time span spans
+  -- where no entry is apart before the times, a record put in grows at the head
+  grows : (span : Span) (spans : List Span) → AllByRecursion (λ s. is_apart s.last at.first ≡ false) spans → with_span at span spans ≡ joined_near at.last span spans
   grows span [] all = refl
   grows span (s ∷ spans) all = rw all.0 refl
 
   -- what the records after an entry end with
-  ends_after : (k : NamedTime) (es : List (NamedTime × SpanStart)) → k.pname ≡ at.pname → is_apart k.time at.time ≡ false → IsBelow named_time_cmp k es →
-      AllByRecursion (λ s. is_apart s.last at.time ≡ false) (spans_in at.pname es)
+  ends_after : (k : NamedTime) (es : List (NamedTime × SpanStart)) → k.pname ≡ pname → is_apart k.time at.first ≡ false → IsBelow named_time_cmp k es →
+      AllByRecursion (λ s. is_apart s.last at.first ≡ false) (spans_in pname es)
   ends_after k [] name near below = tt
-  ends_after k (e ∷ es) name near below = by (eqb e.0.pname at.pname) refl (ends_after k es name near below.1)
+  ends_after k (e ∷ es) name near below = by (eqb e.0.pname pname) refl (ends_after k es name near below.1)
     where
-      later : IsBefore k e.0 → e.0.pname ≡ at.pname → is_apart e.0.time at.time ≡ false
+      later : IsBefore k e.0 → e.0.pname ≡ pname → is_apart e.0.time at.first ≡ false
       later (inl names) same = absurd (omega (arith, names, same, name))
-      later (inr times) same = false_lt (e.0.time +ℤ pos 60_000) at.time (let limit = lt_false (k.time +ℤ pos 60_000) at.time near in omega (arith, ints, times.1, limit))
+      later (inr times) same = false_lt (e.0.time +ℤ pos 60_000) at.first (let limit = lt_false (k.time +ℤ pos 60_000) at.first near in omega (arith, ints, times.1, limit))
 
-      by : (b : Bool) → eqb e.0.pname at.pname ≡ b → AllByRecursion (λ s. is_apart s.last at.time ≡ false) (spans_in at.pname es) →
-          AllByRecursion (λ s. is_apart s.last at.time ≡ false) (cond b (span_at e ∷ spans_in at.pname es) (spans_in at.pname es))
-      by true same rest = (later (ranked_as k e.0 Less below.0) (eqb-true e.0.pname at.pname same), rest)
+      by : (b : Bool) → eqb e.0.pname pname ≡ b → AllByRecursion (λ s. is_apart s.last at.first ≡ false) (spans_in pname es) →
+          AllByRecursion (λ s. is_apart s.last at.first ≡ false) (cond b (span_at e ∷ spans_in pname es) (spans_in pname es))
+      by true same rest = (later (ranked_as k e.0 Less below.0) (eqb-true e.0.pname pname same), rest)
       by false other rest = rest
 
-  -- where each record of the name has ended more than 60,000 ms before the time, none is near it
-  pub none_near : (es : List (NamedTime × SpanStart)) → AllByRecursion (λ s. is_apart s.last at.time ≡ true) (spans_in at.pname es) → near_span at (entries_from (named_time_cmp (earliest_key at)) es) ≡ None
+  -- where each record of the name has ended more than 60,000 ms before the times begin, none is near them
+  pub none_near : (es : List (NamedTime × SpanStart)) → AllByRecursion (λ s. is_apart s.last at.first ≡ true) (spans_in pname es) → near_span pname at (entries_from (named_time_cmp (earliest_key pname at)) es) ≡ None
   none_near [] all = refl
-  none_near (e ∷ es) all = by (eqb e.0.pname at.pname) refl all (named_time_cmp (earliest_key at) e.0) refl (none_near es)
+  none_near (e ∷ es) all = by (eqb e.0.pname pname) refl all (named_time_cmp (earliest_key pname at) e.0) refl (none_near es)
     where
-      by : (b : Bool) → eqb e.0.pname at.pname ≡ b → AllByRecursion (λ s. is_apart s.last at.time ≡ true) (cond b (span_at e ∷ spans_in at.pname es) (spans_in at.pname es)) →
-          (r : Ordering) → named_time_cmp (earliest_key at) e.0 ≡ r →
-          (AllByRecursion (λ s. is_apart s.last at.time ≡ true) (spans_in at.pname es) → near_span at (entries_from (named_time_cmp (earliest_key at)) es) ≡ None) →
-          near_span at (cond (is_le r) (e ∷ entries_from (named_time_cmp (earliest_key at)) es) (entries_from (named_time_cmp (earliest_key at)) es)) ≡ None
+      by : (b : Bool) → eqb e.0.pname pname ≡ b → AllByRecursion (λ s. is_apart s.last at.first ≡ true) (cond b (span_at e ∷ spans_in pname es) (spans_in pname es)) →
+          (r : Ordering) → named_time_cmp (earliest_key pname at) e.0 ≡ r →
+          (AllByRecursion (λ s. is_apart s.last at.first ≡ true) (spans_in pname es) → near_span pname at (entries_from (named_time_cmp (earliest_key pname at)) es) ≡ None) →
+          near_span pname at (cond (is_le r) (e ∷ entries_from (named_time_cmp (earliest_key pname at)) es) (entries_from (named_time_cmp (earliest_key pname at)) es)) ≡ None
       by true same ended Greater is later = later ended.1
       by false other ended Greater is later = later ended
-      by true same ended Less is later = absurd (is_true_false ended.0 (from_earliest e (ap is_le is) (eqb-true e.0.pname at.pname same)))
-      by true same ended Equal is later = absurd (is_true_false ended.0 (from_earliest e (ap is_le is) (eqb-true e.0.pname at.pname same)))
+      by true same ended Less is later = absurd (is_true_false ended.0 (from_earliest e (ap is_le is) (eqb-true e.0.pname pname same)))
+      by true same ended Equal is later = absurd (is_true_false ended.0 (from_earliest e (ap is_le is) (eqb-true e.0.pname pname same)))
       by false other ended Less is later = rw other refl
       by false other ended Equal is later = rw other refl
 
@@ -157,30 +157,30 @@ module _ (at : NamedTime) where
 
   module _ (span s : Span) where
     abbrev key : NamedTime
-    key = last_key at.pname s
+    key = last_key pname s
 
     abbrev without : List (NamedTime × SpanStart) → List (NamedTime × SpanStart)
     without es = remove_entry (is_at (named_time_cmp key)) es
 
     -- what is true of entries and of those without the record
     pub record Taken (es : List (NamedTime × SpanStart)) : Type 0 where
-      pub from : is_le (named_time_cmp (earliest_key at) key) ≡ true
+      pub from : is_le (named_time_cmp (earliest_key pname at) key) ≡ true
       pub found : (v : SpanStart) × (lookup (is_at (named_time_cmp key)) es ≡ Some v)
-      pub own : with_span at.time (joined span s) (spans_in at.pname (without es)) ≡ with_span at.time span (spans_in at.pname es)
-      pub others : (other : ℕ) → other ≢ at.pname → spans_in other (without es) ≡ spans_in other es
+      pub own : with_span at (joined span s) (spans_in pname (without es)) ≡ with_span at span (spans_in pname es)
+      pub others : (other : ℕ) → other ≢ pname → spans_in other (without es) ≡ spans_in other es
       pub whole : AllByRecursion IsSpanEntry (without es)
-      pub clear : AllByRecursion (IsClear at (joined span s)) (without es)
+      pub clear : AllByRecursion (IsClear pname at (joined span s)) (without es)
       pub shorter : length (without es) + 1 ≡ length es
       pub ordered : s.first ≤ℤ s.last
       pub counted : total (without es) + s.count ≡ total es
 
     -- past an entry below the earliest place
-    later_taken : (e : NamedTime × SpanStart) (es : List (NamedTime × SpanStart)) → named_time_cmp (earliest_key at) e.0 ≡ Greater → IsSpanEntry e → Taken es → Taken (e ∷ es)
+    later_taken : (e : NamedTime × SpanStart) (es : List (NamedTime × SpanStart)) → named_time_cmp (earliest_key pname at) e.0 ≡ Greater → IsSpanEntry e → Taken es → Taken (e ∷ es)
     later_taken e es is whole t = record {
       from = t.from;
       found = rw other t.found;
-      own = rw other (own (eqb e.0.pname at.pname) refl);
-      others = λ pname ne. rw other (ap (λ (l : List Span). cond (eqb e.0.pname pname) (span_at e ∷ l) l) (t.others pname ne));
+      own = rw other (own (eqb e.0.pname pname) refl);
+      others = λ name ne. rw other (ap (λ (l : List Span). cond (eqb e.0.pname name) (span_at e ∷ l) l) (t.others name ne));
       whole = rw other (whole, t.whole);
       clear = rw other ((λ from near. absurd (no from)), t.clear);
       shorter = rw other (omega (arith, t.shorter));
@@ -188,41 +188,41 @@ module _ (at : NamedTime) where
       counted = rw other (omega (arith, t.counted));
     }
       where
-        no : is_le (named_time_cmp (earliest_key at) e.0) ≡ true → ⊥
+        no : is_le (named_time_cmp (earliest_key pname at) e.0) ≡ true → ⊥
         no from = cc
 
         differs : (r : Ordering) → named_time_cmp key e.0 ≡ r → is_eq r ≡ false
         differs Less is₁ = refl
-        differs Equal is₁ = absurd (no (subst (λ (k : NamedTime). is_le (named_time_cmp (earliest_key at) k) ≡ true) (same_from_equal key e.0 is₁) t.from))
+        differs Equal is₁ = absurd (no (subst (λ (k : NamedTime). is_le (named_time_cmp (earliest_key pname at) k) ≡ true) (same_from_equal key e.0 is₁) t.from))
         differs Greater is₁ = refl
 
         other : is_at (named_time_cmp key) e.0 ≡ false
         other = differs (named_time_cmp key e.0) refl
 
-        own : (b : Bool) → eqb e.0.pname at.pname ≡ b → with_span at.time (joined span s) (cond b (span_at e ∷ spans_in at.pname (without es)) (spans_in at.pname (without es)))
-            ≡ with_span at.time span (cond b (span_at e ∷ spans_in at.pname es) (spans_in at.pname es))
+        own : (b : Bool) → eqb e.0.pname pname ≡ b → with_span at (joined span s) (cond b (span_at e ∷ spans_in pname (without es)) (spans_in pname (without es)))
+            ≡ with_span at span (cond b (span_at e ∷ spans_in pname es) (spans_in pname es))
         own true same =
-            let past = below_earliest e whole is (eqb-true e.0.pname at.pname same) in
+            let past = below_earliest e whole is (eqb-true e.0.pname pname same) in
             rw past (ap (λ (l : List Span). span_at e ∷ l) t.own)
         own false differ = t.own
 
     -- at the record itself
-    here_taken : (e : NamedTime × SpanStart) (es : List (NamedTime × SpanStart)) → is_le (named_time_cmp (earliest_key at) e.0) ≡ true → IsSpanEntry e → e.0.pname ≡ at.pname → is_apart at.time e.1.first ≡ false → span_at e ≡ s →
-        IsBelow named_time_cmp e.0 es → AllByRecursion IsSpanEntry es → AllByRecursion (IsClear at span) es → Taken (e ∷ es)
+    here_taken : (e : NamedTime × SpanStart) (es : List (NamedTime × SpanStart)) → is_le (named_time_cmp (earliest_key pname at) e.0) ≡ true → IsSpanEntry e → e.0.pname ≡ pname → is_apart at.last e.1.first ≡ false → span_at e ≡ s →
+        IsBelow named_time_cmp e.0 es → AllByRecursion IsSpanEntry es → AllByRecursion (IsClear pname at span) es → Taken (e ∷ es)
     here_taken e es from whole name near is below wholes clear = record {
-      from = subst (λ (k : NamedTime). is_le (named_time_cmp (earliest_key at) k) ≡ true) (sym place) from;
+      from = subst (λ (k : NamedTime). is_le (named_time_cmp (earliest_key pname at) k) ≡ true) (sym place) from;
       found = (e.1, rw found refl);
-      own = rw found (rw (eq-eqb e.0.pname at.pname name, from_earliest e from name, near) (grows (joined span s) (spans_in at.pname es) (ends_after e.0 es name (from_earliest e from name) below) ∙ ap (λ (x : Span). joined_near at.time (joined span x) (spans_in at.pname es)) (sym is)));
-      others = λ pname ne. rw found (rw (ne_eqb e.0.pname pname (λ same. ne (sym same ∙ name))) refl);
+      own = rw found (rw (eq-eqb e.0.pname pname name, from_earliest e from name, near) (grows (joined span s) (spans_in pname es) (ends_after e.0 es name (from_earliest e from name) below) ∙ ap (λ (x : Span). joined_near at.last (joined span x) (spans_in pname es)) (sym is)));
+      others = λ n ne. rw found (rw (ne_eqb e.0.pname n (λ same. ne (sym same ∙ name))) refl);
       whole = rw found wholes;
-      clear = rw found (all_both (λ f. named_time_cmp e.0 f.0 ≡ Less) (IsClear at span) (IsClear at (joined span s)) clears es below clear);
+      clear = rw found (all_both (λ f. named_time_cmp e.0 f.0 ≡ Less) (IsClear pname at span) (IsClear pname at (joined span s)) clears es below clear);
       shorter = rw found (omega arith);
       ordered = subst (λ (x : Span). x.first ≤ℤ x.last) is whole.1;
       counted = rw found (let count = ap (λ (x : Span). x.count) is in omega (arith, count));
     }
       where
         place : key ≡ e.0
-        place = ap (λ (x : Span). last_key at.pname x) (sym is) ∙ ap (λ (n : ℕ). let k : NamedTime = record { pname = n; time = e.0.time } in k) (sym name)
+        place = ap (λ (x : Span). last_key pname x) (sym is) ∙ ap (λ (n : ℕ). let k : NamedTime = record { pname = n; time = e.0.time } in k) (sym name)
 
         itself : (r : Ordering) → named_time_cmp e.0 e.0 ≡ r → r ≡ Equal
         itself Less is₁ = absurd (no (ranked_as e.0 e.0 Less is₁))
@@ -240,39 +240,39 @@ module _ (at : NamedTime) where
         found : is_at (named_time_cmp key) e.0 ≡ true
         found = ap (λ (k : NamedTime). is_eq (named_time_cmp k e.0)) place ∙ ap is_eq (itself (named_time_cmp e.0 e.0) refl)
 
-        clears : (f : NamedTime × SpanStart) → named_time_cmp e.0 f.0 ≡ Less → IsClear at span f → IsClear at (joined span s) f
+        clears : (f : NamedTime × SpanStart) → named_time_cmp e.0 f.0 ≡ Less → IsClear pname at span f → IsClear pname at (joined span s) f
         clears f less old = λ from₁ none. by (int_lt s.last span.last) (old from₁ none)
           where
-            by : (b : Bool) → named_time_cmp (last_key at.pname span) f.0 ≡ Less → named_time_cmp (record { pname = at.pname; time = cond b span.last s.last }) f.0 ≡ Less
+            by : (b : Bool) → named_time_cmp (last_key pname span) f.0 ≡ Less → named_time_cmp (record { pname = pname; time = cond b span.last s.last }) f.0 ≡ Less
             by true first = first
             by false first = ap (λ (k : NamedTime). named_time_cmp k f.0) place ∙ less
 
-    pub taken : (es : List (NamedTime × SpanStart)) → IsRising named_time_cmp es → AllByRecursion IsSpanEntry es → AllByRecursion (IsClear at span) es →
-        near_span at (entries_from (named_time_cmp (earliest_key at)) es) ≡ Some s → Taken es
+    pub taken : (es : List (NamedTime × SpanStart)) → IsRising named_time_cmp es → AllByRecursion IsSpanEntry es → AllByRecursion (IsClear pname at span) es →
+        near_span pname at (entries_from (named_time_cmp (earliest_key pname at)) es) ≡ Some s → Taken es
     taken [] up whole clear near = cc
-    taken (e ∷ es) up whole clear near = by (named_time_cmp (earliest_key at) e.0) refl near (taken es up.1 whole.1 clear.1)
+    taken (e ∷ es) up whole clear near = by (named_time_cmp (earliest_key pname at) e.0) refl near (taken es up.1 whole.1 clear.1)
       where
-        head : (b : Bool) → eqb e.0.pname at.pname ≡ b → (c : Bool) → is_apart at.time e.1.first ≡ c → cond b (cond c None (Some (span_at e))) None ≡ Some s → (e.0.pname ≡ at.pname) × (is_apart at.time e.1.first ≡ false) × (span_at e ≡ s)
+        head : (b : Bool) → eqb e.0.pname pname ≡ b → (c : Bool) → is_apart at.last e.1.first ≡ c → cond b (cond c None (Some (span_at e))) None ≡ Some s → (e.0.pname ≡ pname) × (is_apart at.last e.1.first ≡ false) × (span_at e ≡ s)
         head true same true far near₁ = cc
-        head true same false close near₁ = (eqb-true e.0.pname at.pname same, close, cc)
+        head true same false close near₁ = (eqb-true e.0.pname pname same, close, cc)
         head false other c is₁ near₁ = cc
 
-        at_entry : is_le (named_time_cmp (earliest_key at) e.0) ≡ true → near_span at (e ∷ []) ≡ Some s → Taken (e ∷ es)
+        at_entry : is_le (named_time_cmp (earliest_key pname at) e.0) ≡ true → near_span pname at (e ∷ []) ≡ Some s → Taken (e ∷ es)
         at_entry from near₁ =
-            let h = head (eqb e.0.pname at.pname) refl (is_apart at.time e.1.first) refl near₁ in
+            let h = head (eqb e.0.pname pname) refl (is_apart at.last e.1.first) refl near₁ in
             here_taken e es from whole.0 h.0 h.1 h.2 up.0 whole.1 clear.1
 
-        by : (r : Ordering) → named_time_cmp (earliest_key at) e.0 ≡ r → near_span at (cond (is_le r) (e ∷ entries_from (named_time_cmp (earliest_key at)) es) (entries_from (named_time_cmp (earliest_key at)) es)) ≡ Some s →
-            (near_span at (entries_from (named_time_cmp (earliest_key at)) es) ≡ Some s → Taken es) → Taken (e ∷ es)
+        by : (r : Ordering) → named_time_cmp (earliest_key pname at) e.0 ≡ r → near_span pname at (cond (is_le r) (e ∷ entries_from (named_time_cmp (earliest_key pname at)) es) (entries_from (named_time_cmp (earliest_key pname at)) es)) ≡ Some s →
+            (near_span pname at (entries_from (named_time_cmp (earliest_key pname at)) es) ≡ Some s → Taken es) → Taken (e ∷ es)
         by Less is near₁ later = at_entry (ap is_le is) near₁
         by Equal is near₁ later = at_entry (ap is_le is) near₁
         by Greater is near₁ later = later_taken e es is whole.0 (later near₁)
 
   -- ---- a record that is put in
 
-  module _ (span : Span) (holds : at.time ≤ℤ span.last) (ordered : span.first ≤ℤ span.last) (least : neg_ℤ (pos (2 ^ 63)) ≤ℤ at.time) where
+  module _ (span : Span) (holds : at.last ≤ℤ span.last) (ordered : span.first ≤ℤ span.last) (least : neg_ℤ (pos (2 ^ 63)) ≤ℤ at.last) (rises : at.first ≤ℤ at.last) where
     abbrev place : NamedTime
-    place = last_key at.pname span
+    place = last_key pname span
 
     abbrev start : SpanStart
     start = record { first = span.first; count = span.count }
@@ -283,19 +283,19 @@ module _ (at : NamedTime) where
     -- what is true of entries and of those with the record
     pub record Put (es : List (NamedTime × SpanStart)) : Type 0 where
       pub absent : lookup (is_at (named_time_cmp place)) es ≡ None
-      pub own : spans_in at.pname (with_it es) ≡ with_span at.time span (spans_in at.pname es)
-      pub others : (other : ℕ) → other ≢ at.pname → spans_in other (with_it es) ≡ spans_in other es
+      pub own : spans_in pname (with_it es) ≡ with_span at span (spans_in pname es)
+      pub others : (other : ℕ) → other ≢ pname → spans_in other (with_it es) ≡ spans_in other es
       pub whole : AllByRecursion IsSpanEntry (with_it es)
       pub counted : total (with_it es) ≡ total es + span.count
 
     it_is_whole : IsSpanEntry (place, start)
     it_is_whole = (omega (arith, ints, holds, least), ordered)
 
-    own_name : eqb at.pname at.pname ≡ true
-    own_name = eq-eqb at.pname at.pname refl
+    own_name : eqb pname pname ≡ true
+    own_name = eq-eqb pname pname refl
 
-    other_name : (other : ℕ) → other ≢ at.pname → eqb at.pname other ≡ false
-    other_name other ne = ne_eqb at.pname other (λ same. ne (sym same))
+    other_name : (other : ℕ) → other ≢ pname → eqb pname other ≡ false
+    other_name other ne = ne_eqb pname other (λ same. ne (sym same))
 
     at_end : Put []
     at_end = record {
@@ -306,80 +306,80 @@ module _ (at : NamedTime) where
       counted = omega arith;
     }
 
-    later_put : (e : NamedTime × SpanStart) (es : List (NamedTime × SpanStart)) → named_time_cmp (earliest_key at) e.0 ≡ Greater → IsSpanEntry e → Put es → Put (e ∷ es)
+    later_put : (e : NamedTime × SpanStart) (es : List (NamedTime × SpanStart)) → named_time_cmp (earliest_key pname at) e.0 ≡ Greater → IsSpanEntry e → Put es → Put (e ∷ es)
     later_put e es is whole p = record {
       absent = rw after p.absent;
-      own = rw after (own (eqb e.0.pname at.pname) refl);
+      own = rw after (own (eqb e.0.pname pname) refl);
       others = λ other ne. rw after (ap (λ (l : List Span). cond (eqb e.0.pname other) (span_at e ∷ l) l) (p.others other ne));
       whole = rw after (whole, p.whole);
       counted = rw after (omega (arith, p.counted));
     }
       where
-        before : IsBefore e.0 (earliest_key at) → IsBefore e.0 place
+        before : IsBefore e.0 (earliest_key pname at) → IsBefore e.0 place
         before (inl names) = inl names
-        before (inr times) = inr (times.0, omega (arith, ints, clamps, times.1, holds, least))
+        before (inr times) = inr (times.0, omega (arith, ints, clamps, times.1, holds, least, rises))
 
         after : named_time_cmp place e.0 ≡ Greater
-        after = rank_greater place e.0 (before (ranked_as (earliest_key at) e.0 Greater is))
+        after = rank_greater place e.0 (before (ranked_as (earliest_key pname at) e.0 Greater is))
 
-        own : (b : Bool) → eqb e.0.pname at.pname ≡ b → cond b (span_at e ∷ spans_in at.pname (with_it es)) (spans_in at.pname (with_it es))
-            ≡ with_span at.time span (cond b (span_at e ∷ spans_in at.pname es) (spans_in at.pname es))
+        own : (b : Bool) → eqb e.0.pname pname ≡ b → cond b (span_at e ∷ spans_in pname (with_it es)) (spans_in pname (with_it es))
+            ≡ with_span at span (cond b (span_at e ∷ spans_in pname es) (spans_in pname es))
         own true same =
-            let past = below_earliest e whole is (eqb-true e.0.pname at.pname same) in
+            let past = below_earliest e whole is (eqb-true e.0.pname pname same) in
             rw past (ap (λ (l : List Span). span_at e ∷ l) p.own)
         own false differ = p.own
 
-    here_put : (e : NamedTime × SpanStart) (es : List (NamedTime × SpanStart)) → is_le (named_time_cmp (earliest_key at) e.0) ≡ true → near_span at (e ∷ []) ≡ None → named_time_cmp place e.0 ≡ Less → IsRising named_time_cmp (e ∷ es) →
+    here_put : (e : NamedTime × SpanStart) (es : List (NamedTime × SpanStart)) → is_le (named_time_cmp (earliest_key pname at) e.0) ≡ true → near_span pname at (e ∷ []) ≡ None → named_time_cmp place e.0 ≡ Less → IsRising named_time_cmp (e ∷ es) →
         AllByRecursion IsSpanEntry (e ∷ es) → Put (e ∷ es)
     here_put e es from none less up whole = record {
       absent = lookup_below place (e ∷ es) (less, below_all named_cmp_total place e.0 es less up.0);
-      own = rw (less, own_name) (own (eqb e.0.pname at.pname) refl (is_apart at.time e.1.first) refl none);
+      own = rw (less, own_name) (own (eqb e.0.pname pname) refl (is_apart at.last e.1.first) refl none);
       others = λ other ne. rw (less, other_name other ne) refl;
       whole = rw less (it_is_whole, whole);
       counted = rw less (omega arith);
     }
       where
-        passed : IsBefore place e.0 → e.0.pname ≢ at.pname → at.pname < e.0.pname
+        passed : IsBefore place e.0 → e.0.pname ≢ pname → pname < e.0.pname
         passed (inl names) ne = names
         passed (inr times) ne = absurd (ne (sym times.0))
 
-        own : (b : Bool) → eqb e.0.pname at.pname ≡ b → (c : Bool) → is_apart at.time e.1.first ≡ c → cond b (cond c None (Some (span_at e))) None ≡ None →
-            span ∷ cond b (span_at e ∷ spans_in at.pname es) (spans_in at.pname es) ≡ with_span at.time span (cond b (span_at e ∷ spans_in at.pname es) (spans_in at.pname es))
-        own true same true far none₁ = rw (from_earliest e from (eqb-true e.0.pname at.pname same), far) refl
+        own : (b : Bool) → eqb e.0.pname pname ≡ b → (c : Bool) → is_apart at.last e.1.first ≡ c → cond b (cond c None (Some (span_at e))) None ≡ None →
+            span ∷ cond b (span_at e ∷ spans_in pname es) (spans_in pname es) ≡ with_span at span (cond b (span_at e ∷ spans_in pname es) (spans_in pname es))
+        own true same true far none₁ = rw (from_earliest e from (eqb-true e.0.pname pname same), far) refl
         own true same false close none₁ = cc
         own false other c is₁ none₁ =
-            let above = passed (ranked_as place e.0 Less less) (eqb-false e.0.pname at.pname other) in
-            rw (past_name at.pname e.0 es up.0 above) refl
+            let above = passed (ranked_as place e.0 Less less) (eqb-false e.0.pname pname other) in
+            rw (past_name pname e.0 es up.0 above) refl
 
-    pub put : (es : List (NamedTime × SpanStart)) → IsRising named_time_cmp es → AllByRecursion IsSpanEntry es → AllByRecursion (IsClear at span) es →
-        near_span at (entries_from (named_time_cmp (earliest_key at)) es) ≡ None → Put es
+    pub put : (es : List (NamedTime × SpanStart)) → IsRising named_time_cmp es → AllByRecursion IsSpanEntry es → AllByRecursion (IsClear pname at span) es →
+        near_span pname at (entries_from (named_time_cmp (earliest_key pname at)) es) ≡ None → Put es
     put [] up whole clear none = at_end
-    put (e ∷ es) up whole clear none = by (named_time_cmp (earliest_key at) e.0) refl none (put es up.1 whole.1 clear.1)
+    put (e ∷ es) up whole clear none = by (named_time_cmp (earliest_key pname at) e.0) refl none (put es up.1 whole.1 clear.1)
       where
-        by : (r : Ordering) → named_time_cmp (earliest_key at) e.0 ≡ r → near_span at (cond (is_le r) (e ∷ entries_from (named_time_cmp (earliest_key at)) es) (entries_from (named_time_cmp (earliest_key at)) es)) ≡ None →
-            (near_span at (entries_from (named_time_cmp (earliest_key at)) es) ≡ None → Put es) → Put (e ∷ es)
+        by : (r : Ordering) → named_time_cmp (earliest_key pname at) e.0 ≡ r → near_span pname at (cond (is_le r) (e ∷ entries_from (named_time_cmp (earliest_key pname at)) es) (entries_from (named_time_cmp (earliest_key pname at)) es)) ≡ None →
+            (near_span pname at (entries_from (named_time_cmp (earliest_key pname at)) es) ≡ None → Put es) → Put (e ∷ es)
         by Less is none₁ later = here_put e es (ap is_le is) none₁ (clear.0 (ap is_le is) none₁) up whole
         by Equal is none₁ later = here_put e es (ap is_le is) none₁ (clear.0 (ap is_le is) none₁) up whole
         by Greater is none₁ later = later_put e es is whole.0 (later none₁)
 
--- before anything is taken out, each entry that isn't near a time comes before it or after it
-pub clear_first : (at : NamedTime) (span : Span) → span.last ≡ at.time → (es : List (NamedTime × SpanStart)) → AllByRecursion IsSpanEntry es → AllByRecursion (IsClear at span) es
-clear_first at span last [] whole = tt
-clear_first at span last (e ∷ es) whole = (λ from none. clear (named_time_cmp (earliest_key at) e.0) refl from (eqb e.0.pname at.pname) refl (is_apart at.time e.1.first) refl none, clear_first at span last es whole.1)
+-- before anything is taken out, each entry that isn't near times comes before them or after them
+pub clear_first : (pname : ℕ) (at span : Span) → span.last ≡ at.last → (es : List (NamedTime × SpanStart)) → AllByRecursion IsSpanEntry es → AllByRecursion (IsClear pname at span) es
+clear_first pname at span last [] whole = tt
+clear_first pname at span last (e ∷ es) whole = (λ from none. clear (named_time_cmp (earliest_key pname at) e.0) refl from (eqb e.0.pname pname) refl (is_apart at.last e.1.first) refl none, clear_first pname at span last es whole.1)
   where
-    names : (r : Ordering) → named_time_cmp (earliest_key at) e.0 ≡ r → is_le r ≡ true → e.0.pname ≢ at.pname → at.pname < e.0.pname
-    names Less is from ne = by (ranked_as (earliest_key at) e.0 Less is)
+    names : (r : Ordering) → named_time_cmp (earliest_key pname at) e.0 ≡ r → is_le r ≡ true → e.0.pname ≢ pname → pname < e.0.pname
+    names Less is from ne = by (ranked_as (earliest_key pname at) e.0 Less is)
       where
-        by : IsBefore (earliest_key at) e.0 → at.pname < e.0.pname
+        by : IsBefore (earliest_key pname at) e.0 → pname < e.0.pname
         by (inl less) = less
         by (inr times) = absurd (ne (sym times.0))
-    names Equal is from ne = absurd (ne (sym (ranked_as (earliest_key at) e.0 Equal is).0))
+    names Equal is from ne = absurd (ne (sym (ranked_as (earliest_key pname at) e.0 Equal is).0))
     names Greater is from ne = cc
 
-    clear : (r : Ordering) → named_time_cmp (earliest_key at) e.0 ≡ r → is_le r ≡ true → (b : Bool) → eqb e.0.pname at.pname ≡ b → (c : Bool) → is_apart at.time e.1.first ≡ c → cond b (cond c None (Some (span_at e))) None ≡ None →
-        named_time_cmp (last_key at.pname span) e.0 ≡ Less
+    clear : (r : Ordering) → named_time_cmp (earliest_key pname at) e.0 ≡ r → is_le r ≡ true → (b : Bool) → eqb e.0.pname pname ≡ b → (c : Bool) → is_apart at.last e.1.first ≡ c → cond b (cond c None (Some (span_at e))) None ≡ None →
+        named_time_cmp (last_key pname span) e.0 ≡ Less
     clear r is from true same true far none =
-        let gap = lt_true (at.time +ℤ pos 60_000) e.1.first far in
-        rank_less (last_key at.pname span) e.0 (inr (sym (eqb-true e.0.pname at.pname same), omega (arith, ints, gap, whole.0.1, last)))
+        let gap = lt_true (at.last +ℤ pos 60_000) e.1.first far in
+        rank_less (last_key pname span) e.0 (inr (sym (eqb-true e.0.pname pname same), omega (arith, ints, gap, whole.0.1, last)))
     clear r is from true same false close none = cc
-    clear r is from false other c is₁ none = rank_less (last_key at.pname span) e.0 (inl (names r is from (eqb-false e.0.pname at.pname other)))
+    clear r is from false other c is₁ none = rank_less (last_key pname span) e.0 (inl (names r is from (eqb-false e.0.pname pname other)))

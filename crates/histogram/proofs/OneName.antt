@@ -10,13 +10,13 @@ use Rattle.block_map.specs.Index.{Listing, IsAdded}
 use Rattle.block_map.specs.Rising.{IsRising}
 use Rattle.histogram.specs.declared.histogram.NamedTime.{NamedTime}
 use Rattle.histogram.specs.declared.near.SpanStart.{SpanStart}
-use Rattle.histogram.specs.Times.{named_time_cmp, spans_of, spans_of_times, times_of, HasTimes}
+use Rattle.histogram.specs.Times.{named_time_cmp, named_times, spans_of, spans_of_times, times_of, HasTimes}
 use Rattle.histogram.specs.Near.{is_apart, with_span}
 use Rattle.histogram.specs.SpanEntries.{span_at, spans_in, total, last_key, IsSpanEntry}
 use Rattle.histogram.specs.Histogram.{histogram_view}
 use Rattle.histogram.specs.OneName.{count_of, AreRecordsOf, ComesAfter}
-use Rattle.histogram.proofs.Addition.{apart_histogram, lt_true, true_lt, AreApart}
-use Rattle.histogram.proofs.Times.{sorted_in_order}
+use Rattle.histogram.proofs.Addition.{apart_histogram, true_lt, AreApart}
+use Rattle.histogram.proofs.Times.{own_named, other_named, sorted_in_order}
 use Rattle.histogram.proofs.Entries.{Put, put, clear_first, none_near, spans_are}
 use Rattle.histogram.proofs.Added.{start_of}
 
@@ -26,16 +26,9 @@ pub itself : (x : ℤ) → x ≤ℤ x
 itself x = omega (arith, ints)
 
 -- put past those that have ended before it
-with_span-last : (time : ℤ) (span : Span) (spans : List Span) → AllByRecursion (λ s. is_apart s.last time ≡ true) spans → with_span time span spans ≡ spans ++ span ∷ []
-with_span-last time span [] all = refl
-with_span-last time span (s ∷ spans) all = rw all.0 (ap (λ (l : List Span). s ∷ l) (with_span-last time span spans all.1))
-
--- what has ended before its first time has before its last
-apart_later : (first last : ℤ) → first ≤ℤ last → (spans : List Span) → AllByRecursion (λ s. is_apart s.last first ≡ true) spans → AllByRecursion (λ s. is_apart s.last last ≡ true) spans
-apart_later first last le [] all = tt
-apart_later first last le (s ∷ spans) all =
-    let gap = lt_true (s.last +ℤ pos 60_000) first all.0 in
-    (true_lt (s.last +ℤ pos 60_000) last (omega (arith, ints, gap, le)), apart_later first last le spans all.1)
+with_span-last : (at span : Span) (spans : List Span) → AllByRecursion (λ s. is_apart s.last at.first ≡ true) spans → with_span at span spans ≡ spans ++ span ∷ []
+with_span-last at span [] all = refl
+with_span-last at span (s ∷ spans) all = rw all.0 (ap (λ (l : List Span). s ∷ l) (with_span-last at span spans all.1))
 
 count-push : (spans : List Span) (span : Span) → count_of (spans ++ span ∷ []) ≡ count_of spans + span.count
 count-push [] span = omega arith
@@ -46,19 +39,19 @@ pub no_records : (pname : ℕ) → AreRecordsOf pname [] []
 no_records pname = record { own = refl; others = λ other ne. refl; rising = tt; whole = tt; counted = refl }
 
 module _ (pname : ℕ) (spans : List Span) (span : Span) (old : Listing NamedTime SpanStart) (held : AreRecordsOf pname spans old.entries) (after : ComesAfter span spans) where
-  ended : AllByRecursion (λ s. is_apart s.last span.last ≡ true) (spans_in pname old.entries)
-  ended = subst (AllByRecursion (λ (s : Span). is_apart s.last span.last ≡ true)) (sym held.own) (apart_later span.first span.last after.ordered spans after.apart)
+  ended : AllByRecursion (λ s. is_apart s.last span.first ≡ true) (spans_in pname old.entries)
+  ended = subst (AllByRecursion (λ (s : Span). is_apart s.last span.first ≡ true)) (sym held.own) after.apart
 
   -- its place is free
-  pub put_last : Put (last_key pname span) span (itself span.last) after.ordered after.low old.entries
+  pub put_last : Put pname span span (itself span.last) after.ordered after.low after.ordered old.entries
   put_last =
-      put (last_key pname span) span (itself span.last) after.ordered after.low old.entries held.rising held.whole
-      (clear_first (last_key pname span) span refl old.entries held.whole) (none_near (last_key pname span) old.entries ended)
+      put pname span span (itself span.last) after.ordered after.low after.ordered old.entries held.rising held.whole
+      (clear_first pname span span refl old.entries held.whole) (none_near pname span old.entries ended)
 
   -- the records with it
   pub records_behind : (new : Listing NamedTime SpanStart) → IsAdded named_time_cmp old new (last_key pname span) (start_of span) → IsRising named_time_cmp new.entries → AreRecordsOf pname (spans ++ span ∷ []) new.entries
   records_behind new is rising = record {
-    own = ap (spans_in pname) is.0 ∙ put_last.own ∙ with_span-last span.last span (spans_in pname old.entries) ended ∙ ap (λ (l : List Span). l ++ span ∷ []) held.own;
+    own = ap (spans_in pname) is.0 ∙ put_last.own ∙ with_span-last span span (spans_in pname old.entries) ended ∙ ap (λ (l : List Span). l ++ span ∷ []) held.own;
     others = λ other ne. ap (spans_in other) is.0 ∙ put_last.others other ne ∙ held.others other ne;
     rising = rising;
     whole = subst (AllByRecursion IsSpanEntry) (sym is.0) put_last.whole;
@@ -109,27 +102,15 @@ count_in pname (e ∷ es) = by (eqb e.0.pname pname) (count_in pname es)
 
 -- ---- the times that they are of
 
--- times of one name
-abbrev all_named : ℕ → List ℤ → List NamedTime
-all_named pname times = map (λ time. record { pname = pname; time = time }) times
-
-own_named : (pname : ℕ) (times : List ℤ) → times_of pname (all_named pname times) ≡ times
-own_named pname [] = refl
-own_named pname (time ∷ times) = rw (eq-eqb pname pname refl) (ap (λ (l : List ℤ). time ∷ l) (own_named pname times))
-
-other_named : (pname other : ℕ) → other ≢ pname → (times : List ℤ) → times_of other (all_named pname times) ≡ []
-other_named pname other ne [] = refl
-other_named pname other ne (time ∷ times) = rw (ne_eqb pname other (λ same. ne (sym same))) (other_named pname other ne times)
-
 pub name_has_times : (pname : ℕ) (times : List ℤ) (index : Listing NamedTime SpanStart) (room : ℕ) → spans_in pname index.entries ≡ spans_of_times times →
     ((other : ℕ) → other ≢ pname → spans_in other index.entries ≡ []) → HasTimes (histogram_view index room)
-name_has_times pname times index room is none = record { times = all_named pname times; records = λ other. by other (eqb other pname) refl }
+name_has_times pname times index room is none = record { times = named_times pname times; records = λ other. by other (eqb other pname) refl }
   where
-    own : spans_of pname (histogram_view index room) ≡ spans_of_times (times_of pname (all_named pname times))
+    own : spans_of pname (histogram_view index room) ≡ spans_of_times (times_of pname (named_times pname times))
     own = spans_are pname index.entries ∙ is ∙ ap spans_of_times (sym (own_named pname times))
 
-    by : (other : ℕ) (b : Bool) → eqb other pname ≡ b → spans_of other (histogram_view index room) ≡ spans_of_times (times_of other (all_named pname times))
-    by other true same = subst (λ (n : ℕ). spans_of n (histogram_view index room) ≡ spans_of_times (times_of n (all_named pname times))) (sym (eqb-true other pname same)) own
+    by : (other : ℕ) (b : Bool) → eqb other pname ≡ b → spans_of other (histogram_view index room) ≡ spans_of_times (times_of other (named_times pname times))
+    by other true same = subst (λ (n : ℕ). spans_of n (histogram_view index room) ≡ spans_of_times (times_of n (named_times pname times))) (sym (eqb-true other pname same)) own
     by other false differ =
         let ne = eqb-false other pname differ in
         spans_are other index.entries ∙ none other ne ∙ ap spans_of_times (sym (other_named pname other ne times))

@@ -9,7 +9,7 @@ use Rattle.std.proofs.lemmas.List.Elements.{filter-append}
 use Rattle.std.proofs.lemmas.List.Sums.{fold-append}
 use Rattle.arch_types.specs.Order.{place_by, order_by}
 use Rattle.histogram.specs.declared.histogram.NamedTime.{NamedTime}
-use Rattle.histogram.specs.Times.{times_of, AreSorted}
+use Rattle.histogram.specs.Times.{named_times, times_of, AreSorted}
 
 -- a list with one more time, at some place
 pub record HasOneMore (old new : List ℤ) (time : ℤ) : Type 0 where
@@ -70,9 +70,17 @@ pub times_of-append : (pname : ℕ) (xs ys : List NamedTime) → times_of pname 
 times_of-append pname xs ys =
     ap (map (λ (at : NamedTime). at.time)) (filter-append (is_of pname) xs ys) ∙ map-append (λ (at : NamedTime). at.time) (filter (is_of pname) xs) (filter (is_of pname) ys)
 
-pub own_times : (at : NamedTime) (times : List NamedTime) → times_of at.pname (times ++ at ∷ []) ≡ times_of at.pname times ++ at.time ∷ []
-own_times at times = rw (times_of-append at.pname times (at ∷ []), eq-eqb at.pname at.pname refl) refl
+pub own_named : (pname : ℕ) (times : List ℤ) → times_of pname (named_times pname times) ≡ times
+own_named pname [] = refl
+own_named pname (time ∷ times) = rw (eq-eqb pname pname refl) (ap (λ (l : List ℤ). time ∷ l) (own_named pname times))
 
-pub other_times : (pname : ℕ) (at : NamedTime) (times : List NamedTime) → pname ≢ at.pname → times_of pname (times ++ at ∷ []) ≡ times_of pname times
-other_times pname at times ne =
-    rw (times_of-append pname times (at ∷ []), ne_eqb at.pname pname (λ same. ne (sym same))) (append-nil (times_of pname times))
+pub other_named : (pname other : ℕ) → other ≢ pname → (times : List ℤ) → times_of other (named_times pname times) ≡ []
+other_named pname other ne [] = refl
+other_named pname other ne (time ∷ times) = rw (ne_eqb pname other (λ same. ne (sym same))) (other_named pname other ne times)
+
+pub own_times : (pname : ℕ) (times : List NamedTime) (more : List ℤ) → times_of pname (times ++ named_times pname more) ≡ times_of pname times ++ more
+own_times pname times more = times_of-append pname times (named_times pname more) ∙ ap (λ (l : List ℤ). times_of pname times ++ l) (own_named pname more)
+
+pub other_times : (pname other : ℕ) → other ≢ pname → (times : List NamedTime) (more : List ℤ) → times_of other (times ++ named_times pname more) ≡ times_of other times
+other_times pname other ne times more =
+    times_of-append other times (named_times pname more) ∙ ap (λ (l : List ℤ). times_of other times ++ l) (other_named pname other ne more) ∙ append-nil (times_of other times)

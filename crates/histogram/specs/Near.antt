@@ -1,4 +1,4 @@
--- One more time among the records of a packet name.
+-- More times among the records of a packet name.
 use Rattle.std.specs.Prelude.{◌+◌, Bool, List, [], ◌∷◌, ℤ, pos, ◌+ℤ◌, int_lt, if◌then◌else◌}
 use Rattle.std.specs.Int.{int_min, int_max}
 use Rattle.arch_types.specs.declared.spans.Span.{Span}
@@ -21,8 +21,9 @@ joined_near time span [] = span ∷ []
 joined_near time span (next ∷ spans) =
     if is_apart time next.first then span ∷ next ∷ spans else joined_near time (joined span next) spans
 
--- records, with one that holds a time put in: past those that end more than 60,000 ms before the time, joined with those near it
-abbrev pub with_span : ℤ → Span → List Span → List Span
-with_span time span [] = span ∷ []
-with_span time span (next ∷ spans) =
-    if is_apart next.last time then next ∷ with_span time span spans else joined_near time span (next ∷ spans)
+-- records, with one that holds times put in: past those that end more than 60,000 ms before the times begin, joined with those near
+-- them
+abbrev pub with_span : Span → Span → List Span → List Span
+with_span at span [] = span ∷ []
+with_span at span (next ∷ spans) =
+    if is_apart next.last at.first then next ∷ with_span at span spans else joined_near at.last span (next ∷ spans)

@@ -10,7 +10,7 @@ use Rattle.block_map.specs.Rising.{IsRising}
 use Rattle.histogram.specs.declared.histogram.NamedTime.{NamedTime}
 use Rattle.histogram.specs.declared.near.SpanStart.{SpanStart}
 use Rattle.histogram.specs.Times.{named_time_cmp}
-use Rattle.histogram.specs.Near.{is_apart, span_of_time, with_span}
+use Rattle.histogram.specs.Near.{is_apart, with_span}
 
 -- an entry as a record
 abbrev pub span_at : NamedTime × SpanStart → Span
@@ -34,33 +34,42 @@ total (e ∷ entries) = e.1.count + total entries
 abbrev pub IsSpanEntry : NamedTime × SpanStart → Type 0
 IsSpanEntry e = (neg_ℤ (pos (2 ^ 63)) ≤ℤ e.0.time) × (e.1.first ≤ℤ e.0.time)
 
--- the least place of a record that ends no more than 60,000 ms before a time
-abbrev pub earliest_key : NamedTime → NamedTime
-earliest_key at = record { pname = at.pname; time = int_max (at.time -ℤ pos 60_000) (neg_ℤ (pos (2 ^ 63))) }
+-- the least place of a record of a packet name that ends no more than 60,000 ms before times begin
+abbrev pub earliest_key : ℕ → Span → NamedTime
+earliest_key pname at = record { pname = pname; time = int_max (at.first -ℤ pos 60_000) (neg_ℤ (pos (2 ^ 63))) }
 
--- the record at the head, where it is of a time's packet name and begins no more than 60,000 ms after the time
-abbrev pub near_span : NamedTime → List (NamedTime × SpanStart) → Option Span
-near_span at [] = None
-near_span at (e ∷ entries) =
-    if e.0.pname == at.pname then (if is_apart at.time e.1.first then None else (Some (span_at e))) else None
+-- the record at the head, where it is of this packet name and begins no more than 60,000 ms after times end
+abbrev pub near_span : ℕ → Span → List (NamedTime × SpanStart) → Option Span
+near_span pname at [] = None
+near_span pname at (e ∷ entries) =
+    if e.0.pname == pname then (if is_apart at.last e.1.first then None else (Some (span_at e))) else None
 
 -- the place of a record
 abbrev pub last_key : ℕ → Span → NamedTime
 last_key pname span = record { pname = pname; time = span.last }
 
--- an entry that isn't near a time comes before it, or after a record that holds the time
-abbrev pub IsClear : NamedTime → Span → NamedTime × SpanStart → Type 0
-IsClear at span e =
-    is_le (named_time_cmp (earliest_key at) e.0) ≡ true → near_span at (e ∷ []) ≡ None → named_time_cmp (last_key at.pname span) e.0 ≡ Less
+-- an entry that isn't near times comes before them, or after a record that holds them
+abbrev pub IsClear : ℕ → Span → Span → NamedTime × SpanStart → Type 0
+IsClear pname at span e =
+    is_le (named_time_cmp (earliest_key pname at) e.0) ≡ true → near_span pname at (e ∷ []) ≡ None → named_time_cmp (last_key pname span) e.0 ≡ Less
 
--- the record of a time with records that were taken out, which put in gives what the time put in gave before
-pub record HasTakenNear (at : NamedTime) (old new : Listing NamedTime SpanStart) (span : Span) : Type 0 where
-  pub own : with_span at.time span (spans_in at.pname new.entries) ≡ with_span at.time (span_of_time at.time) (spans_in at.pname old.entries)
-  pub others : (other : ℕ) → other ≢ at.pname → spans_in other new.entries ≡ spans_in other old.entries
+-- the record of times with records that were taken out, which put in gives what the times put in gave before
+pub record HasTakenNear (pname : ℕ) (at : Span) (old new : Listing NamedTime SpanStart) (span : Span) : Type 0 where
+  pub own : with_span at span (spans_in pname new.entries) ≡ with_span at at (spans_in pname old.entries)
+  pub others : (other : ℕ) → other ≢ pname → spans_in other new.entries ≡ spans_in other old.entries
   pub rising : IsRising named_time_cmp new.entries
   pub whole : AllByRecursion IsSpanEntry new.entries
-  pub clear : AllByRecursion (IsClear at span) new.entries
+  pub clear : AllByRecursion (IsClear pname at span) new.entries
   pub ordered : span.first ≤ℤ span.last
-  pub holds : at.time ≤ℤ span.last
-  pub counted : total new.entries + span.count ≡ total old.entries + 1
+  pub holds : at.last ≤ℤ span.last
+  pub counted : total new.entries + span.count ≡ total old.entries + at.count
   pub room : old.room ≤ new.room
+
+-- the records of a packet name have these times too, and those of others are as before
+pub record HasPut (pname : ℕ) (at : Span) (old new : Listing NamedTime SpanStart) : Type 0 where
+  pub own : spans_in pname new.entries ≡ with_span at at (spans_in pname old.entries)
+  pub others : (other : ℕ) → other ≢ pname → spans_in other new.entries ≡ spans_in other old.entries
+  pub rising : IsRising named_time_cmp new.entries
+  pub whole : AllByRecursion IsSpanEntry new.entries
+  pub counted : total new.entries ≡ total old.entries + at.count
+  pub room : old.room ≤ new.room + 1

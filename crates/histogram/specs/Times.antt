@@ -34,6 +34,14 @@ spans_of_times times = histogram_of (order_by int_lt times)
 abbrev pub times_of : ℕ → List NamedTime → List ℤ
 times_of pname times = map (λ at. at.time) (filter (λ at. at.pname == pname) times)
 
+-- times of one packet name
+abbrev pub named_times : ℕ → List ℤ → List NamedTime
+named_times pname times = map (λ time. record { pname = pname; time = time }) times
+
+-- times make one record, and it is this one
+abbrev pub AreOneSpan : Span → List ℤ → Type 0
+AreOneSpan span times = spans_of_times times ≡ span ∷ []
+
 -- the records of each packet name are those of its times
 abbrev pub IsHistogramOf : HistogramView → List NamedTime → Type 0
 IsHistogramOf histogram times = (pname : ℕ) → spans_of pname histogram ≡ spans_of_times (times_of pname times)

@@ -1,12 +1,12 @@
 //! The histogram.
 
-ghost use Rattle.std.specs.Prelude.{◌≡◌, ◌≢◌, ℕ, ℤ, ◌+◌, ◌<◌, List, [], ◌∷◌, ◌++◌, max, IfOk, OnOk, OnErr};
-ghost use Rattle.histogram.specs.Times.{spans_of, spans_of_times, IsHistogramOf, HasTimes};
+ghost use Rattle.std.specs.Prelude.{◌≡◌, ◌≢◌, ℕ, ℤ, ◌+◌, ◌<◌, ◌^◌, List, [], ◌∷◌, ◌++◌, max, IfOk, OnOk, OnErr};
+ghost use Rattle.histogram.specs.Times.{named_times, spans_of, spans_of_times, AreOneSpan, IsHistogramOf, HasTimes};
 
-use crate::near::{SpanStart, take_near};
+use crate::near::{SpanStart, put_span};
 use crate::one_name::put_behind;
 use crate::walk::next_of;
-use arch_types::spans::Spans;
+use arch_types::spans::{Span, Spans};
 use block_map::index::Index;
 use std::alloc::{AllocError, Global};
 use std::marker::Model;
@@ -86,17 +86,31 @@ impl Histogram {
     {
         self.rows += 1;
         self.room -= 1;
-        let at = NamedTime { pname, time };
-        let span = take_near(&mut self.index, at);
-        let last = NamedTime {
-            pname,
-            time: span.last,
+        let at = Span {
+            first: time,
+            last: time,
+            count: 1,
         };
-        let start = SpanStart {
-            first: span.first,
-            count: span.count,
-        };
-        self.index.insert(last, start);
+        put_span(&mut self.index, pname, at);
+    }
+
+    /// Adds times of rows with this packet name that make one record, as `add` does one after the other. The room stays for others.
+    /// The one error is want of memory, and then all is as before.
+    pub fn add_span(&mut self, pname: u16, span: Span) -> Result<(), AllocError>
+        requires { (times : List ℤ) × AreOneSpan span times }
+        ensures times { OnOk result ((times : List NamedTime) (more : List ℤ) → IsHistogramOf self.old times →
+            AreOneSpan span more → IsHistogramOf self.new (times ++ named_times pname more)) }
+        ensures added { OnOk result ((times more : List ℤ) → spans_of pname self.old ≡ spans_of_times times →
+            AreOneSpan span more → spans_of pname self.new ≡ spans_of_times (times ++ more)) }
+        ensures others { (other : ℕ) → other ≢ pname → spans_of other self.new ≡ spans_of other self.old }
+        ensures room { self.new.room ≡ self.old.room }
+        ensures err { OnErr result (self.new ≡ self.old) }
+    {
+        let rows = rows_with(self.rows, span.count, self.room)?;
+        self.index.reserve(self.room as usize + 1)?;
+        self.rows = rows;
+        put_span(&mut self.index, pname, span);
+        Ok(())
     }
 
     /// The records of one packet name alone, to which more times may be added. The one error is want of memory.
@@ -138,4 +152,14 @@ impl Histogram {
         }
         Ok(spans)
     }
+}
+
+/// How many rows there are with more of them, where numbers of 64 bits hold those and the room.
+fn rows_with(rows: u64, more: u64, room: u64) -> Result<u64, AllocError>
+    ensures rows { IfOk result (λ all. all ≡ rows + more) }
+    ensures small { OnOk result (rows + more + room < 2 ^ 64) }
+{
+    let all = rows.checked_add(more).ok_or(AllocError)?;
+    all.checked_add(room).ok_or(AllocError)?;
+    Ok(all)
 }

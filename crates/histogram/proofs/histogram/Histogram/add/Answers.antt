@@ -1,51 +1,39 @@
-use Rattle.std.proofs.Common.{◌≡◌, ℕ, ℤ, ◌+◌, ◌-◌, ◌≤ℤ◌, None, FitsSigned, neg_ℤ, pos, ◌^◌, ap, subst, ◌∙◌, arith, rules, w64}
-use Rattle.std.proofs.lemmas.Int.{ints, to_z-of_z}
-use Rattle.histogram.specs.declared.histogram.NamedTime.{NamedTime}
+use Rattle.std.proofs.Common.{◌≡◌, ℕ, ℤ, ◌+◌, ◌-◌, List, [], ◌∷◌, ap, refl, subst, arith, w64}
+use Rattle.std.proofs.lemmas.Int.{to_z-of_z}
 use Rattle.histogram.specs.Times.{HistogramView}
+use Rattle.histogram.specs.Near.{span_of_time}
 use Rattle.histogram.specs.Histogram.{histogram_view, IsHistogram}
-use Rattle.histogram.proofs.Entries.{put}
-use Rattle.histogram.proofs.Added.{IsAddition, records-push, histogram-push, added_to, added}
-use Rattle.histogram.proofs.histogram.Histogram.add.Goals.{After-insert}
+use Rattle.histogram.proofs.Added.{IsAddition, records-append, histogram-append, added_to, added}
+use Rattle.histogram.proofs.histogram.Histogram.add.Goals.{After-put_span}
 use Rattle.histogram.proofs.histogram.Histogram.add.Goals as goal
 
-abbrev key : ℕ → ℤ → NamedTime
-key pname time = record { pname = pname; time = time }
-
 -- after the calls the fields have one more time
-inserted : (c : After-insert) → IsAddition (key c.args.pname c.args.time) c.args.self.now (histogram_view c.insert.new.self (c.self.inside.room - 1)) × IsHistogram c.insert.new.self (c.self.inside.rows + 1) (c.self.inside.room - 1)
-inserted c =
+put_in : (c : After-put_span) → IsAddition c.args.pname (span_of_time c.args.time) c.args.self.now (histogram_view c.put_span.new.index (c.self.inside.room - 1)) × IsHistogram c.put_span.new.index (c.self.inside.rows + 1) (c.self.inside.room - 1)
+put_in c =
     let time = to_z-of_z w64 c.args.time c.ranges.time in
-    let k = key c.args.pname c.args.time in
-    let span = c.take_near-span.result in
-    let fits_first : FitsSigned w64 span.first = search rules in
-    let first = to_z-of_z w64 span.first fits_first in
-    let fits_last : FitsSigned w64 span.last = search rules in
-    let last = to_z-of_z w64 span.last fits_last in
-    let least : neg_ℤ (pos (2 ^ 63)) ≤ℤ c.args.time = omega (arith, ints, c.ranges.time) in
-    let mid = c.take_near-span.new.index in
-    let taken = rw time at c.take_near-span.ensures.taken in
-    let all = rw time at c.take_near-span.ensures.all in
-    let p = put k span taken.holds taken.ordered least mid.entries taken.rising taken.whole taken.clear all in
-    let none : c.insert.result ≡ None = (rw last at c.insert.ensures.found) ∙ p.absent in
-    let is = rw none at (rw (first, last) at c.insert.ensures.absent) in
+    let pname = c.args.pname in
+    let one = span_of_time c.args.time in
+    let index = c.self.inside.index in
+    let new = c.put_span.new.index in
+    let put = rw time at c.put_span.ensures in
     let room = ap (λ (h : HistogramView). h.room) c.self.view_is in
+    let kept = c.self.invariant in
     let left = c.self.inside.room - 1 in (
-      subst (λ (h : HistogramView). IsAddition k h (histogram_view c.insert.new.self left)) c.self.view_is
-          (added_to c.self.inside.index mid c.insert.new.self k span least taken all is c.self.inside.room left),
-      added c.self.inside.index mid c.insert.new.self k span least taken all is c.self.inside.rows c.self.inside.room left
-          c.self.invariant (omega (arith, room, c.requires)) c.insert.ensures.rising,
+      subst (λ (h : HistogramView). IsAddition pname one h (histogram_view new left)) c.self.view_is (added_to pname one index new put c.self.inside.room left),
+      added pname one index new put (c.args.time ∷ []) refl c.self.inside.rows c.self.inside.room left kept.times kept.counted
+          (omega (arith, room, c.requires, kept.has_room)) (omega (arith, room, c.requires, kept.small)),
     )
 
 pub invariant_of-self : goal.invariant_of-self
-invariant_of-self c = (inserted (goal.at.invariant_of-self c).After-insert).1
+invariant_of-self c = (put_in (goal.at.invariant_of-self c).After-put_span).1
 
 pub returns-clause-times : goal.returns-clause-times
 returns-clause-times c =
-    histogram-push (key c.args.pname c.args.time) c.args.self.now (histogram_view c.insert.new.self (c.self.inside.room - 1)) (inserted (goal.at.returns-clause-times c).After-insert).0
+    histogram-append c.args.pname (span_of_time c.args.time) c.args.self.now (histogram_view c.put_span.new.index (c.self.inside.room - 1)) (put_in (goal.at.returns-clause-times c).After-put_span).0 (c.args.time ∷ []) refl
 
 pub returns-clause-added : goal.returns-clause-added
 returns-clause-added c =
-    records-push (key c.args.pname c.args.time) c.args.self.now (histogram_view c.insert.new.self (c.self.inside.room - 1)) (inserted (goal.at.returns-clause-added c).After-insert).0
+    records-append c.args.pname (span_of_time c.args.time) c.args.self.now (histogram_view c.put_span.new.index (c.self.inside.room - 1)) (put_in (goal.at.returns-clause-added c).After-put_span).0 (c.args.time ∷ []) refl
 
 pub returns-clause-others : goal.returns-clause-others
-returns-clause-others c = (inserted (goal.at.returns-clause-others c).After-insert).0.others
+returns-clause-others c = (put_in (goal.at.returns-clause-others c).After-put_span).0.others
