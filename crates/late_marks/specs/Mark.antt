@@ -1,5 +1,5 @@
 -- The mark of an interval that has rows.
-use Rattle.std.specs.Prelude.{◌≡◌, ℕ, ◌≤◌, ◌&&◌, Bool, true, false, not, List, [], max, nat_le, Option, Some, None, Contains}
+use Rattle.std.specs.Prelude.{◌≡◌, ℕ, ◌≤◌, ◌&&◌, Bool, true, false, not, List, [], ◌∷◌, max, nat_le, Option, Some, None, Contains}
 use Rattle.late_marks.specs.declared.mark.Mark.{Mark}
 
 -- an interval whose rows stand at these positions is late: some row stands at or after the base of its last fill, or there is a row
@@ -35,3 +35,8 @@ is_late_free_mark m = is_late_mark m && not m.taken
 abbrev pub touched : Option Mark → ℕ → Mark
 touched None position = record { last = position; base = None; taken = false }
 touched (Some m) position = record { last = max m.last position; base = m.base; taken = m.taken }
+
+-- the mark after rows at these positions, one after the other
+abbrev pub touched_by : Option Mark → List ℕ → Option Mark
+touched_by mark [] = mark
+touched_by mark (position ∷ positions) = touched_by (Some (touched mark position)) positions

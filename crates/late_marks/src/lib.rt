@@ -7,6 +7,7 @@
 // (`StandAt`).
 // Each change of a mark changes the number of late intervals by that one interval alone (`Marked`), so a loop that fills late intervals
 // ends.
+// Rows whose positions are known by the greatest alone are noted at once (`touch_placed`), as if one after the other (`touched_by`).
 // Caller: fill_tracker, which touches the interval of each row, notes fills, and asks for the next interval to fill.
 //
 // The marks stand in one ordered index, and the intervals that are late and free in a second one, so that the least of them is

@@ -3,7 +3,7 @@
 ghost use Rattle.std.specs.Prelude.{◌≡◌, ℕ, ◌+◌, ◌<◌, ◌≤◌, ◌≤ℤ◌, ◌↔◌, List, [], ◌∷◌, ◌++◌, max, true, false, Some, OnOk, OnErr, IfSome, Contains, IsTrue};
 ghost use Rattle.intervals.specs.Interval.{interval_cmp};
 ghost use Rattle.block_map.specs.Rising.{IsRising};
-ghost use Rattle.late_marks.specs.Mark.{touched, StandAt, IsLateBy};
+ghost use Rattle.late_marks.specs.Mark.{touched, touched_by, IsLast, StandAt, IsLateBy};
 ghost use Rattle.late_marks.specs.Marks.{mark_of, has_rows, last_position, base_of, is_late, is_late_free, late_of, Marked, IsLeast};
 
 use crate::late_free::update_late_free;
@@ -75,6 +75,21 @@ impl LateMarks {
             Some(_) => self.change(interval, Mark::touched(mark, position)),
             None => self.add(interval, Mark::touched(mark, position)),
         }
+    }
+
+    /// Notes that rows of the interval stand at positions of the history of which this is the greatest: as so many calls of
+    /// `touch`, in any order. Takes no memory.
+    pub fn touch_placed(&mut self, interval: Interval, last: u64)
+        requires { 0 < self.old.room }
+        ensures marked { Marked self.old self.new interval (touched (mark_of self.old interval) last) }
+        ensures each { (positions : List ℕ) → IsLast positions last
+            → mark_of self.new interval ≡ touched_by (mark_of self.old interval) positions }
+        ensures rows { (positions placed : List ℕ) → IsLast placed last → StandAt (mark_of self.old interval) positions
+            → StandAt (mark_of self.new interval) (positions ++ placed) }
+        ensures known { has_rows self.old interval ≡ true → self.new.room ≡ self.old.room }
+        ensures fresh { has_rows self.old interval ≡ false → self.new.room + 1 ≡ self.old.room }
+    {
+        self.touch(interval, last);
     }
 
     /// Notes that the interval, which has rows, was filled from the history's first `base` rows on.
