@@ -1,6 +1,6 @@
 -- What bounds want is what may hold a row in them.
 use Rattle.std.proofs.Common.{◌≡◌, ℕ, ℤ, pos, ◌-ℤ◌, ◌<ℤ◌, ◌≤ℤ◌, ◌↔◌, true, List, Some, None, sym, ◌∙◌, arith}
-use Rattle.std.specs.Prelude.{nat_eq}
+use Rattle.std.specs.Prelude.{Contains, filter, nat_eq}
 use Rattle.std.specs.List.{list_any}
 use Rattle.std.specs.Cmp.{nat_eq_equiv}
 use Rattle.std.proofs.lemmas.Bool.Decides.{nat_tests}
@@ -16,6 +16,7 @@ use Rattle.partitions.specs.Bounds.{HasTimeOn, MayHold}
 use Rattle.partitions.specs.NameDayFilter.{is_on, passes_filter}
 use Rattle.time_text.proofs.DayFacts.{days_rise}
 use Rattle.partitions.proofs.TimesOfDays.{has_time_on}
+use Rattle.partitions.proofs.Members.{filter_has}
 use Rattle.partitions.proofs.Firsts.{passes_filter_is, passes_filter_from, on_is, on_from}
 
 same_names : (x y : ℕ) → nat_eq x y ≡ true → x ≡ y
@@ -55,3 +56,19 @@ module _ (bounds : Bounds) (days : Days) (on : (day : ℤ) → (is_on days day �
       from : MayHold bounds p → passes_filter w (name_day p) ≡ true
       from may = let has = on_is days p.day ((on p.day).1 may.day) in
           passes_filter_from w (name_day p) (record { first = has.first; last = has.last; name = same p.pname ∙ list_any-from_Contains nat_eq_equiv p.pname names (rw is at may.name) })
+
+  -- of the partitions on those days, the ones of a list's names are what may hold a row in the bounds
+  pub listed_exactly : (names : List ℕ) (parts noted : List Partition) → bounds.names ≡ Some names → ((p : Partition) → Contains parts p ↔ (Contains noted p × (is_on days p.day ≡ true))) →
+      (p : Partition) → Contains (filter (λ q. list_any (nat_eq q.pname) names) parts) p ↔ (Contains noted p × MayHold bounds p)
+  listed_exactly names parts noted is held p = (to, from)
+    where
+      to : Contains (filter (λ q. list_any (nat_eq q.pname) names) parts) p → Contains noted p × MayHold bounds p
+      to at =
+          let both = (filter_has (λ q. list_any (nat_eq q.pname) names) parts p).0 at in
+          let there = (held p).0 both.0 in
+          (there.0, record { day = (on p.day).0 there.1; name = rw is (Contains-from_any {eq = nat_eq} same_names p.pname names both.1) })
+
+      from : Contains noted p × MayHold bounds p → Contains (filter (λ q. list_any (nat_eq q.pname) names) parts) p
+      from both =
+          let named = list_any-from_Contains nat_eq_equiv p.pname names (rw is at both.1.name) in
+          (filter_has (λ q. list_any (nat_eq q.pname) names) parts p).1 ((held p).1 (both.0, (on p.day).1 both.1.day), named)

@@ -11,3 +11,4 @@ pub mod Least
 pub mod Exactly
 pub mod Parted
 pub mod Chains
+pub mod RowNumbers

@@ -8,3 +8,4 @@ pub mod Links
 pub mod NameDayFilter
 pub mod Partitions
 pub mod Laws
+pub mod Counts

@@ -9,6 +9,9 @@
 // one who has another way to the same rows may weigh the two.
 // Callers: the history notes each row; replays and scripts ask for the partitions of their bounds and for the rows of each.
 //
+// Of rows that are in memory no longer there are the numbers alone: `PartitionCounts` (src/counts.rt) has how many rows each partition
+// has, and gives those in bounds as `Partitions` does.
+//
 // The partitions stand in two indexes, by day and by packet name, which hold the same ones (`AreIndexed`,
 // specs/Partitions.antt). The first has the place of each partition's last row, and a link leads from each row to the one
 // before it of its partition (specs/Links.antt). The idea of that proof: the places below one are the last of them, and
@@ -23,6 +26,7 @@
 
 pub mod bounds;
 pub mod chain_steps;
+pub mod counts;
 mod days;
 mod indexes;
 pub mod laws;
