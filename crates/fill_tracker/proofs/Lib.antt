@@ -1,3 +1,4 @@
 pub mod Flying
 pub mod Marked
 pub mod Runs
+pub mod Placed

@@ -1,1 +1,2 @@
 pub mod FillTracker
+pub mod Placed

@@ -5,6 +5,7 @@ ghost use Rattle.std.specs.Prelude.{List, [], ◌∷◌, ◌++◌, length, slice
 ghost use Rattle.std.specs.List.{AllAdjacentBelow};
 ghost use Rattle.std.specs.Option.{is_some};
 ghost use Rattle.intervals.specs.Interval.{interval_of};
+ghost use Rattle.arch_types.specs.declared.row.Row.{Row as ARow};
 ghost use Rattle.history_items.specs.declared.fills.Fill.{Fill as FillItem};
 ghost use Rattle.history_items.specs.declared.fills.Fill.TheVariants as noted;
 ghost use Rattle.history_items.specs.declared.items.Item.{Item};
@@ -13,6 +14,7 @@ ghost use Rattle.history_items.specs.FillList.{flights_of};
 ghost use Rattle.history_items.specs.Fills.{reopened};
 ghost use Rattle.history_items.specs.Late.{IsLate, last_in};
 ghost use Rattle.fill_tracker.specs.FillTracker.{AreMarksOf, AreOfOneInterval, KeepsMarks, are_of_one_interval};
+ghost use Rattle.fill_tracker.specs.Placed.{AreMarksOfPlaced, ArePlacedIn};
 ghost use Rattle.interval_fills.specs.Steps.{IsNextToFill, all_freed, freed, state_of};
 ghost use Rattle.late_marks.specs.Marks.{IsLeast, has_rows, is_late_free, late_of};
 
@@ -226,6 +228,18 @@ impl FillTracker {
             AreMarksOf exponent (history ++ items_of rows.now) self.new.fills self.new.marks }
     {
         touch_all(&mut self.marks, rows, first, exponent);
+    }
+
+    /// Notes that rows of an interval stand at positions of a history, of which this is the greatest. Takes no memory.
+    pub fn touch_placed(&mut self, interval: Interval, last: u64)
+        requires { 0 < self.old.marks.room }
+        ensures fills { self.new.fills ≡ self.old.fills }
+        ensures room { self.old.marks.room ≤ self.new.marks.room + 1 }
+        ensures marks { (exponent : ℕ) (placed run : List (ℕ × ARow)) → ArePlacedIn exponent interval run last →
+            AreMarksOfPlaced exponent placed self.old.fills self.old.marks →
+            AreMarksOfPlaced exponent (placed ++ run) self.new.fills self.new.marks }
+    {
+        self.marks.touch(interval, last);
     }
 }
 
