@@ -1,8 +1,8 @@
 -- Records of one packet name, put one behind the other.
 use Rattle.std.proofs.Common.{◌≡◌, ◌≢◌, ℕ, ℤ, pos, ◌+◌, ◌≤◌, ◌≤ℤ◌, ◌<ℤ◌, eqb, List, [], ◌∷◌, ◌++◌, Bool, true, false, cond, refl, sym, ◌∙◌, ap, subst, arith}
-use Rattle.std.specs.Prelude.{neg_ℤ, ◌^◌, ◌+ℤ◌, int_lt, map}
+use Rattle.std.specs.Prelude.{neg_ℤ, ◌^◌, ◌+ℤ◌, int_lt}
 use Rattle.std.specs.List.{AllByRecursion}
-use Rattle.std.proofs.lemmas.Bool.{eq-eqb, ne_eqb, eqb-true, eqb-false}
+use Rattle.std.proofs.lemmas.Bool.{eqb-true, eqb-false}
 use Rattle.std.proofs.lemmas.Int.{ints}
 use Rattle.arch_types.specs.Order.{order_by}
 use Rattle.arch_types.specs.declared.spans.Span.{Span}

@@ -1,5 +1,5 @@
 -- What is true of the fields of a histogram.
-use Rattle.std.specs.Prelude.{◌≡◌, ℕ, ◌+◌, ◌^◌, ◌<◌, ◌≤◌, map}
+use Rattle.std.specs.Prelude.{ℕ, ◌+◌, ◌^◌, ◌<◌, ◌≤◌, map}
 use Rattle.std.specs.List.{AllByRecursion}
 use Rattle.block_map.specs.Index.{Listing}
 use Rattle.block_map.specs.Rising.{IsRising}

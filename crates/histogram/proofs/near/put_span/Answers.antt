@@ -1,4 +1,4 @@
-use Rattle.std.proofs.Common.{◌≡◌, ◌+◌, ◌≤ℤ◌, None, FitsSigned, neg_ℤ, pos, ◌^◌, ap, sym, subst, ◌∙◌, arith, rules, w64}
+use Rattle.std.proofs.Common.{◌≡◌, ◌≤ℤ◌, None, FitsSigned, neg_ℤ, pos, ◌^◌, ap, sym, subst, ◌∙◌, arith, rules, w64}
 use Rattle.std.specs.List.{AllByRecursion}
 use Rattle.std.proofs.lemmas.Int.{ints, to_z-of_z}
 use Rattle.histogram.specs.SpanEntries.{spans_in, total, IsSpanEntry}

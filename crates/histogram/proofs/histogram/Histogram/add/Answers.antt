@@ -1,4 +1,4 @@
-use Rattle.std.proofs.Common.{◌≡◌, ℕ, ℤ, ◌+◌, ◌-◌, List, [], ◌∷◌, ap, refl, subst, arith, w64}
+use Rattle.std.proofs.Common.{◌+◌, ◌-◌, [], ◌∷◌, ap, refl, subst, arith, w64}
 use Rattle.std.proofs.lemmas.Int.{to_z-of_z}
 use Rattle.histogram.specs.Times.{HistogramView}
 use Rattle.histogram.specs.Near.{span_of_time}

@@ -1,5 +1,4 @@
-use Rattle.std.proofs.Common.{◌≡◌, ◌+◌, ℕ, ℤ, List, sym, subst, arith}
-use Rattle.histogram.specs.declared.histogram.NamedTime.{NamedTime}
+use Rattle.std.proofs.Common.{ℕ, sym, subst, arith}
 use Rattle.histogram.specs.Times.{HistogramView}
 use Rattle.histogram.specs.Histogram.{histogram_view, IsHistogram}
 use Rattle.histogram.proofs.Added.{IsAddition, records-append, histogram-append, spanned, spanned_fields}
