@@ -1,7 +1,7 @@
 -- Numbers of rows in partitions.
 use Rattle.std.proofs.Common.{◌≡◌, ◌↔◌, ℕ, suc, zero, ◌+◌, ◌<◌, List, [], ◌∷◌, ◌++◌, length, Bool, true, false, cond, Option, Some, None, refl, sym, ◌∙◌, ap, subst, arith, length-append}
-use Rattle.std.specs.Prelude.{Contains, IsSome, IfSome, filter, nat_eq, replicate}
-use Rattle.std.specs.List.{All, list_any}
+use Rattle.std.specs.Prelude.{Contains, IsSome, IfSome, filter, replicate}
+use Rattle.std.specs.List.{All}
 use Rattle.std.specs.Map.{lookup, keys_of, values_of}
 use Rattle.std.specs.BTreeMap.{is_at, insert_entry}
 use Rattle.std.specs.Cmp.{eq_by_cmp_equiv}

@@ -1,6 +1,6 @@
-use Rattle.std.proofs.Common.{◌≡◌, ◌+◌, ℕ, List, ◌∙◌, ap, subst, sym, arith}
+use Rattle.std.proofs.Common.{◌≡◌, ◌+◌, ℕ, List, ◌∙◌, ap, arith}
 use Rattle.partitions.specs.declared.partition.Partition.{Partition}
-use Rattle.partitions.specs.Counts.{PartitionCountsView, rows_counted, times_in}
+use Rattle.partitions.specs.Counts.{PartitionCountsView, rows_counted}
 use Rattle.partitions.proofs.RowNumbers.{counted_more, hold_more}
 use Rattle.partitions.proofs.counts.PartitionCounts.add_rows.Goals as goal
 
