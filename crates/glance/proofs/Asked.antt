@@ -1,5 +1,5 @@
 -- What a request asks of the marks of a publication.
-use Rattle.std.proofs.Common.{◌≡◌, ℕ, ℤ, ◌≤ℤ◌, ◌<ℤ◌, Bool, true, false, cond, true≢false, List, [], ◌∷◌, ◌++◌, Option, Some, None, refl, sym, ◌∙◌, ap, arith}
+use Rattle.std.proofs.Common.{◌≡◌, ℕ, ℤ, ◌≤ℤ◌, ◌<ℤ◌, Bool, true, false, cond, true≢false, List, [], ◌∷◌, ◌++◌, Option, Some, None, refl, sym, ◌∙◌, ap, arith, append_assoc}
 use Rattle.std.specs.Prelude.{IfSome, IsSomeAnd, ◌&&◌, ◌||◌, filter, map}
 use Rattle.std.specs.Arc.{arc_value}
 use Rattle.std.specs.List.{list_any, AllByRecursion}
@@ -37,6 +37,29 @@ module _ (f g : Interval → Bool) (same : (i : Interval) → f i ≡ g i) where
   pub sets_same : (marks : List PublishedMark) → sets_where f marks ≡ sets_where g marks
   sets_same [] = refl
   sets_same (m ∷ ms) = rw (same m.interval) (ap (λ (l : List SeenSet). set_where g m ++ l) (sets_same ms))
+
+-- ---- marks behind marks
+
+module _ (test : Interval → Bool) where
+  pub late_first : (ms more : List PublishedMark) (i : Interval) → late_where test ms ≡ Some i → late_where test (ms ++ more) ≡ Some i
+  late_first [] more i e = absurd cc
+  late_first (m ∷ ms) more i e = go (is_late_where test m) e (late_first ms more i)
+    where
+      go : (b : Bool) → cond b (Some m.interval) (late_where test ms) ≡ Some i → (late_where test ms ≡ Some i → late_where test (ms ++ more) ≡ Some i) → cond b (Some m.interval) (late_where test (ms ++ more)) ≡ Some i
+      go true e rest = e
+      go false e rest = rest e
+
+  pub late_behind : (ms more : List PublishedMark) → late_where test ms ≡ None → late_where test (ms ++ more) ≡ late_where test more
+  late_behind [] more e = refl
+  late_behind (m ∷ ms) more e = go (is_late_where test m) e (late_behind ms more)
+    where
+      go : (b : Bool) → cond b (Some m.interval) (late_where test ms) ≡ None → (late_where test ms ≡ None → late_where test (ms ++ more) ≡ late_where test more) → cond b (Some m.interval) (late_where test (ms ++ more)) ≡ late_where test more
+      go true e rest = absurd cc
+      go false e rest = rest e
+
+  pub sets_append : (ms more : List PublishedMark) → sets_where test (ms ++ more) ≡ sets_where test ms ++ sets_where test more
+  sets_append [] more = refl
+  sets_append (m ∷ ms) more = ap (λ (l : List SeenSet). set_where test m ++ l) (sets_append ms more) ∙ sym (append_assoc (set_where test m) (sets_where test ms) (sets_where test more))
 
 -- ---- late marks
 

@@ -15,7 +15,7 @@ ghost use Rattle.glance.specs.Asked.{AreSetsOver, HasSeenValues, is_within, late
 use crate::span::Span;
 use arch_types::steps::Steps;
 use asks::{Answer, Request};
-use glance_board::{Archived, Contents, Listing, PublishedMark};
+use glance_board::{Archived, Contents, Listing, PublishedMark, PublishedMarks};
 use intervals::Interval;
 use mdb_model::Mdb;
 use param_segments::{Part, Parts, Plan};
@@ -54,13 +54,25 @@ fn is_late(mark: &PublishedMark) -> bool
     }
 }
 
-/// The first late interval of a span.
-fn late_in(marks: &[PublishedMark], span: Span) -> Option<Interval>
-    ensures { result ≡ late_where (is_within span) marks.now }
+/// The first late interval of a span among some marks.
+fn late_among(marks: &[Arc<PublishedMark, Global>], span: Span) -> Option<Interval>
+    ensures { result ≡ late_where (is_within span) (map arc_value marks.now) }
 {
     for mark in marks {
         if span.has(mark.interval) && is_late(mark) {
             return Some(mark.interval);
+        }
+    }
+    None
+}
+
+/// The first late interval of a span.
+fn late_in(marks: &PublishedMarks, span: Span) -> Option<Interval>
+    ensures { result ≡ late_where (is_within span) marks.now }
+{
+    for block in marks.blocks() {
+        if let Some(interval) = late_among(block.items(), span) {
+            return Some(interval);
         }
     }
     None
@@ -83,13 +95,28 @@ fn add_part(mark: &PublishedMark, span: Span, parts: &mut Vec<Part>) -> Result<(
     Ok(())
 }
 
+/// Adds the sets of the intervals of a span among some marks.
+fn add_parts(
+    marks: &[Arc<PublishedMark, Global>],
+    span: Span,
+    parts: &mut Vec<Part>,
+) -> Result<(), AllocError>
+    ensures { OnOk result (map seen_part parts.new.items ≡
+        map seen_part parts.old.items ++ sets_where (is_within span) (map arc_value marks.now)) }
+{
+    for mark in marks {
+        add_part(mark, span, parts)?;
+    }
+    Ok(())
+}
+
 /// The sets of the intervals of a span.
-fn parts_in(alloc: Global, marks: &[PublishedMark], span: Span) -> Result<Parts, AllocError>
+fn parts_in(alloc: Global, marks: &PublishedMarks, span: Span) -> Result<Parts, AllocError>
     ensures { IfOk result (λ parts. map seen_part parts ≡ sets_where (is_within span) marks.now) }
 {
     let mut parts = Vec::new(alloc);
-    for mark in marks {
-        add_part(mark, span, &mut parts)?;
+    for block in marks.blocks() {
+        add_parts(block.items(), span, &mut parts)?;
     }
     Ok(Parts::from_vec(parts))
 }
@@ -131,7 +158,7 @@ fn answer_in(
         IfOk result (λ answer. answer.cells ≡
         answer_over_rows (arc_value contents.now.mdb) number request.now rows) }
 {
-    let parts = parts_in(alloc, contents.marks.as_slice(), span)?;
+    let parts = parts_in(alloc, &contents.marks, span)?;
     let mdb = Arc::try_clone(&contents.mdb)?;
     let plan = Plan {
         front: contents.front,
@@ -154,7 +181,7 @@ pub(crate) fn answered<X: Archived>(
     let contents = listing.contents();
     let number = asked_number(&contents.mdb, request)?;
     let span = Span::met(request, contents.exponent);
-    if let Some(interval) = late_in(contents.marks.as_slice(), span) {
+    if let Some(interval) = late_in(&contents.marks, span) {
         return Err(Refusal::Late { interval });
     }
     match answer_in(alloc, contents, span, number, request) {

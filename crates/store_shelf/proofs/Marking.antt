@@ -1,9 +1,10 @@
 -- A mark of a store with the set that the store has of its interval, and the contents of its publication.
-use Rattle.std.proofs.Common.{◌≡◌, ◌⊎◌, ℕ, List, true, false, true≢false, length, Option, Some, None, refl, sym, ◌∙◌, ap, subst, ⊎_elim}
+use Rattle.std.proofs.Common.{◌≡◌, ◌⊎◌, ◌<ℤ◌, ℕ, [], ◌∷◌, ◌++◌, List, true, false, true≢false, length, Option, Some, None, refl, sym, ◌∙◌, ap, append_assoc, subst, ⊎_elim}
 use Rattle.std.specs.Prelude.{IfNone, IfSome, IsSomeAnd, option_map}
 use Rattle.std.specs.Arc.{arc_value}
 use Rattle.std.specs.List.{AllByRecursion, list_any}
 use Rattle.std.specs.Option.{option_map_or}
+use Rattle.std.proofs.lemmas.List.{append-nil, map-append}
 use Rattle.intervals.specs.declared.interval.Interval.{Interval}
 use Rattle.late_marks.specs.Mark.{is_late_by}
 use Rattle.history_items.specs.Databases.{database_in}
@@ -18,7 +19,10 @@ use Rattle.store_fills.specs.Sound.{Filling, base_of_filling}
 use Rattle.archive_store.specs.CurrentSets.{IsCurrentSet}
 use Rattle.archive_store.specs.StoreView.{StoreView}
 use Rattle.arch_disk.specs.Disk.{Device}
+use Rattle.shared_items.specs.Order.{AllBelow, with_item}
+use Rattle.shared_items.proofs.Order.{all_both, all_second, with_behind}
 use Rattle.glance_board.specs.declared.contents.Contents.{Contents}
+use Rattle.glance_board.specs.declared.contents.PublishedMark.{PublishedMark}
 use Rattle.glance_board.specs.Listings.{IsMarkOf, intervals_of}
 use Rattle.store_shelf.specs.Publications.{AreContentsOf, kept_of, staying_of}
 
@@ -44,13 +48,14 @@ module _ {D : Type 0} (store : StoreView D) (i : Interval) (last : ℕ) (base : 
 
 -- contents with the marks of a store's intervals are those of its publication
 module _ {D : Type 0} (device : Device D) (store : StoreView D) (contents : Contents) (intervals : List Interval) where
-  pub are_contents : contents.front ≡ length store.history → contents.exponent ≡ store.exponent → arc_value contents.mdb ≡ database_in store.head.mdb store.history
+  pub are_contents : contents.front ≡ length store.history → contents.fills ≡ length store.fills → contents.exponent ≡ store.exponent → arc_value contents.mdb ≡ database_in store.head.mdb store.history
       → AllByRecursion (IsMarkOf (staying_of device store) store.history store.fills) contents.marks → intervals_of contents.marks ≡ intervals → IntervalsRise intervals
       → ((i : Interval) (position : ℕ) → StandsIn store.exponent i position store.history → list_any (is_same i) intervals ≡ true) → AreContentsOf device store contents
-  are_contents front exponent database each same rising cover book last = record {
+  are_contents front fills exponent database each same rising cover book last = record {
     archive = kept_of store;
     fixed = refl;
     front = front;
+    fills = fills;
     exponent = exponent;
     database = database;
     marks = record {
@@ -59,3 +64,27 @@ module _ {D : Type 0} (device : Device D) (store : StoreView D) (contents : Cont
       cover = λ i position stands. subst (λ (is : List Interval). list_any (is_same i) is ≡ true) (sym same) (cover i position stands);
     };
   }
+
+-- ---- marks in the order of their intervals
+
+-- a mark behind others whose intervals are before its own
+pub put_last : (marks : List PublishedMark) (new : PublishedMark) (later : List Interval) → IntervalsRise (intervals_of marks ++ new.interval ∷ later)
+    → with_item (λ (mark : PublishedMark). mark.interval.0) new marks ≡ marks ++ new ∷ []
+put_last marks new later rise =
+    let number_of = λ (mark : PublishedMark). mark.interval.0 in
+    ap (with_item number_of new) (sym (append-nil marks)) ∙ with_behind number_of new marks [] (below marks rise)
+  where
+    below : (ms : List PublishedMark) → IntervalsRise (intervals_of ms ++ new.interval ∷ later) → AllBelow (λ (mark : PublishedMark). mark.interval.0) new.interval.0 ms
+    below [] up = tt
+    below (m ∷ ms) up = ((all_second (λ (other : Interval). other.0) (λ (other : Interval). m.interval.0 <ℤ other.0) (intervals_of ms) (new.interval ∷ later) up.0).0, below ms up.1)
+
+-- so each mark that is put comes behind the others
+pub more_marks : (P : PublishedMark → Type 0) (was new : List PublishedMark) (one : PublishedMark) (i : Interval) (rest all : List Interval) → one.interval ≡ i → IntervalsRise all → intervals_of was ++ i ∷ rest ≡ all
+    → new ≡ with_item (λ (mark : PublishedMark). mark.interval.0) one was → AllByRecursion P was → P one → AllByRecursion P new × (intervals_of new ++ rest ≡ all)
+more_marks P was new one i rest all is rise same put each here =
+    let ahead : intervals_of was ++ one.interval ∷ rest ≡ all = ap (λ (j : Interval). intervals_of was ++ j ∷ rest) is ∙ same in
+    let last : new ≡ was ++ one ∷ [] = put ∙ put_last was one rest (subst IntervalsRise (sym ahead) rise) in (
+      subst (AllByRecursion P) (sym last) (all_both (λ (mark : PublishedMark). mark.interval.0) P was (one ∷ []) each (here, tt)),
+      ap (λ (l : List PublishedMark). intervals_of l ++ rest) last ∙ ap (λ (l : List Interval). l ++ rest) (map-append (λ (mark : PublishedMark). mark.interval) was (one ∷ []))
+          ∙ append_assoc (intervals_of was) (one.interval ∷ []) rest ∙ ahead,
+    )

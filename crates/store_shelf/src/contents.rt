@@ -2,6 +2,7 @@
 
 ghost use Rattle.std.specs.Prelude.{◌≡◌, IfOk};
 ghost use Rattle.std.specs.List.{AllByRecursion};
+ghost use Rattle.interval_walks.specs.Turns.{IntervalsRise};
 ghost use Rattle.archive_store.specs.Marks.{IsMarkIn, marked_intervals};
 ghost use Rattle.glance_board.specs.Listings.{IsMarkOf, intervals_of};
 ghost use Rattle.store_shelf.specs.Publications.{AreContentsOf, staying_of};
@@ -34,7 +35,8 @@ fn published_marks<D: Disk>(
     store: &Store<D>,
     marks: &[Mark],
 ) -> Result<PublishedMarks, AllocError>
-    requires { AllByRecursion (IsMarkIn store.now.exponent store.now.history store.now.fills) marks.now }
+    requires each { AllByRecursion (IsMarkIn store.now.exponent store.now.history store.now.fills) marks.now }
+    requires rising { IntervalsRise (marked_intervals marks.now) }
     ensures intervals { IfOk result (λ ms. intervals_of ms ≡ marked_intervals marks.now) }
     ensures each { IfOk result
         (AllByRecursion (IsMarkOf (staying_of D.device store.now) store.now.history store.now.fills)) }
@@ -42,7 +44,7 @@ fn published_marks<D: Disk>(
     let mut published = PublishedMarks::new(alloc);
     for mark in marks {
         let one = published_mark(store, *mark)?;
-        published.push(one)?;
+        published.put(alloc, one)?;
     }
     Ok(published)
 }
@@ -56,6 +58,7 @@ pub fn contents_of<D: Disk>(alloc: Global, store: &Store<D>) -> Result<Contents,
     let mdb = store.shared_mdb()?;
     Ok(Contents {
         front: store.front(),
+        fills: store.fill_len(),
         exponent: store.exponent(),
         mdb,
         marks: published,

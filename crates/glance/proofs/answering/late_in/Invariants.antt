@@ -1,8 +1,10 @@
-use Rattle.std.proofs.Common.{◌≡◌, drop}
+use Rattle.std.proofs.Common.{◌≡◌, drop, map}
+use Rattle.std.specs.Arc.{arc_value}
+use Rattle.shared_items.specs.Blocks.{items_of_blocks}
 use Rattle.glance.specs.Asked.{is_within, late_where}
 use Rattle.glance.proofs.answering.late_in.Given as goal
 
-abbrev pub invariant-loop-mark : goal.invariant-loop-mark
-invariant-loop-mark l = record {
-  rest : late_where (is_within l.span) (drop l.mark-index l.marks) ≡ late_where (is_within l.span) l.marks;
+abbrev pub invariant-loop-block : goal.invariant-loop-block
+invariant-loop-block l = record {
+  rest : late_where (is_within l.span) (items_of_blocks (map arc_value (drop l.block-index l.block-items))) ≡ late_where (is_within l.span) l.marks;
 }
