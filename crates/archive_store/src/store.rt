@@ -18,6 +18,7 @@ use archive_history::history::History;
 use disk_journal::{Frame, Journal, JournalFault, Opening};
 use field_codec::write_head;
 use fill_tracker::FillTracker;
+use history_items::fills::Fill;
 use intervals::Exponent;
 use mdb_model::Mdb;
 use refusals::Refusal;
@@ -248,6 +249,13 @@ impl<D: Disk> Store<D> {
         ensures { result ≡ length self.now.history }
     {
         self.history.len() as u64
+    }
+
+    /// What happened to fills, and the faults of the disk, in their order.
+    pub fn fills(&self) -> &[Fill]
+        ensures { result.now ≡ self.now.fills }
+    {
+        self.tracker.as_slice()
     }
 
     /// How many rows the history has.

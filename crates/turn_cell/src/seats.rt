@@ -20,7 +20,7 @@ const LOOKS: u32 = 2048;
 
 /// How many looks are close together, by backing off and then yielding the processor. Behind them a caller sleeps: a
 /// short turn, as that of a batch, is over by then.
-const CLOSE_LOOKS: u32 = 96;
+const CLOSE_LOOKS: u32 = 24;
 
 /// The least time of a sleep, in microseconds.
 const SLEEP: u64 = 50;
