@@ -52,6 +52,13 @@ impl<X: Archived> Glance<X> {
         }
     }
 
+    /// A note of the publication that it has seen last.
+    pub fn note(&self) -> Note<X>
+        ensures { result ≡ self.now }
+    {
+        self.reader.sight()
+    }
+
     /// From then on its publication is the note's or a later one. It waits for nobody.
     pub fn learn(&mut self, note: &Note<X>) -> Result<(), AllocError>
         requires { note.now.book ≡ self.old.book }

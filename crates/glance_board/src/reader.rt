@@ -76,6 +76,13 @@ impl<X: Archived> BoardReader<X> {
         Some(listing)
     }
 
+    /// What it has seen last.
+    pub fn sight(&self) -> Sight<X>
+        ensures { result ≡ self.now }
+    {
+        self.sight.again()
+    }
+
     /// From then on what it has seen isn't behind a publication of the same log. Refused where the board is gone, or
     /// for want of memory. It waits for nobody.
     pub fn learn(&mut self, note: &Sight<X>) -> Result<(), AllocError>
