@@ -9,7 +9,7 @@ use arch_types::inserted::{Inserted, Installed};
 use archive_store::Store;
 use glance_board::{Contents, PublishedMark};
 use std::alloc::Global;
-use std::sync::Wait;
+use std::sync::{Arc, Wait};
 use std::test::Fail;
 use store_shelf::{ShelvedStore, StoreReader};
 
@@ -87,7 +87,7 @@ fn acted<D: Disk, R: Wait>(
 }
 
 /// Whether marks are of these intervals, and have sets where they are to.
-fn are_marks(marks: &[PublishedMark], expected: &[(i64, bool)]) -> bool {
+fn are_marks(marks: &[Arc<PublishedMark, Global>], expected: &[(i64, bool)]) -> bool {
     for (mark, (interval, has_set)) in marks.iter().zip(expected) {
         if mark.interval.0 != *interval || mark.set.is_some() != *has_set {
             return false;
@@ -96,10 +96,13 @@ fn are_marks(marks: &[PublishedMark], expected: &[(i64, bool)]) -> bool {
     marks.len() == expected.len()
 }
 
-/// Whether contents are these.
+/// Whether contents are these. So few marks stand in one block.
 fn is_seen(contents: &Contents, seen: &Seen) -> bool {
     let (front, expected) = *seen;
-    contents.front == front && are_marks(contents.marks.as_slice(), expected)
+    match contents.marks.blocks() {
+        [block] => contents.front == front && are_marks(block.items(), expected),
+        _ => false,
+    }
 }
 
 /// Whether a reader sees these.
