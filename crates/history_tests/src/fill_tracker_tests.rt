@@ -11,6 +11,8 @@ use std::test::Fail;
 enum Deed {
     /// Rows of these tables and times, the first of them at this position.
     Rows(&'static [(u8, i64)], u32),
+    /// Rows of an interval stand at positions of which this is the greatest.
+    Placed(i64, u64),
     /// A fill of the next interval begins.
     Begin(u64),
     /// A fill of an interval is there.
@@ -136,6 +138,31 @@ fn seen_behind_a_fault() -> &'static [Seen] {
     SEEN_BEHIND_A_FAULT
 }
 
+/// Rows by their intervals, as the runs of an archive have them, and a fill of one of them.
+const PLACED: &[Step] = &[
+    (Deed::Placed(3, 7), Some(3)),
+    (Deed::Placed(1, 5), Some(1)),
+    (Deed::Placed(3, 2), Some(1)),
+    (Deed::Begin(6), Some(3)),
+    (Deed::Finish(1, 6), Some(3)),
+    (Deed::Placed(1, 9), Some(1)),
+];
+
+fn placed() -> &'static [Step] {
+    PLACED
+}
+
+const PLACED_SEEN: &[Seen] = &[
+    Seen::State(1, Some(9), true, Some(1)),
+    Seen::State(2, None, false, Some(3)),
+    Seen::State(3, Some(7), true, Some(3)),
+    Seen::Late(2),
+];
+
+fn placed_seen() -> &'static [Seen] {
+    PLACED_SEEN
+}
+
 /// A fault, and whether its failed write is noted.
 const FAULT: &[Step] = &[(Deed::Fault, None)];
 
@@ -165,10 +192,11 @@ fn cleared() -> &'static [Seen] {
 /// A name, what is noted, and what is seen then.
 type Case = (&'static str, &'static [Step], &'static [Seen]);
 
-fn cases() -> [Case; 5] {
+fn cases() -> [Case; 6] {
     [
         ("a row comes to a flight", course(), course_seen()),
         ("rows of two tables come at once", mixed(), mixed_seen()),
+        ("rows by their intervals", placed(), placed_seen()),
         (
             "flights behind a fault end",
             behind_a_fault(),
@@ -197,6 +225,17 @@ fn finish(tracker: &mut FillTracker, interval: Interval, base: u64) -> Result<()
     Ok(())
 }
 
+/// Notes rows of an interval by the greatest of their positions.
+fn touch_placed(
+    tracker: &mut FillTracker,
+    interval: Interval,
+    last: u64,
+) -> Result<(), AllocError> {
+    tracker.reserve_rows(1)?;
+    tracker.touch_placed(interval, last);
+    Ok(())
+}
+
 /// Notes a fault of a write that would have added nothing.
 fn fail(tracker: &mut FillTracker) -> Result<(), AllocError> {
     tracker.reserve()?;
@@ -207,6 +246,7 @@ fn fail(tracker: &mut FillTracker) -> Result<(), AllocError> {
 fn play(alloc: Global, tracker: &mut FillTracker, deed: &Deed) -> Result<(), AllocError> {
     match deed {
         Deed::Rows(rows, position) => return touch(alloc, tracker, rows, *position),
+        Deed::Placed(interval, last) => return touch_placed(tracker, Interval(*interval), *last),
         Deed::Begin(base) => return begin(tracker, *base),
         Deed::Finish(interval, base) => return finish(tracker, Interval(*interval), *base),
         Deed::Fault => return fail(tracker),

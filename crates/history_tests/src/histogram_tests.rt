@@ -1,11 +1,12 @@
 //! What no clause says: that calls succeed where memory is ample, and worked rows.
 
-ghost use Rattle.std.specs.Prelude.{IfOk};
-ghost use Rattle.histogram.specs.Times.{IsHistogramOf};
+ghost use Rattle.std.specs.Prelude.{[], ◌∷◌, IfOk, IfSome};
+ghost use Rattle.histogram.specs.Times.{AreOneSpan, IsHistogramOf};
 
 use crate::parts::none_other;
 use arch_types::spans::Span;
 use histogram::histogram::{Histogram, NamedTime};
+use histogram::one_span::{grown, span_of_time};
 use std::alloc::{AllocError, Global};
 use std::test::Fail;
 
@@ -116,6 +117,71 @@ fn gives(alloc: Global, times: &[Time], pname: u16, want: &[Record]) -> Result<b
     has_records(&alone, pname, want)
 }
 
+/// Two times of a packet name that make one record, told at once.
+type Pair = (u16, i64, i64);
+
+/// Pairs in the order in which they are told, a packet name, and its records.
+type PairCase = (&'static [Pair], u16, &'static [Record]);
+
+const PAIR_CASES: &[PairCase] = &[
+    // the second time before the first, at the same moment, and a minute behind it; another name between
+    (
+        &[(7, 60_000, 0), (8, 5, 5), (7, 300_000, 360_000)],
+        7,
+        &[(0, 60_000, 2), (300_000, 360_000, 2)],
+    ),
+    // the gap between two records is closed
+    (
+        &[(7, 0, 60_000), (7, 180_000, 180_000), (7, 120_000, 120_000)],
+        7,
+        &[(0, 180_000, 6)],
+    ),
+    // a record within another one, and one that meets it in part
+    (
+        &[(7, 0, 60_000), (7, 10, 20), (7, 30, 60_030)],
+        7,
+        &[(0, 60_030, 6)],
+    ),
+];
+
+fn pair_cases() -> &'static [PairCase] {
+    PAIR_CASES
+}
+
+/// The record of two times. None where they are more than a minute apart.
+fn span_of_pair(first: i64, second: i64) -> Option<Span>
+    ensures { IfSome result (λ span. AreOneSpan span (first ∷ second ∷ [])) }
+{
+    grown(span_of_time(first), second)
+}
+
+/// The histogram of pairs. None where one of them isn't one record.
+fn histogram_of_pairs(alloc: Global, pairs: &[Pair]) -> Result<Option<Histogram>, AllocError> {
+    let mut histogram = Histogram::new(alloc);
+    for (pname, first, second) in pairs {
+        match span_of_pair(*first, *second) {
+            Some(span) => histogram.add_span(*pname, span)?,
+            None => return Ok(None),
+        }
+    }
+    Ok(Some(histogram))
+}
+
+fn other_pairs(
+    alloc: Global,
+    cases: &[PairCase],
+) -> Result<Option<(&'static str, usize)>, AllocError> {
+    let mut place = 0usize;
+    for (pairs, pname, want) in cases {
+        match histogram_of_pairs(alloc, pairs)? {
+            Some(histogram) if has_records(&histogram, *pname, want)? => {}
+            _ => return Ok(Some(("records of pairs", place))),
+        }
+        place = place.saturating_add(1);
+    }
+    Ok(None)
+}
+
 fn other_order(
     alloc: Global,
     orders: &[&'static [Time]],
@@ -144,6 +210,17 @@ fn other_case(alloc: Global, cases: &[Case]) -> Result<Option<(&'static str, usi
 #[test]
 fn records_of_each_order(rt: HostRuntime) -> Result<(), Fail> {
     none_other(other_order(rt.alloc(), orders())?)
+}
+
+#[test]
+fn records_told_at_once(rt: HostRuntime) -> Result<(), Fail> {
+    none_other(other_pairs(rt.alloc(), pair_cases())?)
+}
+
+#[test]
+fn times_more_than_a_minute_apart(rt: HostRuntime) {
+    assert!(rt; grown(span_of_time(0), 60_001).is_none());
+    assert!(rt; grown(span_of_time(0), -60_001).is_none());
 }
 
 #[test]

@@ -9,6 +9,8 @@ use std::test::Fail;
 enum Step {
     /// A row of an interval, at a position.
     Row(i64, u64),
+    /// Rows of an interval, with the greatest of their positions.
+    Placed(i64, u64),
     /// A fill from a base on, and the interval that it is of.
     Fill(u64, Option<i64>),
     /// The interval that would be filled next.
@@ -62,12 +64,36 @@ fn fills() -> &'static [Step] {
     FILLS
 }
 
+/// Many rows at once: of an interval without any, of one with later rows, and of one that was filled.
+const PLACED: &[Step] = &[
+    Step::Placed(5, 30),
+    Step::Placed(5, 20),
+    Step::Placed(-3, 40),
+    Step::Mark(5, Some(30), None, true),
+    Step::Mark(-3, Some(40), Some(6), true),
+    Step::Late(2),
+    Step::LeastFree(Some(-3)),
+];
+
+fn placed() -> &'static [Step] {
+    PLACED
+}
+
 /// Notes a row, with room made for it.
 fn touch(marks: &mut LateMarks, interval: i64, position: u64) -> bool {
     if marks.reserve(1).is_err() {
         return false;
     }
     marks.touch(Interval(interval), position);
+    true
+}
+
+/// Notes rows, with room made for their interval.
+fn touch_placed(marks: &mut LateMarks, interval: i64, last: u64) -> bool {
+    if marks.reserve(1).is_err() {
+        return false;
+    }
+    marks.touch_placed(Interval(interval), last);
     true
 }
 
@@ -112,6 +138,7 @@ fn are_intervals(marks: &LateMarks, want: &[i64]) -> bool {
 fn holds(marks: &mut LateMarks, step: &Step) -> bool {
     match step {
         Step::Row(interval, position) => touch(marks, *interval, *position),
+        Step::Placed(interval, last) => touch_placed(marks, *interval, *last),
         Step::Fill(base, want) => fill(marks, *base) == *want,
         Step::LeastFree(want) => number(marks.least_late_free()) == *want,
         Step::Mark(interval, last, base, late) => {
@@ -139,8 +166,11 @@ fn other_of(marks: &mut LateMarks) -> Option<(&'static str, usize)> {
     if let Some(place) = other_step(marks, rows()) {
         return Some(("rows", place));
     }
-    match other_step(marks, fills()) {
-        Some(place) => Some(("fills", place)),
+    if let Some(place) = other_step(marks, fills()) {
+        return Some(("fills", place));
+    }
+    match other_step(marks, placed()) {
+        Some(place) => Some(("many rows at once", place)),
         None => None,
     }
 }

@@ -16,6 +16,8 @@ mod interval_walks_tests;
 #[cfg(test)]
 mod late_marks_tests;
 #[cfg(test)]
+mod limit_counts_tests;
+#[cfg(test)]
 mod partitions_tests;
 #[cfg(test)]
 mod parts;

@@ -5,6 +5,7 @@ ghost use Rattle.partitions.specs.Partitions.{AreRising};
 use crate::parts::none_other;
 use partitions::bounds::Bounds;
 use partitions::chain_steps::ChainSteps;
+use partitions::counts::PartitionCounts;
 use partitions::lists::{PartList, PnameList};
 use partitions::partition::{Partition, partition_of};
 use partitions::partitions::Partitions;
@@ -135,6 +136,36 @@ fn other_pruned(
     Ok(None)
 }
 
+/// Two rows of each of these times and packet names, as counts alone.
+fn counted(alloc: Global, rows: &[(i64, u16)]) -> Result<PartitionCounts, AllocError> {
+    let mut counts = PartitionCounts::new(alloc);
+    for (time, pname) in rows {
+        let partition = partition_of(*time, *pname);
+        counts.reserve(1)?;
+        if counts.row_count(partition) < 1_000 {
+            counts.add_rows(partition, 2);
+        }
+    }
+    Ok(counts)
+}
+
+/// The place of the first range of which counts leave others.
+fn other_pruned_by_counts(
+    alloc: Global,
+    counts: &PartitionCounts,
+    asks: &[Ask],
+) -> Result<Option<usize>, AllocError> {
+    let mut place = 0usize;
+    for (from, to, names, want) in asks {
+        let parts = counts.pruned(&bounds(alloc, *from, *to, *names)?)?;
+        if !are_parts(parts.as_slice(), want) {
+            return Ok(Some(place));
+        }
+        place = place.saturating_add(1);
+    }
+    Ok(None)
+}
+
 /// A partition, and the places of its rows, the last first.
 type PartitionPlaces = (i64, u16, &'static [usize]);
 
@@ -174,6 +205,23 @@ fn other_places(held: &Partitions, all: &[PartitionPlaces]) -> Option<usize> {
             pname: *pname,
         };
         if !has_places(held, partition, want) || held.row_count(partition) != want.len() {
+            return Some(place);
+        }
+        place = place.saturating_add(1);
+    }
+    None
+}
+
+/// The place of the first partition that hasn't twice so many rows by counts.
+fn other_counted(counts: &PartitionCounts, all: &[PartitionPlaces]) -> Option<usize> {
+    let mut place = 0usize;
+    for (day, pname, want) in all {
+        let partition = Partition {
+            day: *day,
+            pname: *pname,
+        };
+        let rows = counts.row_count(partition) as usize;
+        if rows != want.len().saturating_mul(2) {
             return Some(place);
         }
         place = place.saturating_add(1);
@@ -256,6 +304,25 @@ fn other(alloc: Global, held: &Partitions) -> Result<Option<(&'static str, usize
 fn partitions_of_rows(rt: HostRuntime) -> Result<(), Fail> {
     let held = held(rt.alloc(), rows())?;
     none_other(other(rt.alloc(), &held)?)
+}
+
+fn other_by_counts(
+    alloc: Global,
+    counts: &PartitionCounts,
+) -> Result<Option<(&'static str, usize)>, AllocError> {
+    if let Some(place) = other_pruned_by_counts(alloc, counts, asks())? {
+        return Ok(Some(("partitions left by counts", place)));
+    }
+    match other_counted(counts, partition_places()) {
+        Some(place) => Ok(Some(("rows of one partition", place))),
+        None => Ok(None),
+    }
+}
+
+#[test]
+fn partitions_by_counts(rt: HostRuntime) -> Result<(), Fail> {
+    let counts = counted(rt.alloc(), rows())?;
+    none_other(other_by_counts(rt.alloc(), &counts)?)
 }
 
 #[test]
