@@ -1,0 +1,5 @@
+pub mod Stretches
+pub mod Positions
+pub mod HistoryMarks
+pub mod Summing
+pub mod Told

@@ -1,0 +1,9 @@
+//! Laws of the definitions, carried by functions that do nothing.
+
+ghost use Rattle.sealed_sums.specs.Laws.{LastPlacedIsLast, PlacedMarksAreMarks};
+
+/// Rows at positions have the marks of the history that they are in the order of their positions.
+pub fn placed_marks_are_marks()
+    ensures last { LastPlacedIsLast }
+    ensures marks { PlacedMarksAreMarks }
+{}
