@@ -1,3 +1,4 @@
 pub mod Beginning
 pub mod Marking
 pub mod Staying
+pub mod Renewing

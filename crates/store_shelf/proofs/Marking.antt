@@ -23,7 +23,7 @@ use Rattle.shared_items.specs.Order.{AllBelow, with_item}
 use Rattle.shared_items.proofs.Order.{all_both, all_second, with_behind}
 use Rattle.glance_board.specs.declared.contents.Contents.{Contents}
 use Rattle.glance_board.specs.declared.contents.PublishedMark.{PublishedMark}
-use Rattle.glance_board.specs.Listings.{IsMarkOf, intervals_of}
+use Rattle.glance_board.specs.Listings.{AreListedMarks, IsMarkOf, intervals_of}
 use Rattle.store_shelf.specs.Publications.{AreContentsOf, kept_of, staying_of}
 
 module _ {D : Type 0} (store : StoreView D) (i : Interval) (last : ℕ) (base : Option ℕ) where
@@ -46,24 +46,29 @@ module _ {D : Type 0} (store : StoreView D) (i : Interval) (last : ℕ) (base : 
   has_set rows (Some set) is_last is_base bases some none in_time = some.fits
   has_set rows None is_last is_base bases some none in_time = absurd (⊎_elim (never_late is_last is_base in_time) (never_filled (sym is_base ∙ bases) in_time) none)
 
--- contents with the marks of a store's intervals are those of its publication
-module _ {D : Type 0} (device : Device D) (store : StoreView D) (contents : Contents) (intervals : List Interval) where
-  pub are_contents : contents.front ≡ length store.history → contents.fills ≡ length store.fills → contents.exponent ≡ store.exponent → arc_value contents.mdb ≡ database_in store.head.mdb store.history
-      → AllByRecursion (IsMarkOf (staying_of device store) store.history store.fills) contents.marks → intervals_of contents.marks ≡ intervals → IntervalsRise intervals
-      → ((i : Interval) (position : ℕ) → StandsIn store.exponent i position store.history → list_any (is_same i) intervals ≡ true) → AreContentsOf device store contents
-  are_contents front fills exponent database each same rising cover book last = record {
+-- contents with the marks of a store are those of its publication
+module _ {D : Type 0} (device : Device D) (store : StoreView D) (contents : Contents) where
+  pub contents_with : contents.front ≡ length store.history → contents.fills ≡ length store.fills → contents.exponent ≡ store.exponent → arc_value contents.mdb ≡ database_in store.head.mdb store.history
+      → AreListedMarks (staying_of device store) store.history store.fills contents.marks → AreContentsOf device store contents
+  contents_with front fills exponent database marks book last = record {
     archive = kept_of store;
     fixed = refl;
     front = front;
     fills = fills;
     exponent = exponent;
     database = database;
-    marks = record {
-      each = each;
-      rising = subst IntervalsRise (sym same) rising;
-      cover = λ i position stands. subst (λ (is : List Interval). list_any (is_same i) is ≡ true) (sym same) (cover i position stands);
-    };
+    marks = marks;
   }
+
+  -- the same by their intervals
+  pub are_contents : (intervals : List Interval) → contents.front ≡ length store.history → contents.fills ≡ length store.fills → contents.exponent ≡ store.exponent → arc_value contents.mdb ≡ database_in store.head.mdb store.history
+      → AllByRecursion (IsMarkOf (staying_of device store) store.history store.fills) contents.marks → intervals_of contents.marks ≡ intervals → IntervalsRise intervals
+      → ((i : Interval) (position : ℕ) → StandsIn store.exponent i position store.history → list_any (is_same i) intervals ≡ true) → AreContentsOf device store contents
+  are_contents intervals front fills exponent database each same rising cover = contents_with front fills exponent database (record {
+    each = each;
+    rising = subst IntervalsRise (sym same) rising;
+    cover = λ i position stands. subst (λ (is : List Interval). list_any (is_same i) is ≡ true) (sym same) (cover i position stands);
+  })
 
 -- ---- marks in the order of their intervals
 

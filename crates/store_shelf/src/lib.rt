@@ -7,6 +7,10 @@
 //! the store is made between `into_parts` and `beside`, and publishes nothing by itself.
 //! Caller: who takes a store in turns, beside readers that wait for no turn.
 //!
+//! A publication takes the marks of the one before of intervals that neither a row nor a fill came to since, and makes the
+//! others anew (`Renews` in specs/Renewing.antt). Which intervals rows came to its caller tells, by the packets that came
+//! behind a front; where the one before doesn't have the history up to that front, all marks are made anew.
+//!
 //! The one idea of the proof: what was made last begins the store's lists and is of its archive (`BeginsStore`, the
 //! invariant). Calls of a store only append (proofs/Beginning.antt), so it stays true of the store that they leave.
 //! To be changed together: what stays of an archive (`Kept`), `publication_of`, and `OnlyAppends` of archive_store.

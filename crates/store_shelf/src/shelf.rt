@@ -3,11 +3,12 @@
 ghost use Rattle.std.specs.Prelude.{◌≡◌, ◌<◌, ◌≤◌, IfOk, OnErr, OnOk, false, true};
 ghost use Rattle.glance_log.specs.Sightings.{IsFollowedBy};
 ghost use Rattle.store_shelf.specs.Publications.{BeginsStore, made_of, published_of};
+ghost use Rattle.store_shelf.specs.Renewing.{CameBy};
 
-use crate::contents::contents_of;
+use crate::contents::{contents_after, contents_of};
 use crate::kept::{Kept, LastOfStore, OfStore};
 use arch_disk::Disk;
-use archive_store::Store;
+use archive_store::{Arrival, Store};
 use glance_board::{BoardReader, Shelf};
 use glance_log::{Publisher, Sight};
 use std::alloc::{AllocError, Global};
@@ -68,9 +69,17 @@ impl<D: Disk> StoreShelf<D> {
         self.shelf.reader()
     }
 
-    /// Makes a publication of a store, which then waits for the board. The one error is want of memory.
-    pub(crate) fn make(&mut self, alloc: Global, store: &Store<D>) -> Result<(), AllocError>
-        requires { BeginsStore self.old.made store.now }
+    /// Makes a publication of a store, which then waits for the board, where only these packets came to the history behind
+    /// a front. The one error is want of memory.
+    pub(crate) fn make(
+        &mut self,
+        alloc: Global,
+        store: &Store<D>,
+        front: u64,
+        arrivals: &[Arrival],
+    ) -> Result<(), AllocError>
+        requires begins { BeginsStore self.old.made store.now }
+        requires came { CameBy store.now front arrivals.now }
         ensures made { OnOk result (self.new.made ≡ made_of false self.old.made store.now) }
         ensures shown { self.new.shown ≡ self.old.shown }
         ensures refused { OnErr result (self.new ≡ self.old) }
@@ -78,7 +87,7 @@ impl<D: Disk> StoreShelf<D> {
         if self.closed {
             return Ok(());
         }
-        let contents = contents_of(alloc, store)?;
+        let contents = contents_after(alloc, store, self.shelf.made(), front, arrivals)?;
         self.shelf.make::<Store<D>, OfStore>(alloc, store, contents)
     }
 

@@ -3,10 +3,11 @@
 ghost use Rattle.std.specs.Prelude.{◌≡◌, ◌<◌, ◌≤◌, IfErr, IfOk, OnErr, OnOk, false, true};
 ghost use Rattle.glance_log.specs.Sightings.{IsFollowedBy};
 ghost use Rattle.store_shelf.specs.Publications.{BeginsStore, IsMadeOrLeft, made_of, published_of};
+ghost use Rattle.store_shelf.specs.Renewing.{CameBy};
 
 use crate::shelf::{StoreNote, StoreReader, StoreShelf};
 use arch_disk::Disk;
-use archive_store::Store;
+use archive_store::{Arrival, Store};
 use std::alloc::{AllocError, Global};
 use std::marker::Model;
 use std::sync::Wait;
@@ -77,8 +78,29 @@ impl<D: Disk> ShelvedStore<D> {
         ensures refused { OnErr result.1 (IsMadeOrLeft false self result.0) }
         ensures later { IsFollowedBy self.shelf.shown result.0.shelf.shown }
     {
+        let front = self.store.front();
+        self.publish_since(rt, alloc, front, &[])
+    }
+
+    /// The same, where only these packets came to the history behind a front. It costs by what changed, where what was made
+    /// last has the history up to that front.
+    pub fn publish_since<R: Wait>(
+        self,
+        rt: &R,
+        alloc: Global,
+        front: u64,
+        arrivals: &[Arrival],
+    ) -> (ShelvedStore<D>, Result<StoreNote<D>, AllocError>)
+        requires { CameBy self.store front arrivals.now }
+        ensures store { result.0.store ≡ self.store }
+        ensures made { OnOk result.1 (result.0.shelf.made ≡ made_of false self.shelf.made self.store) }
+        ensures shown { OnOk result.1 (result.0.shelf.shown ≡ result.0.shelf.made) }
+        ensures note { IfOk result.1 (λ note. note ≡ result.0.shelf.made) }
+        ensures refused { OnErr result.1 (IsMadeOrLeft false self result.0) }
+        ensures later { IsFollowedBy self.shelf.shown result.0.shelf.shown }
+    {
         let ShelvedStore { store, mut shelf } = self;
-        if let Err(error) = shelf.make(alloc, &store) {
+        if let Err(error) = shelf.make(alloc, &store, front, arrivals) {
             return (ShelvedStore { store, shelf }, Err(error));
         }
         let (shelf, note) = shelf.show(rt);

@@ -1,10 +1,9 @@
-use Rattle.std.proofs.Common.{false}
-use Rattle.glance_log.proofs.Chains.{follows_self}
-use Rattle.store_shelf.proofs.Beginning.{made_begins}
+use Rattle.std.proofs.Common.{◌≤◌, [], length, subst, arith}
+use Rattle.store_shelf.specs.Publications.{ShelvedView}
+use Rattle.store_shelf.proofs.Renewing.{came_none}
 use Rattle.store_shelf.proofs.shelved.ShelvedStore.publish.Goals as goal
 
-pub returns-in-Err-clause-later : goal.returns-in-Err-clause-later
-returns-in-Err-clause-later g c = rw (c.make.ensures.shown) (rw (← c.self.view_is) (follows_self c.self.inside.shelf.shown))
-
-pub invariant_of-result-2 : goal.invariant_of-result-2
-invariant_of-result-2 g c = rw (c.show-shelf.ensures.made, c.in_default.ensures.made) (made_begins false c.self.inside.shelf.made c.self.inside.store c.self.invariant)
+pub publish_since-requires : goal.publish_since-requires
+publish_since-requires g c =
+    let all : length c.self.inside.store.history ≤ c.front-front.result = omega (arith, c.front-front.ensures) in
+    came_none c.args.self.store c.front-front.result [] (subst (λ (v : ShelvedView g.row.D.Denot). length v.store.history ≤ c.front-front.result) c.self.view_is all)
