@@ -267,6 +267,9 @@ module _ {D : Type 0} (device : Device D) where
   pub goes_settled : (a : StoreView D) → GoesOn device a (record a { fills = all_freed a.fills })
   goes_settled a = goes_noted a (all_freed a.fills) (all_freed_is (flights_of a.fills) a.fills)
 
+  pub settled_is : (a b c : StoreView D) → a ≡ record b { fills = all_freed b.fills } → b ≡ c → a ≡ record c { fills = all_freed c.fills }
+  settled_is a b c settled is = subst (λ (s : StoreView D). a ≡ record s { fills = all_freed s.fills }) is settled
+
   pub goes_begun : (a b : StoreView D) (o : Option FillTask) → IsFillBegun a b o → GoesOn device a b
   goes_begun a b None i = goes_same a b i.1
   goes_begun a b (Some task) i = subst (GoesOn device a) (sym i.same) (goes_noted a b.fills (

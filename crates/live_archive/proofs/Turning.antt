@@ -1,5 +1,5 @@
 -- A turn, from its beginning and its end.
-use Rattle.std.proofs.Common.{◌≡◌, ℕ, ◌-◌, ◌≤◌, List, [], ◌∷◌, ◌++◌, length, take, Result, Ok, Err, IfOk, IfErr, MatchResult, refl, sym, ap, ◌∙◌, subst}
+use Rattle.std.proofs.Common.{◌≡◌, ℕ, ◌-◌, ◌≤◌, List, [], ◌∷◌, ◌++◌, length, take, Option, Result, Ok, Err, IfOk, IfErr, MatchResult, refl, sym, ap, ◌∙◌, subst}
 use Rattle.std.specs.Prelude.{IsErrAnd}
 use Rattle.std.specs.List.{range_with_len}
 use mathlib.Core.List.{IsPrefix}
@@ -9,10 +9,15 @@ use Rattle.history_items.specs.declared.items.Item.{Item}
 use Rattle.turn_cell.specs.Lists.{left_seen}
 use Rattle.turn_cell.specs.Pass.{PassView, Found, Left}
 use Rattle.archive_store.specs.StoreView.{StoreView}
+use Rattle.glance_board.specs.Shelves.{ShelfView}
+use Rattle.store_shelf.specs.declared.kept.Kept.{Kept}
+use Rattle.live_archive.specs.declared.held.HeldStore.{HeldStore}
 use Rattle.live_archive.specs.GoesOn.{GoesOn}
 use Rattle.live_archive.specs.Laws.{TellsTurn}
+use Rattle.live_archive.specs.Shelving.{HeldGoesOn, KeepsShelf}
 use Rattle.live_archive.specs.Turns.{TookTurn, Turned}
 use Rattle.live_archive.proofs.Going.{goes_trans, prefix_length, prefix_trans}
+use Rattle.live_archive.proofs.Shelving.{held_on, held_published}
 
 -- what is said of either answer
 pub matched : {X E : Type 0} (r : Result X E) (P : X → Type 0) (Q : E → Type 0) → IfOk r P → IfErr r Q → MatchResult r P Q
@@ -37,18 +42,39 @@ cut_at {A = A} xs ys p = ap (take (length xs)) (sym p.1) ∙ take_all xs p.0
     take_all [] more = refl
     take_all (x ∷ xs) more = ap (λ (l : List A). x ∷ l) (take_all xs more)
 
--- what the end of a turn asks of the store that it leaves
-pub record Leaving {D T : Type 0} (device : Device D) (first after : StoreView D) (mid : PassView Item Fill T) : Type 0 where
-  pub begins : IsPrefix mid.history.seen after.history
-  pub fills_begin : IsPrefix mid.fills.seen after.fills
-  pub value : GoesOn device first after
+-- what the end of a turn asks of what it leaves
+pub record Leaving {D T : Type 0} (device : Device D) (first after : HeldStore D) (mid : PassView Item Fill T) : Type 0 where
+  pub begins : IsPrefix mid.history.seen after.store.history
+  pub fills_begin : IsPrefix mid.fills.seen after.store.fills
+  pub value : HeldGoesOn device first after
 
 module _ {D T : Type 0} (device : Device D) where
-  -- a store that goes on from the one that the turn found may be left
-  pub leaving : (first before after : StoreView D) (old mid : PassView Item Fill T) → GoesOn device first before → GoesOn device before after
-      → Found old mid before.history before.fills → Leaving device first after mid
+  -- a store that goes on from the one that the turn found may be left, with its shelf as it was
+  pub leaving : (first before : HeldStore D) (after : StoreView D) (old mid : PassView Item Fill T) → HeldGoesOn device first before → GoesOn device before.store after
+      → Found old mid before.store.history before.store.fills → Leaving device first (record before { store = after }) mid
   leaving first before after old mid found goes entered =
-      subst (Leaving device first after) (sym entered) (record { begins = goes.appends.history; fills_begin = goes.appends.fills; value = goes_trans device first before after found goes })
+      subst (Leaving device first (record before { store = after })) (sym entered) (record { begins = goes.appends.history; fills_begin = goes.appends.fills; value = held_on device first before after found goes })
+
+  -- said of both as they are left
+  pub leaving_kept : (first before next : HeldStore D) (old mid : PassView Item Fill T) → HeldGoesOn device first before → GoesOn device before.store next.store
+      → next.shelf ≡ before.shelf → Found old mid before.store.history before.store.fills → Leaving device first next mid
+  leaving_kept first before next old mid found goes kept entered =
+      subst (λ (s : Option (ShelfView (Kept D))). Leaving device first (record next { shelf = s }) mid) (sym kept) (leaving first before next.store old mid found goes entered)
+
+  -- or with one that went on
+  pub leaving_published : (first before next : HeldStore D) (after : StoreView D) (old mid : PassView Item Fill T) → HeldGoesOn device first before → GoesOn device before.store after
+      → next.store ≡ after → KeepsShelf before.shelf next.shelf after
+      → Found old mid before.store.history before.store.fills → Leaving device first next mid
+  leaving_published first before next after old mid found goes is keeps entered =
+      subst (Leaving device first next) (sym entered) (record {
+        begins = subst (λ (s : StoreView D). IsPrefix before.store.history s.history) (sym is) goes.appends.history;
+        fills_begin = subst (λ (s : StoreView D). IsPrefix before.store.fills s.fills) (sym is) goes.appends.fills;
+        value = held_published device first before next after found goes is keeps;
+      })
+
+  -- lists that were left are those of the store
+  pub left_by : (next : HeldStore D) (after : StoreView D) (mid new : PassView Item Fill T) → next.store ≡ after → Left mid new next.store.history next.store.fills → Left mid new after.history after.fills
+  left_by next after mid new is left = subst (λ (s : StoreView D). Left mid new s.history s.fills) is left
 
   -- what a call says of a turn may be said otherwise
   pub turn_says : {first : StoreView D} {old new : PassView Item Fill T} {P Q : StoreView D → StoreView D → Type 0}

@@ -5,3 +5,4 @@ pub mod Answers
 pub mod Retrievals
 pub mod Laws
 pub mod Added
+pub mod Shelving

@@ -46,6 +46,7 @@ impl<D: Disk> LiveOver<HeldStore<D>> {
     pub fn install<R: Wait>(
         &self,
         rt: &R,
+        alloc: Global,
         pass: &mut LivePass<D>,
         done: Filled,
     ) -> Result<Installed, Refusal>
@@ -57,6 +58,8 @@ impl<D: Disk> LiveOver<HeldStore<D>> {
     {
         let mut held = self.cell.enter(rt, pass);
         let result = held.store.install(done);
+        // What finds no memory is published with the next.
+        let (held, _note) = held.published(rt, alloc);
         self.cell.leave(pass, held);
         result
     }

@@ -30,6 +30,8 @@ impl<D: Disk> LiveOver<HeldStore<D>> {
     {
         let mut held = self.cell.enter(rt, pass);
         let result = held.store.ingest(alloc, batch);
+        // What finds no memory is published with the next.
+        let (held, _note) = held.published(rt, alloc);
         self.cell.leave(pass, held);
         result
     }

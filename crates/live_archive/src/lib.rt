@@ -22,6 +22,7 @@ mod held;
 mod ingesting;
 pub mod laws;
 mod live;
+mod publishing;
 mod retrieving;
 
 pub use held::HeldStore;

@@ -9,10 +9,11 @@ ghost use Rattle.turn_cell.specs.Pass.{IsFree, SameButFront, kept_half, given_ha
 ghost use Rattle.live_archive.specs.GoesOn.{GoesOn};
 ghost use Rattle.live_archive.specs.Turns.{IsClosed};
 
-use crate::held::HeldStore;
+use crate::held::{HeldStore, settled};
 use arch_disk::Disk;
 use archive_store::Store;
 use std::alloc::{AllocError, Global};
+use std::sync::Wait;
 use turn_cell::{Growing, Pass, TurnCell};
 
 /// An archive whose value is taken in turns. It is generic so that it may be shared between threads, and ends by
@@ -35,17 +36,15 @@ impl<D: Disk> LiveOver<HeldStore<D>> {
     ) -> Result<(Live<D>, LivePass<D>), (Store<D>, AllocError)>
         ensures free { IfOk result (λ made. IsFree made.0.cell made.1) }
         ensures first { IfOk result (λ made. made.0.cell.first.store ≡ store) }
+        ensures alone { IfOk result (λ made. made.0.cell.first.shelf ≡ None) }
         ensures lists { IfOk result (λ made.
             (made.1.history ≡ first_seen store.history) × (made.1.fills ≡ first_seen store.fills)) }
         ensures share { IfOk result (λ made. (made.1.share ≡ 2 ^ 63) × (made.1.turns ≡ 0)) }
         ensures back { IfErr result (λ refused. refused.0 ≡ store) }
     {
-        match TurnCell::new(alloc, HeldStore { store }) {
+        match TurnCell::new(alloc, HeldStore { store, shelf: None }) {
             Ok((cell, pass)) => Ok((LiveOver { cell }, pass)),
-            Err((held, fault)) => {
-                let HeldStore { store } = held;
-                Err((store, fault))
-            }
+            Err((held, fault)) => Err((held.into_alone(), fault)),
         }
     }
 
@@ -84,9 +83,25 @@ impl<D: Disk> LiveOver<HeldStore<D>> {
         self.cell.join(pass, other);
     }
 
-    /// Gives the store back, and ends each flight without a fill. Who closes the archive has added each item of both
-    /// lists.
+    /// Gives the store of an archive without readers back, and ends each flight without a fill. It waits for nobody. Who
+    /// closes the archive has added each item of both lists.
     pub fn close(self, pass: LivePass<D>) -> Store<D>
+        requires free { IsFree self.cell pass }
+        requires share { pass.share ≡ 2 ^ 63 }
+        requires alone { self.cell.first.shelf ≡ None }
+        ensures value { GoesOn D.device self.cell.first.store result }
+        ensures closed { IsClosed pass result }
+        ensures idle { (interval : AnInterval) → in_flight interval result.fills ≡ None }
+    {
+        let LiveOver { cell } = self;
+        let held = cell.close(pass);
+        let store = held.into_alone();
+        settled(store)
+    }
+
+    /// The same of any archive. What is shown is taken away from the readers, which waits until none reads; a glance has
+    /// nothing to read from then on.
+    pub fn close_with_glances<R: Wait>(self, rt: &R, pass: LivePass<D>) -> Store<D>
         requires free { IsFree self.cell pass }
         requires share { pass.share ≡ 2 ^ 63 }
         ensures value { GoesOn D.device self.cell.first.store result }
@@ -95,6 +110,7 @@ impl<D: Disk> LiveOver<HeldStore<D>> {
     {
         let LiveOver { cell } = self;
         let held = cell.close(pass);
-        held.into_settled()
+        let store = held.into_unpublished(rt);
+        settled(store)
     }
 }

@@ -31,6 +31,7 @@ impl<D: Disk> HeldStore<D> {
         ensures planned { IfOk result (IsPlannedIn D.device self.old.store request) }
         ensures refused { IfErr result (IsNotAnswered D.device self.old.store self.new.store request) }
         ensures same { IsLeftByAnswer D.device self.old.store self.new.store result }
+        ensures shelf { self.new.shelf ≡ self.old.shelf }
     {
         self.store.is_kept();
         let found = self.store.find(request)?;

@@ -8,7 +8,7 @@ pub leave-requires : goal.leave-requires
 leave-requires g c =
     let go = goes_same g.D.Disk.device c.enter-held.result.store c.replay_step-result.new.self
     (unread_same g.D.Disk.device c.enter-held.result.store c.replay_step-result.new.self c.replay_step-result.result c.replay_step-result.ensures.same) in
-    let left = leaving g.D.Disk.device _ c.enter-held.result.store c.replay_step-result.new.self c.args.pass.now c.enter-held.new.pass c.enter-held.ensures.value go c.enter-held.ensures.found in
+    let left = leaving g.D.Disk.device _ c.enter-held.result c.replay_step-result.new.self c.args.pass.now c.enter-held.new.pass c.enter-held.ensures.value go c.enter-held.ensures.found in
     record { turn = c.enter-held.ensures.turn; begins = left.begins; fills_begin = left.fills_begin; value = left.value }
 
 pub returns-clause-turn : goal.returns-clause-turn
@@ -17,7 +17,7 @@ returns-clause-turn g c =
     (unread_same g.D.Disk.device c.enter-held.result.store c.replay_step-result.new.self c.replay_step-result.result c.replay_step-result.ensures.same) in
     let entered = c.enter-held.ensures in
     took g.D.Disk.device _ c.enter-held.result.store c.replay_step-result.new.self c.args.pass.now c.enter-held.new.pass c.leave.new.pass _
-    entered.value go entered.begins entered.fills_begin entered.found c.leave.ensures.left
+    entered.value.store go entered.begins entered.fills_begin entered.found c.leave.ensures.left
     (c.replay_step-result.ensures.same, c.replay_step-result.ensures.refused)
 
 pub returns-clause-rows : goal.returns-clause-rows

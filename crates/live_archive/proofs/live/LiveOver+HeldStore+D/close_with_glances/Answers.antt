@@ -1,0 +1,37 @@
+use Rattle.std.proofs.Common.{◌≡◌, ◌<◌, None, length, sym, ap, ◌∙◌, subst}
+use mathlib.Core.List.{IsPrefix}
+use Rattle.history_items.specs.Fills.{in_flight}
+use Rattle.interval_fills.proofs.Freed.{all_free}
+use Rattle.live_archive.specs.GoesOn.{GoesOn}
+use Rattle.live_archive.proofs.Going.{goes_settled, goes_trans, settled_is}
+use Rattle.live_archive.proofs.Shelving.{beside_of}
+use Rattle.live_archive.proofs.live.LiveOver+HeldStore+D.close_with_glances.Goals as goal
+
+pub into_unpublished-store-requires : goal.into_unpublished-store-requires
+into_unpublished-store-requires g c = record { beside = beside_of _ c.close-held.result.shelf c.close-held.result.store c.close-held.ensures.value.shelf }
+
+pub returns-clause-value : goal.returns-clause-value
+returns-clause-value g c =
+    let left = c.close-held.result.store in
+    let is = settled_is g.D.Disk.device c.settled.result c.into_unpublished-store.result left c.settled.ensures c.into_unpublished-store.ensures in
+    goes_trans g.D.Disk.device _ _ _ c.close-held.ensures.value.store (subst (GoesOn g.D.Disk.device left) (sym is) (goes_settled g.D.Disk.device left))
+
+pub returns-clause-closed : goal.returns-clause-closed
+returns-clause-closed g c =
+    let closed = c.close-held.ensures in
+    let is = settled_is g.D.Disk.device c.settled.result c.into_unpublished-store.result c.close-held.result.store c.settled.ensures c.into_unpublished-store.ensures in
+    record {
+      last = c.close-held.result.store.fills;
+      settled = ap (λ s. s.fills) is;
+      begins = subst (λ s. IsPrefix c.args.pass.history.seen s.history) (sym is) closed.begins.0;
+      fills_begin = closed.begins.1;
+      added = ap (λ s. length s.history) is ∙ closed.added.0;
+      fills_added = closed.added.1;
+      placed = λ place low. closed.placed place (subst (λ s. place < length s.history) is low);
+      fills_placed = closed.fills_placed;
+    }
+
+pub returns-clause-idle : goal.returns-clause-idle
+returns-clause-idle g c =
+    let is = settled_is g.D.Disk.device c.settled.result c.into_unpublished-store.result c.close-held.result.store c.settled.ensures c.into_unpublished-store.ensures in
+    λ interval. subst (λ s. in_flight interval s.fills ≡ None) (sym is) (all_free interval c.close-held.result.store.fills)
