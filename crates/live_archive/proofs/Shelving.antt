@@ -1,6 +1,6 @@
 -- The shelf of a store while turns go on.
-use Rattle.std.proofs.Common.{◌≡◌, ⊎_elim, Bool, true, false, true≢false, List, Option, Some, None, Result, Ok, Err, IfOk, OnErr, OnOk, refl, sym, ap, ◌∙◌, subst}
-use Rattle.std.specs.Prelude.{if◌then◌else◌, IsSomeAnd}
+use Rattle.std.proofs.Common.{◌≡◌, ⊎_elim, ℕ, Bool, true, false, true≢false, List, Option, Some, None, Result, Ok, Err, IfOk, OnErr, OnOk, refl, sym, ap, ◌∙◌, subst}
+use Rattle.std.specs.Prelude.{if◌then◌else◌, IsSomeAnd, replicate}
 use mathlib.Core.List.{IsPrefix}
 use Rattle.arch_disk.specs.Disk.{Device}
 use Rattle.history_items.specs.declared.fills.Fill.{Fill}
@@ -8,15 +8,14 @@ use Rattle.history_items.specs.declared.items.Item.{Item}
 use Rattle.turn_cell.specs.Pass.{Left, PassView}
 use Rattle.archive_store.specs.StoreView.{OnlyAppends, StoreView}
 use Rattle.glance_board.specs.Shelves.{ShelfView, shelf_view}
-use Rattle.glance_log.specs.Sightings.{IsFollowedBy, Sighting}
+use Rattle.glance_log.specs.Sightings.{Sighting}
 use Rattle.glance_log.proofs.Chains.{follows_self, follows_trans}
-use Rattle.glance_log.proofs.Prefixes.{prefix_self}
 use Rattle.store_shelf.specs.declared.kept.Kept.{Kept}
 use Rattle.store_shelf.specs.Publications.{BeginsStore, IsMadeOrLeft, ShelvedView, made_of, published_of}
 use Rattle.store_shelf.proofs.Beginning.{begins_itself, begins_on}
 use Rattle.live_archive.specs.declared.held.HeldStore.{HeldStore}
 use Rattle.live_archive.specs.GoesOn.{GoesOn}
-use Rattle.live_archive.specs.Shelving.{HeldGoesOn, IsBeside, IsNoteIn, IsNoteOf, IsOfLog, IsPublished, KeepsShelf, ShelfGoesOn}
+use Rattle.live_archive.specs.Shelving.{AreShownFirst, HeldGoesOn, IsBeside, IsNoteIn, IsNoteOf, IsOfLog, IsPublished, KeepsShelf, ShelfGoesOn}
 use Rattle.live_archive.proofs.Going.{goes_start, goes_trans}
 
 module _ {D : Type 0} where
@@ -87,6 +86,7 @@ module _ {D : Type 0} where
     where
       same : note.book ≡ n.made.book
       same = ap (λ (s : Sighting (Kept D)). s.book) n.published ∙ (made_goes last n.made store n.begins).log
+
       go : (shelf : Option (ShelfView (Kept D))) → IsSomeAnd shelf (λ s. n.made.book ≡ s.made.book) → IsSomeAnd shelf (λ s. note.book ≡ s.made.book)
       go None none = none
       go (Some s) is = same ∙ is
@@ -174,6 +174,19 @@ module _ {D : Type 0} where
       subst (λ (o : Option (ShelfView (Kept D))). IsSomeAnd o (λ s. note ≡ made_of last s.made held.store)) (sym has) (note_is ∙ (made ∙ made_is)),
       ap Some (is ∙ view_is after.shelf note (shown ∙ sym note_is) (sym note_is)),
     )
+
+  -- the turns begin with a store that is shown whole
+  pub shown_first : (first : HeldStore D) (readers : ℕ) (glances : List (Sighting (Kept D))) (store : StoreView D) (shelved : ShelvedView D) (part : StoreView D) (shelf : ShelfView (Kept D)) → first ≡ record { store = part; shelf = Some shelf } → part ≡ shelved.store → shelf ≡ shelved.shelf
+      → shelved.store ≡ store → shelved.shelf.made ≡ published_of shelved.shelf.made.book false store → shelved.shelf.shown ≡ shelved.shelf.made → glances ≡ replicate readers shelved.shelf.shown → AreShownFirst first readers glances
+  shown_first first readers glances store shelved part shelf is part_is shelf_is store_is made shown seen =
+      let at = shelved.shelf.made in
+      let first_store : first.store ≡ store = ap (λ (h : HeldStore D). h.store) is ∙ (part_is ∙ store_is) in
+      record {
+        at = at;
+        shelf = ap (λ (h : HeldStore D). h.shelf) is ∙ ap Some (shelf_is ∙ view_is shelved.shelf at shown refl);
+        all = made ∙ ap (published_of at.book false) (sym first_store);
+        seen = seen ∙ ap (replicate readers) shown;
+      }
 
 -- ---- the value of the turns
 

@@ -8,16 +8,19 @@
 // and at which places, is a law (`calls_add`), so that nobody above has to know of the cell. Callers: the jobs
 // of a load (load_jobs, live_fills).
 //
-// The value of the cell is the store (src/held.rt). The one idea of the proof: each call of a store goes on from what
-// there was, whatever it answers (`GoesOn` in specs/GoesOn.antt, proofs/Going.antt), and what goes on from what goes
-// on, goes on. `front`, `split`, `join` and `close` take no turn and wait for nobody; a retrieval is planned in its
-// turn, and answered behind it.
+// The value of the cell is the store, beside the shelf on which it is published where there are readers that take no
+// turns (src/held.rt, src/glances.rt). A batch and an install publish in their turn, and a pass may have a note of what it
+// has seen (src/publishing.rt). The one idea of the proof: each call of a store goes on from what there was, whatever it
+// answers (`GoesOn` in specs/GoesOn.antt, proofs/Going.antt), what goes on from what goes on, goes on, and so does what was
+// published last (specs/Shelving.antt). `front`, `split`, `join` and `close` take no turn and wait for nobody; a retrieval is
+// planned in its turn, and answered behind it.
 // To be changed together: a call of the store that adds to a list, `GoesOn` and its lemma in proofs/Going.antt, and
 // what it adds (specs/Added.antt).
 #![tactic(auto)]
 
 mod asking;
 mod filling;
+mod glances;
 mod held;
 mod ingesting;
 pub mod laws;
@@ -25,5 +28,6 @@ mod live;
 mod publishing;
 mod retrieving;
 
+pub use glances::LiveGlances;
 pub use held::HeldStore;
 pub use live::{Live, LiveOver, LivePass};
