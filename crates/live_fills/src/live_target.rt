@@ -77,7 +77,7 @@ impl<'a, D: Disk, R: Wait> FillTarget for LiveTarget<'a, D, R> {
             return Err(Refusal::OutOfMemory);
         };
         match Filled::of(self.alloc, task, &mdb) {
-            Ok(done) => self.live.install(self.rt, &mut self.pass, done),
+            Ok(done) => self.live.install(self.rt, self.alloc, &mut self.pass, done),
             Err((task, _)) => {
                 self.live.abandon(self.rt, &mut self.pass, task);
                 Err(Refusal::OutOfMemory)

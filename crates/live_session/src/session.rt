@@ -1,6 +1,6 @@
 //! A session over a store.
 
-ghost use Rattle.std.specs.Prelude.{◌≡◌, ◌≤◌, ◌^◌, vec_len, IfOk, IfErr};
+ghost use Rattle.std.specs.Prelude.{◌≡◌, ◌≤◌, ◌^◌, None, vec_len, IfOk, IfErr};
 ghost use Rattle.std.specs.List.{AllByRecursion};
 ghost use Rattle.turn_cell.specs.Lists.{first_seen};
 ghost use Rattle.turn_cell.specs.Pass.{IsFree};
@@ -75,6 +75,7 @@ fn run_over<D: Disk + Send, S: Source + Send + Drop, G: Gate + Sync, R: Threads 
 ) -> Result<SessionEnd<D, S>, NotBegun<D, S>>
     requires free { IsFree live.cell pass }
     requires whole { pass.share ≡ 2 ^ 63 }
+    requires alone { live.cell.first.shelf ≡ None }
     requires lists { (pass.history ≡ first_seen live.cell.first.store.history)
         × (pass.fills ≡ first_seen live.cell.first.store.fills) }
     requires few { vec_len orders ≤ 63 }

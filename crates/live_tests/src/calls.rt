@@ -102,6 +102,7 @@ pub(crate) fn built<D: Disk, R: Wait>(
 /// What becomes of a fill.
 pub(crate) fn installed<D: Disk, R: Wait>(
     rt: &R,
+    alloc: Global,
     live: &Live<D>,
     pass: &mut LivePass<D>,
     filled: Filled,
@@ -111,7 +112,7 @@ pub(crate) fn installed<D: Disk, R: Wait>(
     ensures free { IsFree live.now.cell pass.new }
     ensures share { pass.new.share ≡ pass.old.share }
 {
-    match live.install(rt, pass, filled) {
+    match live.install(rt, alloc, pass, filled) {
         Ok(installed) => Some(installed),
         Err(_) => None,
     }
@@ -129,7 +130,7 @@ pub(crate) fn fill<D: Disk, R: Wait>(
     ensures share { pass.new.share ≡ pass.old.share }
 {
     let filled = built(rt, alloc, live, pass)?;
-    installed(rt, live, pass, filled)
+    installed(rt, alloc, live, pass, filled)
 }
 
 /// Whether a fill begins. It is given up.

@@ -1,5 +1,5 @@
 // What the tests are made of: a head, packets, batches of one packet, and an archive in turns.
-ghost use Rattle.std.specs.Prelude.{◌≡◌, ◌<◌, ◌≤◌, ◌^◌, List, false, length, IfOk, IfSome, pos};
+ghost use Rattle.std.specs.Prelude.{◌≡◌, ◌<◌, ◌≤◌, ◌^◌, List, None, false, length, IfOk, IfSome, pos};
 ghost use Rattle.arch_types.specs.Packet.{IsPacket, is_idle};
 ghost use Rattle.field_codec.specs.declared.entry.Entry.TheVariants as entries;
 ghost use Rattle.field_codec.specs.Entries.{IsArchiveEntry};
@@ -124,6 +124,7 @@ fn created<D: Disk>(alloc: Global, disk: D) -> Result<Store<D>, D>
 pub(crate) fn in_turns<D: Disk>(alloc: Global, disk: D) -> Result<(Live<D>, LivePass<D>), D>
     ensures free { IfOk result (λ made. IsFree made.0.cell made.1) }
     ensures share { IfOk result (λ made. made.1.share ≡ 2 ^ 63) }
+    ensures alone { IfOk result (λ made. made.0.cell.first.shelf ≡ None) }
     ensures names { IfOk result (λ made. HasNames made.0.cell.first.store.head) }
 {
     let store = created(alloc, disk)?;

@@ -1,6 +1,6 @@
 //! Fills by one pass while another ingests, and two passes that fill one interval.
 
-ghost use Rattle.std.specs.Prelude.{◌≡◌, ◌<◌, ◌^◌};
+ghost use Rattle.std.specs.Prelude.{◌≡◌, ◌<◌, ◌^◌, None};
 ghost use Rattle.turn_cell.specs.Pass.{IsFree};
 ghost use Rattle.live_tests.specs.Heads.{HasNames};
 
@@ -34,7 +34,7 @@ fn fill_across<D: Disk, R: Wait>(
         return (None, None);
     };
     let outcome = ingested(rt, alloc, live, link, second);
-    (outcome, installed(rt, live, filler, filled))
+    (outcome, installed(rt, alloc, live, filler, filled))
 }
 
 /// A packet that comes by another pass makes a fill stale; the next one has both. `front` tells of it in no turn.
@@ -113,6 +113,7 @@ fn other_of_two<D: Disk, R: Wait>(
 ) -> (Option<&'static str>, Store<D>)
     requires free { IsFree live.cell pass }
     requires whole { pass.share ≡ 2 ^ 63 }
+    requires alone { live.cell.first.shelf ≡ None }
     requires names { HasNames live.cell.first.store.head }
 {
     let shared = &live;

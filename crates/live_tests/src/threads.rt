@@ -1,6 +1,6 @@
 //! Callers in threads: two links, and a link beside a filler and a reader.
 
-ghost use Rattle.std.specs.Prelude.{◌≡◌, ◌+◌, ◌^◌};
+ghost use Rattle.std.specs.Prelude.{◌≡◌, ◌+◌, ◌^◌, None};
 ghost use Rattle.std.specs.Thread.{IsSync};
 ghost use Rattle.turn_cell.specs.Pass.{IsFree};
 ghost use Rattle.live_tests.specs.Heads.{HasNames};
@@ -113,6 +113,7 @@ fn other_of_threads<D: Disk + Send, R: Threads + Wait + Sync>(
 ) -> (Option<&'static str>, Store<D>)
     requires free { IsFree live.cell pass }
     requires whole { pass.share ≡ 2 ^ 63 }
+    requires alone { live.cell.first.shelf ≡ None }
     requires names { HasNames live.cell.first.store.head }
 {
     let shared = &live;
