@@ -1,18 +1,27 @@
 -- The shelf of a store while turns go on.
-use Rattle.std.proofs.Common.{◌≡◌, ⊎_elim, ℕ, Bool, true, false, true≢false, List, Option, Some, None, Result, Ok, Err, IfOk, OnErr, OnOk, refl, sym, ap, ◌∙◌, subst}
+use Rattle.std.proofs.Common.{◌≡◌, ⊎_elim, ℕ, Bool, true, false, true≢false, List, length, Option, Some, None, Result, Ok, Err, IfOk, MatchResult, OnErr, OnOk, refl, sym, ap, ◌∙◌, subst}
 use Rattle.std.specs.Prelude.{if◌then◌else◌, IsSomeAnd, replicate}
+use Rattle.std.specs.List.{flat_map}
 use mathlib.Core.List.{IsPrefix}
 use Rattle.arch_disk.specs.Disk.{Device}
+use Rattle.arch_types.specs.declared.inserted.Inserted.{Inserted}
+use Rattle.refusals.specs.declared.refusal.Refusal.{Refusal}
+use Rattle.refusals.specs.declared.refusal.Refusal.TheVariants as refused
 use Rattle.history_items.specs.declared.fills.Fill.{Fill}
 use Rattle.history_items.specs.declared.items.Item.{Item}
 use Rattle.turn_cell.specs.Pass.{Left, PassView}
+use Rattle.archive_store.specs.declared.batch.Arrival.{Arrival}
+use Rattle.archive_store.specs.Batches.{arrival_rows}
+use Rattle.archive_store.specs.Calls.{AreIngested, IsIngestRefusal}
 use Rattle.archive_store.specs.StoreView.{OnlyAppends, StoreView}
 use Rattle.glance_board.specs.Shelves.{ShelfView, shelf_view}
 use Rattle.glance_log.specs.Sightings.{Sighting}
 use Rattle.glance_log.proofs.Chains.{follows_self, follows_trans}
 use Rattle.store_shelf.specs.declared.kept.Kept.{Kept}
 use Rattle.store_shelf.specs.Publications.{BeginsStore, IsMadeOrLeft, ShelvedView, made_of, published_of}
+use Rattle.store_shelf.specs.Renewing.{CameBy}
 use Rattle.store_shelf.proofs.Beginning.{begins_itself, begins_on}
+use Rattle.store_shelf.proofs.Renewing.{came_rows, came_same}
 use Rattle.live_archive.specs.declared.held.HeldStore.{HeldStore}
 use Rattle.live_archive.specs.GoesOn.{GoesOn}
 use Rattle.live_archive.specs.Shelving.{AreShownFirst, HeldGoesOn, IsBeside, IsNoteIn, IsNoteOf, IsOfLog, IsPublished, KeepsShelf, ShelfGoesOn}
@@ -191,6 +200,20 @@ module _ {D : Type 0} where
 -- ---- the value of the turns
 
 module _ {D : Type 0} (device : Device D) where
+  -- what an ingest puts behind the history comes by its packets
+  came_refused : (a b : StoreView D) (arrivals : List Arrival) (e : Refusal) → IsIngestRefusal device a b (flat_map arrival_rows arrivals) e → CameBy b (length a.history) arrivals
+  came_refused a b arrivals refused.Usage i = absurd i
+  came_refused a b arrivals (refused.NeedsReopen n) i = came_same a b arrivals (ap (λ (s : StoreView D). s.history) i.1)
+  came_refused a b arrivals (refused.Limit w n) i = came_same a b arrivals (ap (λ (s : StoreView D). s.history) i.1)
+  came_refused a b arrivals refused.DiskFault i = came_same a b arrivals i.fault.history
+  came_refused a b arrivals refused.OutOfMemory i = came_same a b arrivals (ap (λ (s : StoreView D). s.history) i.1)
+  came_refused a b arrivals _ i = absurd i
+
+  pub came_ingested : {X : Type 0} (a b : StoreView D) (arrivals : List Arrival) (r : Result X Refusal) (outcomes : X → List Inserted)
+      → MatchResult r (λ x. AreIngested device a b (flat_map arrival_rows arrivals) (outcomes x)) (IsIngestRefusal device a b (flat_map arrival_rows arrivals)) → CameBy b (length a.history) arrivals
+  came_ingested a b arrivals (Ok x) outcomes i = came_rows a b arrivals i.history
+  came_ingested a b arrivals (Err e) outcomes i = came_refused a b arrivals e i
+
   pub held_start : (held : HeldStore D) → IsBeside held.shelf held.store → HeldGoesOn device held held
   held_start held beside = record { store = goes_start device held.store; shelf = keeps_start held.shelf held.store beside }
 

@@ -2,10 +2,11 @@
 
 ghost use Rattle.std.specs.Prelude.{◌≡◌, IfOk, None, false, true};
 ghost use Rattle.interval_fills.specs.Steps.{all_freed};
+ghost use Rattle.store_shelf.specs.Renewing.{CameBy};
 ghost use Rattle.live_archive.specs.Shelving.{IsBeside, IsPublished, KeepsShelf};
 
 use arch_disk::Disk;
-use archive_store::Store;
+use archive_store::{Arrival, Store};
 use history_items::fills::Fill;
 use history_items::items::Item;
 use std::alloc::{AllocError, Global};
@@ -55,11 +56,31 @@ impl<D: Disk> HeldStore<D> {
         ensures shelf { KeepsShelf self.shelf result.0.shelf self.store }
         ensures note { IfOk result.1 (IsPublished false self result.0.shelf) }
     {
+        let front = self.store.front();
+        self.published_since(rt, alloc, front, &[])
+    }
+
+    /// The same, where only these packets came to the history behind a front.
+    pub(crate) fn published_since<R: Wait>(
+        self,
+        rt: &R,
+        alloc: Global,
+        front: u64,
+        arrivals: &[Arrival],
+    ) -> (HeldStore<D>, Result<StoreNote<D>, AllocError>)
+        requires beside { IsBeside self.shelf self.store }
+        requires came { CameBy self.store front arrivals.now }
+        ensures store { result.0.store ≡ self.store }
+        ensures shelf { KeepsShelf self.shelf result.0.shelf self.store }
+        ensures note { IfOk result.1 (IsPublished false self result.0.shelf) }
+    {
         let HeldStore { store, shelf } = self;
         let Some(shelf) = shelf else {
             return (HeldStore { store, shelf: None }, Err(AllocError));
         };
-        let (shelved, note) = ShelvedStore::beside(store, shelf).publish(rt, alloc);
+        let (shelved, note) = ShelvedStore::beside(store, shelf).publish_since(
+            rt, alloc, front, arrivals,
+        );
         let (store, shelf) = shelved.into_parts();
         let shelf = Some(shelf);
         (HeldStore { store, shelf }, note)

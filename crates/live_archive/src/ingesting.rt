@@ -29,9 +29,10 @@ impl<D: Disk> LiveOver<HeldStore<D>> {
             (SaysIngested D.device (batch_rows batch.now) result) }
     {
         let mut held = self.cell.enter(rt, pass);
+        let front = held.store.front();
         let result = held.store.ingest(alloc, batch);
         // What finds no memory is published with the next.
-        let (held, _note) = held.published(rt, alloc);
+        let (held, _note) = held.published_since(rt, alloc, front, batch.arrivals.as_slice());
         self.cell.leave(pass, held);
         result
     }
