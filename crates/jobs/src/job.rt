@@ -4,7 +4,7 @@ use std::sync::Wait;
 
 /// What a thread of its own can do.
 pub trait Job {
-    type Done: Send + Drop;
+    type Done: Send;
 
     /// It may be run.
     ghost may: { Self → Type 0 };

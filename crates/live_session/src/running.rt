@@ -48,20 +48,28 @@ pub(crate) fn run_jobs<
     ensures back { IfErr result (λ back. (back.items ≡ orders.items) × (pass.new ≡ pass.old)) }
 {
     let count = orders.len();
+    // What a pass is of need not be such that it may be dropped, so neither are lists of passes and jobs.
     let Ok(mut jobs) = Vec::with_capacity(alloc, count) else {
         return Err(orders);
     };
-    let Ok(done) = Vec::with_capacity(alloc, count) else {
+    let Ok(mut done) = Vec::with_capacity(alloc, count) else {
+        jobs.destroy_empty();
         return Err(orders);
     };
     let Ok(mut passes) = Vec::with_capacity(alloc, count) else {
+        jobs.destroy_empty();
+        done.destroy_empty();
         return Err(orders);
     };
     let Ok(mut ends) = Vec::with_capacity(alloc, count) else {
+        jobs.destroy_empty();
+        done.destroy_empty();
+        passes.destroy_empty();
         return Err(orders);
     };
     make_jobs(alloc, live, pass, setting, orders, &mut jobs);
-    let done = run_all(rt, jobs, done);
+    run_all(rt, &mut jobs, &mut done);
+    jobs.destroy_empty();
     take_apart(done, &mut passes, &mut ends);
     join_all(&live.cell, pass, passes);
     Ok(ends)
@@ -114,7 +122,7 @@ fn make_jobs<'a, D: Disk, S: Drop, G>(
 }
 
 /// The passes and the ends of jobs that have ended, in their order. There's room for them.
-fn take_apart<P: Drop, S: Drop>(
+fn take_apart<P, S: Drop>(
     done: Vec<SessionJobDone<P, S>>,
     passes: &mut Vec<P>,
     ends: &mut Vec<JobEnd<S>>,
@@ -124,9 +132,11 @@ fn take_apart<P: Drop, S: Drop>(
     ensures passes { passes.new.items ≡ passes.old.items ++ map (λ one. one.pass) done.items }
     ensures ends { ends.new.items ≡ ends.old.items ++ map (λ one. one.end) done.items }
 {
-    for one in done {
+    let mut left = done.into_iter();
+    while let Some(one) = left.next() {
         let SessionJobDone { pass, end } = one;
         passes.push_reserved(pass);
         ends.push_reserved(end);
     }
+    left.destroy_empty();
 }

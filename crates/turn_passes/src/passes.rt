@@ -40,4 +40,6 @@ pub fn join_all<T: Growing>(cell: &TurnCell<T>, pass: &mut Pass<T>, mut passes: 
     while let Some(other) = passes.pop() {
         cell.join(pass, other);
     }
+    // What a pass is of need not be such that it may be dropped, so neither is a list of passes, not even an empty one.
+    passes.destroy_empty();
 }

@@ -8,23 +8,23 @@ use Rattle.live_session.proofs.Coming.{all_ends, each_of_ends, have_run}
 use Rattle.live_session.proofs.Sending.{goes}
 use Rattle.live_session.proofs.running.run_jobs.Goals as goal
 
-pub run_all-done-requires-send-J : goal.run_all-done-requires-send-J
-run_all-done-requires-send-J g c κs within =
+pub run_all-requires-send-J : goal.run_all-requires-send-J
+run_all-requires-send-J g c κs within =
     let disk = c.type_bounds.send-D in
     let source = c.type_bounds.send-S in
     let gate = c.type_bounds.sync-G in
     search goes depth 60 fits 100000
 
-pub run_all-done-requires-send-J-Done : goal.run_all-done-requires-send-J-Done
-run_all-done-requires-send-J-Done g c κs within =
+pub run_all-requires-send-J-Done : goal.run_all-requires-send-J-Done
+run_all-requires-send-J-Done g c κs within =
     let disk = c.type_bounds.send-D in
     let source = c.type_bounds.send-S in
     search goes depth 60 fits 100000
 
 pub join_all-requires-clause-others : goal.join_all-requires-clause-others
 join_all-requires-clause-others g c =
-    let dones = c.run_all-done.result.items in
-    let each = each_of_ends _ c.make_jobs.new.jobs.items _ dones c.in-Ok-with_capacity.ensures.items c.run_all-done.ensures.did in
+    let dones = c.run_all.new.done.items in
+    let each = each_of_ends _ c.make_jobs.new.jobs.items _ dones c.in-Ok-with_capacity.ensures.items c.run_all.ensures.did in
     let all = all_ends _ _ (λ one. one.pass) (IsFree c.args.live.now.cell) (λ job one here did. subst (λ cell. IsFree cell one.pass) here.0 did.0) c.make_jobs.new.jobs.items dones c.make_jobs.ensures.here each in
     let is : c.take_apart.new.passes.items ≡ map (λ one. one.pass) dones = c.take_apart.ensures.passes ∙ ap (λ l. l ++ map (λ one. one.pass) dones) c.in-Ok-with_capacity-2.ensures.items in
     subst (AllByRecursion (IsFree c.args.live.now.cell)) (sym is) all
@@ -37,8 +37,8 @@ returns-clause-ran g c =
     let s = c.args.setting.now in
     let all = job_setting s.head.now s.graph.now s.moment s.asks.now in
     let jobs = c.make_jobs.new.jobs.items in
-    let dones = c.run_all-done.result.items in
-    let each = each_of_ends _ jobs _ dones c.in-Ok-with_capacity.ensures.items c.run_all-done.ensures.did in
+    let dones = c.run_all.new.done.items in
+    let each = each_of_ends _ jobs _ dones c.in-Ok-with_capacity.ensures.items c.run_all.ensures.did in
     let is : c.take_apart.new.passes.items ≡ map (λ one. one.pass) dones = c.take_apart.ensures.passes ∙ ap (λ l. l ++ map (λ one. one.pass) dones) c.in-Ok-with_capacity-2.ensures.items in
     let told : c.take_apart.new.ends.items ≡ map (λ one. one.end) dones = c.take_apart.ensures.ends ∙ ap (λ l. l ++ map (λ one. one.end) dones) c.in-Ok-with_capacity-3.ensures.items in
     let joined = subst (λ l. Joins l c.make_jobs.new.pass c.join_all.new.pass []) is c.join_all.ensures.joined in
