@@ -24,6 +24,7 @@ use Rattle.store_fills.specs.Filled.{IsRightFill}
 use Rattle.store_fills.specs.LastFills.{fillings_in}
 use Rattle.store_fills.specs.Sound.{Filling}
 use Rattle.turn_cell.specs.Pass.{PassView}
+use Rattle.glance_log.specs.Sightings.{Sighting}
 use Rattle.archive_store.specs.declared.finding.FoundReplay.{FoundReplay}
 use Rattle.archive_store.specs.declared.finding.FoundRequest.{FoundRequest}
 use Rattle.archive_store.specs.declared.head.Head.{Head}
@@ -36,13 +37,14 @@ use Rattle.archive_store.proofs.UnreadRows.{answer_same, refusal_is_memory}
 use Rattle.retrieval.specs.FilledAnswer.{IsFilledAnswer}
 use Rattle.retrieval.specs.declared.found_asks.FoundAsk.{FoundAsk}
 use Rattle.retrieval.specs.declared.found_asks.FoundAsk.TheVariants as looked_up
+use Rattle.store_shelf.specs.declared.kept.Kept.{Kept}
 use Rattle.live_archive.specs.GoesOn.{GoesOn, HasFillOrNew}
 use Rattle.live_archive.specs.Retrievals.{IsAnswerIn, IsNotAnswered, in_force, steps_allowed}
 use Rattle.live_archive.specs.Turns.{TookTurn}
 use Rattle.live_archive.proofs.Going.{prefix_trans}
 use Rattle.live_asks.specs.declared.answered.AskAnswer.{AskAnswer}
 use Rattle.live_asks.specs.declared.answered.AskAnswer.TheVariants as answered
-use Rattle.live_asks.specs.LiveAsks.{AreFillsSince, HasCellsOf, IsAnsweredInTurn, IsAskedInTurn, OnlySees, TurnBetween, behind_ask, disk_facts, reader_view, steps_allowed_behind}
+use Rattle.live_asks.specs.LiveAsks.{AreFillsSince, HasCellsOf, IsAnsweredInTurn, IsAsked, IsAskedInTurn, OnlySees, TurnBetween, behind_ask, disk_facts, reader_view, steps_allowed_behind}
 use Rattle.live_asks.proofs.Sees.{found_begins, found_is_seen, sees_turn, turn_between}
 
 -- the steps that were counted before are among those that are allowed
@@ -94,7 +96,7 @@ module _ {D T : Type 0} (device : Device D) (first : StoreView D) (old new : Pas
   }
 
   -- one that takes none
-  pub replay_asked : (taken : ℕ) (found : FoundReplay) (result : Result AskAnswer Refusal) → OnlySees old new
+  replay_asked : (taken : ℕ) (found : FoundReplay) (result : Result AskAnswer Refusal) → OnlySees old new
       → IfOk result (IsAnsweredInTurn (disk_facts device first.opened) (filled_of first) old.history.seen new.history.seen (looked_up.Replay found)) → IfErr result (λ refusal. refusal ≡ OutOfMemory)
       → IsAskedInTurn device first (reader_view old taken) (reader_view new taken) (looked_up.Replay found) result
   replay_asked taken found (Ok answer) sees is refused = record {
@@ -110,6 +112,13 @@ module _ {D T : Type 0} (device : Device D) (first : StoreView D) (old new : Pas
     steps = at_least (record first { history = is.over; fills = old.fills.seen }) (looked_up.Replay found) taken;
   }
   replay_asked taken found (Err refusal) sees is refused = unasked taken (looked_up.Replay found) refusal sees refused
+
+  -- the same, whether or not there is a glance
+  pub replay_is_asked : (glance : Option (Sighting (Kept D))) (taken : ℕ) (found : FoundReplay) (result : Result AskAnswer Refusal) → OnlySees old new
+      → IfOk result (IsAnsweredInTurn (disk_facts device first.opened) (filled_of first) old.history.seen new.history.seen (looked_up.Replay found)) → IfErr result (λ refusal. refusal ≡ OutOfMemory)
+      → IsAsked device first glance (reader_view old taken) (reader_view new taken) (looked_up.Replay found) result
+  replay_is_asked glance taken found (Ok answer) sees is refused = inr (replay_asked taken found (Ok answer) sees is refused)
+  replay_is_asked glance taken found (Err refusal) sees is refused = replay_asked taken found (Err refusal) sees is refused
 
   -- ---- values
   module _ (found : FoundRequest) (taken taken' : ℕ) where
@@ -163,7 +172,7 @@ module _ {D T : Type 0} (device : Device D) (first : StoreView D) (old new : Pas
       pub retrieval_answers : (answer : Answer) → Retrieves (Ok answer) → IsAskedInTurn device first (reader_view old taken) (reader_view new taken') (looked_up.Values found) (Ok (answered.Values answer))
       retrieval_answers answer turn =
           let t = of_found (Ok answer) turn in
-          record { turn = found_between (Ok answer) t; said = has_cells answer t; steps = few_steps (Ok answer) t }
+          record { turn = found_between (Ok answer) t; said = inl (has_cells answer t); steps = few_steps (Ok answer) t }
 
       pub retrieval_refuses : (refusal : Refusal) → IsRequestFound (database_in first.head.mdb first.history) found → Retrieves (Err refusal)
           → IsAskedInTurn device first (reader_view old taken) (reader_view new taken') (looked_up.Values found) (Err refusal)

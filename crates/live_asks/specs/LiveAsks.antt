@@ -1,6 +1,6 @@
 -- What a reader is told of a live archive.
 use Rattle.std.specs.Prelude.{◌≡◌, ◌⊎◌, ℕ, ◌≤◌, zero, suc, List, [], ◌∷◌, length, IsTrue}
-use Rattle.std.specs.Prelude.{Option, Some, None, Result, Err, MatchResult}
+use Rattle.std.specs.Prelude.{Option, Some, None, Result, Ok, Err, MatchResult, IsSomeAnd}
 use mathlib.Core.List.{IsPrefix}
 use Rattle.arch_disk.specs.Disk.{Device}
 use Rattle.asks.specs.declared.ask.Answer.{Answer}
@@ -20,6 +20,7 @@ use Rattle.replay_merge.specs.Replay.{replay_of}
 use Rattle.store_fills.specs.Filled.{IsRightFill}
 use Rattle.store_fills.specs.Sound.{Filling, Fillings}
 use Rattle.turn_cell.specs.Pass.{PassView}
+use Rattle.glance_log.specs.Sightings.{IsFollowedBy, Sighting}
 use Rattle.archive_store.specs.declared.head.Head.{Head}
 use Rattle.archive_store.specs.Entries.{FilledArchive}
 use Rattle.archive_store.specs.Stands.{IsSoundImage}
@@ -27,7 +28,11 @@ use Rattle.archive_store.specs.StoreView.{StoreView, filled_of}
 use Rattle.retrieval.specs.FilledAnswer.{IsFilledAnswer}
 use Rattle.retrieval.specs.declared.found_asks.FoundAsk.{FoundAsk}
 use Rattle.retrieval.specs.declared.found_asks.FoundAsk.TheVariants as looked_up
+use Rattle.store_shelf.specs.declared.kept.Kept.{Kept}
+use Rattle.store_shelf.specs.Publications.{kept_of}
+use Rattle.live_archive.specs.declared.held.HeldStore.{HeldStore}
 use Rattle.live_archive.specs.Retrievals.{steps_allowed}
+use Rattle.live_archive.specs.Shelving.{IsOfLog}
 use Rattle.live_asks.specs.declared.answered.ReplayedRows.{ReplayedRows}
 use Rattle.live_asks.specs.declared.answered.AskAnswer.{AskAnswer}
 use Rattle.live_asks.specs.declared.answered.AskAnswer.TheVariants as answered
@@ -40,6 +45,20 @@ pub record OnlySees {T : Type 0} (old new : PassView Item Fill T) : Type 0 where
   pub begins : IsPrefix old.history.seen new.history.seen
   pub fills_begin : IsPrefix old.fills.seen new.fills.seen
   pub put_none : (new.history.places ≡ old.history.places) × (new.fills.places ≡ old.fills.places)
+
+-- ---- the glance
+
+-- a glance at an archive that is taken in turns has seen a publication of its log, and the history of that goes on from
+-- the first one
+pub record IsGlanceAt {D : Type 0} (first : HeldStore D) (glance : Sighting (Kept D)) : Type 0 where
+  pub log : IsOfLog first glance
+  pub kept : glance.fixed ≡ Some (kept_of first.store)
+  pub begins : IsPrefix first.store.history glance.history
+
+-- where there is a glance, it has seen the publication that it had seen, or a later one
+abbrev pub LooksOn : {X : Type 0} → Option (Sighting X) → Option (Sighting X) → Type 0
+LooksOn None new = new ≡ None
+LooksOn (Some old) new = IsSomeAnd new (IsFollowedBy old)
 
 -- ---- which asks a reader has
 
@@ -84,6 +103,16 @@ pub record HasCellsOf (facts : DiskFacts) (opened : FilledArchive) (history : Li
       × (parameter_number (database_in opened.plain.head.mdb history) request.parameter ≡ Some number)
       × (answer.cells ≡ answer_of (database_in opened.plain.head.mdb history) number request (rows_in history))
 
+-- The whole history stands behind the answer. Where the disk is known and the fills there are sound, the cells are those
+-- that the rows of the range give. It is what a glance answers.
+pub record HasRowCellsOf (facts : DiskFacts) (opened : FilledArchive) (history : List Item) (request : Request)
+    (answer : Answer) : Type 0 where
+  pub front : answer.front ≡ length history
+  pub number : ℕ
+  pub named : parameter_number (database_in opened.plain.head.mdb history) request.parameter ≡ Some number
+  pub cells : facts.known → facts.sound →
+      answer.cells ≡ answer_of (database_in opened.plain.head.mdb history) number request (rows_in history)
+
 -- the whole history stands behind the rows, which are the replay of it
 pub record HasReplayOf (head : Head) (history : List Item) (request : ReplayRequest) (replayed : ReplayedRows)
     : Type 0 where
@@ -95,13 +124,13 @@ pub record HasReplayOf (head : Head) (history : List Item) (request : ReplayRequ
 -- an ask is answered over a history
 abbrev pub AnswersOver : DiskFacts → FilledArchive → List Item → FoundAsk → AskAnswer → Type 0
 AnswersOver facts opened history (looked_up.Values found) (answered.Values answer) =
-    HasCellsOf facts opened history found.request answer
+    HasCellsOf facts opened history found.request answer ⊎ HasRowCellsOf facts opened history found.request answer
 AnswersOver facts opened history (looked_up.Replay found) (answered.Replay replayed) =
     HasReplayOf opened.plain.head history found.request replayed
 AnswersOver facts opened history ask other = ⊥
 
--- It is over the history that there was in some turn: it goes on from an old one, and the one seen last goes on from
--- it.
+-- It is over the history that there was in some turn, or that was published in one: it goes on from an old one, and the
+-- one seen last goes on from it.
 pub record IsAnsweredInTurn (facts : DiskFacts) (opened : FilledArchive) (old seen : List Item) (ask : FoundAsk)
     (answer : AskAnswer) : Type 0 where
   pub over : List Item
@@ -164,16 +193,48 @@ pub record IsAskedInTurn {D : Type 0} (device : Device D) (first : StoreView D) 
       (λ refusal. refusal ≡ OutOfMemory)
   pub steps : new.steps ≤ (behind_ask first old.steps turn.history turn.fills ask).steps
 
--- Each ask is answered in a turn behind that of the answer before, or, where there was no memory for one, those before
--- it. Together they took at most the steps that each is allowed over the lists of its turn, and so with the one that
--- isn't answered.
-abbrev pub AreAskedInTurns : {D : Type 0} → Device D → StoreView D → ReaderView → ReaderView → List FoundAsk
-    → List AskAnswer → Option Refusal → Type 0
-AreAskedInTurns device first old new [] [] None = new.steps ≤ old.steps
-AreAskedInTurns device first old new (ask ∷ asks) [] (Some refusal) =
+-- A reader's glance answered an ask, where it has one: over a history that goes on from the first one, and with which
+-- the one begins that it has seen since.
+abbrev pub IsGlanced : {D : Type 0} → Device D → StoreView D → Option (Sighting (Kept D)) → FoundAsk → AskAnswer → Type 0
+IsGlanced device first seen ask answer = IsSomeAnd seen (λ glance. IsAnsweredInTurn
+    (disk_facts device first.opened) (filled_of first) first.history glance.history ask answer)
+
+-- An ask is answered by a glance, for no step, or else in some turn.
+abbrev pub IsAsked : {D : Type 0} → Device D → StoreView D → Option (Sighting (Kept D)) → ReaderView → ReaderView
+    → FoundAsk → Result AskAnswer Refusal → Type 0
+IsAsked device first seen old new ask (Ok answer) =
+    (IsGlanced device first seen ask answer × (new.steps ≤ old.steps)) ⊎ IsAskedInTurn device first old new ask (Ok answer)
+IsAsked device first seen old new ask (Err refusal) = IsAskedInTurn device first old new ask (Err refusal)
+
+-- Each ask is answered by the glance, or in a turn behind that of the answer in a turn before, or, where there was no
+-- memory for one, those before it. Together they took at most the steps that each is allowed over the lists of its turn,
+-- and so with the one that isn't answered; those by the glance took none.
+abbrev pub AreAsked : {D : Type 0} → Device D → StoreView D → Option (Sighting (Kept D)) → ReaderView → ReaderView
+    → List FoundAsk → List AskAnswer → Option Refusal → Type 0
+AreAsked device first seen old new [] [] None = new.steps ≤ old.steps
+AreAsked device first seen old new (ask ∷ asks) [] (Some refusal) =
     IsAskedInTurn device first old new ask (Err refusal)
-AreAskedInTurns device first old new (ask ∷ asks) (answer ∷ answers) refusal =
-    (turn : TurnBetween old new)
+AreAsked device first seen old new (ask ∷ asks) (answer ∷ answers) refusal =
+    (IsGlanced device first seen ask answer × AreAsked device first seen old new asks answers refusal)
+    ⊎ ((turn : TurnBetween old new)
     × AnswersOver (disk_facts device first.opened) (filled_of first) turn.history ask answer
-    × AreAskedInTurns device first (behind_ask first old.steps turn.history turn.fills ask) new asks answers refusal
-AreAskedInTurns device first old new asks answers refusal = ⊥
+    × AreAsked device first seen (behind_ask first old.steps turn.history turn.fills ask) new asks answers refusal)
+AreAsked device first seen old new asks answers refusal = ⊥
+
+-- ---- answers whose histories go on from each other
+
+-- how long the history is behind an answer
+abbrev pub front_of : AskAnswer → ℕ
+front_of (answered.Values answer) = answer.front
+front_of (answered.Replay replayed) = replayed.front
+
+-- the fronts of answers don't fall, from this one on
+abbrev pub FrontsRise : ℕ → List AskAnswer → Type 0
+FrontsRise low [] = Unit {0}
+FrontsRise low (answer ∷ answers) = (low ≤ front_of answer) × FrontsRise (front_of answer) answers
+
+-- A reader's answers are over histories that go on from each other, as those of turns do: where it has a glance, all that
+-- this has seen begins what the pass has seen, and the fronts don't fall.
+abbrev pub AreSettled : {X T : Type 0} → Option (Sighting X) → PassView Item Fill T → List AskAnswer → Type 0
+AreSettled None pass answers = Unit {0}
+AreSettled (Some glance) pass answers = IsPrefix glance.history pass.history.seen × FrontsRise 0 answers

@@ -1,5 +1,8 @@
 //! What a reader is answered.
 
+ghost use Rattle.std.specs.Prelude.{◌≡◌};
+ghost use Rattle.live_asks.specs.LiveAsks.{front_of};
+
 use arch_types::row::Rows;
 use asks::Answer;
 use item_list::Items;
@@ -16,6 +19,18 @@ pub struct ReplayedRows {
 pub enum AskAnswer {
     Values(Answer),
     Replay(ReplayedRows),
+}
+
+impl AskAnswer {
+    /// How long the history is behind it.
+    pub(crate) fn front(&self) -> u64
+        ensures { result ≡ front_of self.now }
+    {
+        match self {
+            AskAnswer::Values(answer) => answer.front,
+            AskAnswer::Replay(replayed) => replayed.front,
+        }
+    }
 }
 
 /// Such answers, in the order of their asks.

@@ -1,14 +1,15 @@
 //! The job of a reader.
 
-ghost use Rattle.std.specs.Prelude.{◌≡◌, ◌<◌, []};
+ghost use Rattle.std.specs.Prelude.{◌≡◌, ◌<◌, [], IfSome};
 ghost use Rattle.retrieval.specs.FoundAsks.{AreFound};
 ghost use Rattle.std.specs.Result.{result_err};
 ghost use Rattle.turn_cell.specs.Pass.{IsFree};
 ghost use Rattle.archive_store.specs.StoreView.{filled_of};
-ghost use Rattle.live_asks.specs.LiveAsks.{AreAnswered, AreAskedInTurns, OnlySees, disk_facts, every_fourth};
-ghost use Rattle.live_asks.specs.LiveAsks.{reader_view};
+ghost use Rattle.live_asks.specs.LiveAsks.{AreAnswered, AreAsked, IsGlanceAt, LooksOn, OnlySees};
+ghost use Rattle.live_asks.specs.LiveAsks.{disk_facts, every_fourth, reader_view};
 
 use crate::answered::AskAnswers;
+use crate::glancing::{LiveGlance, is_settled};
 use crate::turns::{Gated, answer_ask};
 use arch_disk::Disk;
 use arch_types::steps::Steps;
@@ -25,12 +26,14 @@ use std::sync::ledger::{Blank, Ledger};
 /// How many readers there may be.
 pub const READERS: usize = 4;
 
-/// A reader of a load. It is generic in the archive and the pass, so that it may go to another thread.
+/// A reader of a load. It is generic in the archive, the pass and the glance, so that it may go to another thread.
 #[derive(Drop)]
-pub struct Reader<'a, L, P, G> {
+pub struct Reader<'a, L, P, N, G> {
     pub alloc: Global,
     pub live: &'a L,
     pub pass: P,
+    /// What answers asks for values without a turn. None of an archive whose readers take turns.
+    pub glance: Option<N>,
     /// All asks, of which it has every fourth.
     pub asks: &'a [FoundAsk],
     /// How many asks others have before its first.
@@ -48,15 +51,19 @@ pub struct ReaderDone<P> {
     pub refusal: Option<Refusal>,
 }
 
-impl<'a, D: Disk + Send, G: Gate + Sync> Job for Reader<'a, Live<D>, LivePass<D>, G> {
+impl<'a, D: Disk + Send, G: Gate + Sync> Job
+    for Reader<'a, Live<D>, LivePass<D>, LiveGlance<D>, G> {
+    ghost use Rattle.std.specs.Prelude.{◌≡◌, IfSome};
     ghost use Rattle.retrieval.specs.FoundAsks.{AreFound};
     ghost use Rattle.turn_cell.specs.Pass.{IsFree};
     ghost use Rattle.archive_store.specs.StoreView.{filled_of};
-    ghost use Rattle.live_asks.specs.LiveAsks.{AreAnswered, OnlySees, disk_facts, every_fourth};
+    ghost use Rattle.live_asks.specs.LiveAsks.{AreAnswered, IsGlanceAt, OnlySees, disk_facts, every_fourth};
 
     type Done = ReaderDone<LivePass<D>>;
 
     ghost may = { λ reader. IsFree reader.live.now.cell reader.pass
+        × (reader.pass.history.seen ≡ reader.live.now.cell.first.store.history)
+        × IfSome reader.glance (IsGlanceAt reader.live.now.cell.first)
         × AreFound reader.live.now.cell.first.store.head reader.live.now.cell.first.store.history reader.asks.now };
 
     ghost did = { λ reader done. IsFree reader.live.now.cell done.pass × OnlySees reader.pass done.pass
@@ -73,9 +80,11 @@ impl<'a, D: Disk + Send, G: Gate + Sync> Job for Reader<'a, Live<D>, LivePass<D>
 fn run_counted<D: Disk, G: Gate, R: Wait, L: Ledger>(
     rt: &R,
     blank: Blank,
-    reader: Reader<'_, Live<D>, LivePass<D>, G>,
+    reader: Reader<'_, Live<D>, LivePass<D>, LiveGlance<D>, G>,
 ) -> ReaderDone<LivePass<D>>
     requires free { IsFree reader.live.now.cell reader.pass }
+    requires seen { reader.pass.history.seen ≡ reader.live.now.cell.first.store.history }
+    requires glance { IfSome reader.glance (IsGlanceAt reader.live.now.cell.first) }
     requires found { AreFound reader.live.now.cell.first.store.head reader.live.now.cell.first.store.history
         reader.asks.now }
     requires blank { (blank.name ≡ L.name) × (blank.parts ≡ L.parts) × (0 < blank.parts) }
@@ -89,12 +98,12 @@ fn run_counted<D: Disk, G: Gate, R: Wait, L: Ledger>(
         alloc,
         live,
         mut pass,
+        glance,
         asks,
         before,
         gate,
         number,
     } = reader;
-    let mut answers = AskAnswers::new(alloc);
     let mut gated = Gated {
         gate,
         number,
@@ -102,42 +111,116 @@ fn run_counted<D: Disk, G: Gate, R: Wait, L: Ledger>(
     };
     let (book, share) = blank.open::<L>();
     let mut steps = Steps::new(book, share);
-    let answer = answer_asks(
-        rt,
-        alloc,
-        live,
-        &mut pass,
-        &mut gated,
-        asks,
-        before,
-        &mut answers,
-        &mut steps,
+    let (answers, refusal) = settled_answers(
+        rt, alloc, live, &mut pass, &mut gated, glance, asks, before, &mut steps,
     );
     ReaderDone {
         pass,
         answers,
-        refusal: answer.err(),
+        refusal,
     }
 }
 
-/// Answers every fourth ask, behind so many that others have before, up to the first that isn't answered.
+/// The answers to every fourth ask, behind so many that others have before, up to the first that isn't answered, and why
+/// that isn't. Those of which a glance gave some that no turn shows are given again in turns.
+fn settled_answers<D: Disk, G: Gate, R: Wait, L: Ledger>(
+    rt: &R,
+    alloc: Global,
+    live: &Live<D>,
+    pass: &mut LivePass<D>,
+    gated: &mut Gated<'_, G>,
+    glance: Option<LiveGlance<D>>,
+    asks: &[FoundAsk],
+    before: usize,
+    steps: &mut Steps<L>,
+) -> (AskAnswers, Option<Refusal>)
+    requires free { IsFree live.now.cell pass.old }
+    requires seen { pass.old.history.seen ≡ live.now.cell.first.store.history }
+    requires glance { IfSome glance (IsGlanceAt live.now.cell.first) }
+    requires found { AreFound live.now.cell.first.store.head live.now.cell.first.store.history asks.now }
+    ensures free { IsFree live.now.cell pass.new }
+    ensures sees { OnlySees pass.old pass.new }
+    ensures answered { AreAnswered (disk_facts D.device live.now.cell.first.store.opened)
+        (filled_of live.now.cell.first.store) pass.old.history.seen pass.new.history.seen
+        (every_fourth before asks.now) result.0 result.1 }
+{
+    let mut glance = glance;
+    let (answers, refusal) = answers_by(
+        rt,
+        alloc,
+        live,
+        pass,
+        gated,
+        &mut glance,
+        asks,
+        before,
+        steps,
+    );
+    if is_settled(rt, alloc, live, pass, gated, &glance, &answers) {
+        return (answers, refusal);
+    }
+    let mut none = None;
+    answers_by(rt, alloc, live, pass, gated, &mut none, asks, before, steps)
+}
+
+/// The same, by a glance where there is one.
+fn answers_by<D: Disk, G: Gate, R: Wait, L: Ledger>(
+    rt: &R,
+    alloc: Global,
+    live: &Live<D>,
+    pass: &mut LivePass<D>,
+    gated: &mut Gated<'_, G>,
+    glance: &mut Option<LiveGlance<D>>,
+    asks: &[FoundAsk],
+    before: usize,
+    steps: &mut Steps<L>,
+) -> (AskAnswers, Option<Refusal>)
+    requires free { IsFree live.now.cell pass.old }
+    requires glance { IfSome glance.old (IsGlanceAt live.now.cell.first) }
+    requires found { AreFound live.now.cell.first.store.head live.now.cell.first.store.history asks.now }
+    ensures free { IsFree live.now.cell pass.new }
+    ensures sees { OnlySees pass.old pass.new }
+    ensures later { LooksOn glance.old glance.new }
+    ensures asked { AreAsked D.device live.now.cell.first.store glance.new (reader_view pass.old steps.old)
+        (reader_view pass.new steps.new) (every_fourth before asks.now) result.0 result.1 }
+{
+    let mut answers = AskAnswers::new(alloc);
+    let answer = answer_asks(
+        rt,
+        alloc,
+        live,
+        pass,
+        gated,
+        glance,
+        asks,
+        before,
+        &mut answers,
+        steps,
+    );
+    (answers, answer.err())
+}
+
+/// Answers every fourth ask, up to the first that isn't answered.
 fn answer_asks<D: Disk, G: Gate, R: Wait, L: Ledger>(
     rt: &R,
     alloc: Global,
     live: &Live<D>,
     pass: &mut LivePass<D>,
     gated: &mut Gated<'_, G>,
+    glance: &mut Option<LiveGlance<D>>,
     asks: &[FoundAsk],
     before: usize,
     answers: &mut AskAnswers,
     steps: &mut Steps<L>,
 ) -> Result<(), Refusal>
     requires free { IsFree live.now.cell pass.old }
+    requires glance { IfSome glance.old (IsGlanceAt live.now.cell.first) }
     requires found { AreFound live.now.cell.first.store.head live.now.cell.first.store.history asks.now }
     requires none { answers.old ≡ [] }
     ensures free { IsFree live.now.cell pass.new }
     ensures sees { OnlySees pass.old pass.new }
-    ensures asked { AreAskedInTurns D.device live.now.cell.first.store (reader_view pass.old steps.old)
+    ensures later { LooksOn glance.old glance.new }
+    ensures asked { AreAsked D.device live.now.cell.first.store glance.new (reader_view pass.old steps.old)
         (reader_view pass.new steps.new) (every_fourth before asks.now) answers.new (result_err result) }
 {
     let mut skip = before;
@@ -147,7 +230,7 @@ fn answer_asks<D: Disk, G: Gate, R: Wait, L: Ledger>(
             continue;
         }
         skip = READERS - 1;
-        let answer = answer_ask(rt, alloc, live, pass, gated, ask, steps)?;
+        let answer = answer_ask(rt, alloc, live, pass, gated, glance, ask, steps)?;
         answers.push(answer)?;
     }
     Ok(())

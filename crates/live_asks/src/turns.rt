@@ -1,6 +1,6 @@
 //! The turns that one ask takes.
 
-ghost use Rattle.std.specs.Prelude.{◌≡◌, ◌≤◌, length, IfOk, IfErr};
+ghost use Rattle.std.specs.Prelude.{◌≡◌, ◌≤◌, length, IfOk, IfErr, IfSome};
 ghost use Rattle.refusals.specs.declared.refusal.Refusal.TheVariants.{OutOfMemory};
 ghost use Rattle.archive_store.specs.Finding.{IsReplayFound, IsRequestFound};
 ghost use Rattle.history_items.specs.Databases.{database_in};
@@ -10,9 +10,11 @@ ghost use Rattle.replay_merge.specs.Cursor.{rest_of};
 ghost use Rattle.retrieval.specs.FoundAsks.{IsAskFound};
 ghost use Rattle.retrieval.specs.declared.found_asks.FoundAsk.TheVariants as looked_up;
 ghost use Rattle.turn_cell.specs.Pass.{IsFree};
-ghost use Rattle.live_asks.specs.LiveAsks.{IsAnsweredInTurn, IsAskedInTurn, OnlySees, disk_facts, reader_view};
+ghost use Rattle.live_asks.specs.LiveAsks.{IsAnsweredInTurn, IsAsked, IsGlanceAt, LooksOn, OnlySees};
+ghost use Rattle.live_asks.specs.LiveAsks.{disk_facts, reader_view};
 
 use crate::answered::{AskAnswer, ReplayedRows};
+use crate::glancing::{LiveGlance, glanced};
 use arch_disk::Disk;
 use arch_types::row::Rows;
 use arch_types::steps::Steps;
@@ -37,54 +39,63 @@ pub(crate) struct Gated<'a, G> {
 }
 
 impl<'a, G: Gate> Gated<'a, G> {
-    fn pass(&mut self) {
+    pub(crate) fn pass(&mut self) {
         self.turn = self.turn.saturating_add(1);
         self.gate.pass(self.number, self.turn);
     }
 }
 
-/// Answers an ask that was found, over the history that there is in a turn. The one error is want of memory, since
-/// turns bring no database.
+/// Answers an ask that was found, over the history that there is in a turn, or that a glance sees. The one error is want
+/// of memory, since turns bring no database.
 pub(crate) fn answer_ask<D: Disk, G: Gate, R: Wait, L: Ledger>(
     rt: &R,
     alloc: Global,
     live: &Live<D>,
     pass: &mut LivePass<D>,
     gated: &mut Gated<'_, G>,
+    glance: &mut Option<LiveGlance<D>>,
     ask: &FoundAsk,
     steps: &mut Steps<L>,
 ) -> Result<AskAnswer, Refusal>
     requires free { IsFree live.now.cell pass.old }
+    requires glance { IfSome glance.old (IsGlanceAt live.now.cell.first) }
     requires found { IsAskFound live.now.cell.first.store.head live.now.cell.first.store.history ask.now }
     ensures free { IsFree live.now.cell pass.new }
     ensures sees { OnlySees pass.old pass.new }
-    ensures asked { IsAskedInTurn D.device live.now.cell.first.store (reader_view pass.old steps.old)
+    ensures later { LooksOn glance.old glance.new }
+    ensures asked { IsAsked D.device live.now.cell.first.store glance.new (reader_view pass.old steps.old)
         (reader_view pass.new steps.new) ask.now result }
 {
     match ask {
-        FoundAsk::Values(found) => values(rt, alloc, live, pass, gated, found, steps),
+        FoundAsk::Values(found) => values(rt, alloc, live, pass, gated, glance, found, steps),
         FoundAsk::Replay(found) => replay(rt, alloc, live, pass, gated, found),
     }
 }
 
-/// The values that a request asks for.
+/// The values that a request asks for: those that a glance sees, where it has an answer, and else those in a turn.
 fn values<D: Disk, G: Gate, R: Wait, L: Ledger>(
     rt: &R,
     alloc: Global,
     live: &Live<D>,
     pass: &mut LivePass<D>,
     gated: &mut Gated<'_, G>,
+    glance: &mut Option<LiveGlance<D>>,
     found: &FoundRequest,
     steps: &mut Steps<L>,
 ) -> Result<AskAnswer, Refusal>
     requires free { IsFree live.now.cell pass.old }
+    requires glance { IfSome glance.old (IsGlanceAt live.now.cell.first) }
     requires found { IsRequestFound (database_in live.now.cell.first.store.head.mdb
         live.now.cell.first.store.history) found.now }
     ensures free { IsFree live.now.cell pass.new }
     ensures sees { OnlySees pass.old pass.new }
-    ensures asked { IsAskedInTurn D.device live.now.cell.first.store (reader_view pass.old steps.old)
+    ensures later { LooksOn glance.old glance.new }
+    ensures asked { IsAsked D.device live.now.cell.first.store glance.new (reader_view pass.old steps.old)
         (reader_view pass.new steps.new) (looked_up.Values found.now) result }
 {
+    if let Some(answer) = glanced(alloc, gated, glance, &found.request) {
+        return Ok(AskAnswer::Values(answer));
+    }
     let request = copy_of(&found.request)?;
     gated.pass();
     let answer = live.retrieve(rt, alloc, pass, request, steps)?;

@@ -30,7 +30,7 @@ may_do first g pass (Ordered.Link link source wake) fit seen none numbered = rec
   route = fit.route;
   alone = ap databases_in seen ∙ fit.alone;
 }
-may_do first g pass (Ordered.Reader before) fit seen none numbered = fit.found
+may_do first g pass (Ordered.Reader before) fit seen none numbered = (fit.found, seen)
 may_do first g pass (Ordered.Filler wakes) fit seen none numbered = tt
 
 module _ {D T S : Type 0} (device : Device D) (state : S → SourceState) (first : StoreView D) (g : JobSetting) where

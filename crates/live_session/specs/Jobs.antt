@@ -63,7 +63,8 @@ received_by setting link pass = receiving setting.head pass.history.seen setting
 -- a job may do what it is to do
 abbrev pub MayDo : {D T S : Type 0} → StoreView D → JobSetting → PassView Item Fill T → Order S → Type 0
 MayDo first setting pass (Ordered.Link link source wake) = CanSend first (received_by setting link pass) pass
-MayDo first setting pass (Ordered.Reader before) = AreFound first.head first.history setting.asks
+MayDo first setting pass (Ordered.Reader before) =
+    AreFound first.head first.history setting.asks × (pass.history.seen ≡ first.history)
 MayDo first setting pass (Ordered.Filler wakes) = Unit {0}
 
 -- ---- what comes of them

@@ -1,6 +1,6 @@
 //! A job of a session.
 
-ghost use Rattle.std.specs.Prelude.{◌≡◌};
+ghost use Rattle.std.specs.Prelude.{◌≡◌, IfSome};
 ghost use Rattle.turn_cell.specs.Pass.{IsFree};
 ghost use Rattle.live_session.specs.declared.order.Order.TheVariants as Ordered;
 ghost use Rattle.live_session.specs.Jobs.{IsOutcomeOf, MayDo, job_pass, job_setting};
@@ -10,7 +10,7 @@ use arch_disk::Disk;
 use crossbeam_channel::{Receiver, Sender};
 use jobs::Job;
 use live_archive::{Live, LivePass};
-use live_asks::{Reader, ReaderDone};
+use live_asks::{LiveGlance, Reader, ReaderDone};
 use live_fills::{Filler, FillerDone};
 use load_jobs::{Link, LinkDone, Reception, run_link};
 use outer_traits::gate::Gate;
@@ -18,12 +18,15 @@ use outer_traits::source::Source;
 use std::alloc::Global;
 use std::sync::Wait;
 
-/// A job of a session, with its pass. It is generic in the archive and the pass, so that it may go to another thread.
+/// A job of a session, with its pass. It is generic in the archive, the pass and the glance, so that it may go to another
+/// thread.
 #[derive(Drop)]
-pub(crate) struct SessionJob<'a, L, P, S, G> {
+pub(crate) struct SessionJob<'a, L, P, N, S, G> {
     pub(crate) alloc: Global,
     pub(crate) live: &'a L,
     pub(crate) pass: P,
+    /// That of a reader which needs no turn for values.
+    pub(crate) glance: Option<N>,
     pub(crate) setting: &'a Setting<'a, G>,
     pub(crate) order: Order<S>,
     /// Its number among the jobs, from 1.
@@ -38,10 +41,14 @@ pub(crate) struct SessionJobDone<P, S> {
 }
 
 impl<'a, D: Disk + Send, S: Source + Send + Drop, G: Gate + Sync> Job
-    for SessionJob<'a, Live<D>, LivePass<D>, S, G> {
+    for SessionJob<'a, Live<D>, LivePass<D>, LiveGlance<D>, S, G> {
+    ghost use Rattle.std.specs.Prelude.{IfSome};
+    ghost use Rattle.live_asks.specs.LiveAsks.{IsGlanceAt};
+
     type Done = SessionJobDone<LivePass<D>, S>;
 
-    ghost may = { λ job. IsFree job.live.now.cell job.pass × MayDo job.live.now.cell.first.store
+    ghost may = { λ job. IsFree job.live.now.cell job.pass × IfSome job.glance (IsGlanceAt job.live.now.cell.first)
+        × MayDo job.live.now.cell.first.store
         (job_setting job.setting.now.head.now job.setting.now.graph.now job.setting.now.moment job.setting.now.asks.now)
         job.pass job.order };
 
@@ -55,6 +62,7 @@ impl<'a, D: Disk + Send, S: Source + Send + Drop, G: Gate + Sync> Job
             alloc,
             live,
             pass,
+            glance,
             setting,
             order,
             number,
@@ -69,7 +77,7 @@ impl<'a, D: Disk + Send, S: Source + Send + Drop, G: Gate + Sync> Job
         match order {
             Order::Link { link, source, wake } => run_link_job(rt, worker, link, source, wake),
             Order::Reader { before } => {
-                let done = worker.into_reader(before).run(rt);
+                let done = worker.into_reader(glance, before).run(rt);
                 SessionJobDone::of_reader(done)
             }
             Order::Filler { wakes } => {
@@ -115,8 +123,9 @@ struct Worker<'a, L, P, G> {
 }
 
 impl<'a, L, P, G> Worker<'a, L, P, G> {
-    fn into_reader(self, before: usize) -> Reader<'a, L, P, G>
+    fn into_reader<N>(self, glance: Option<N>, before: usize) -> Reader<'a, L, P, N, G>
         ensures own { (result.live.now ≡ self.entry.live.now) × (result.pass ≡ self.entry.pass) }
+        ensures glance { result.glance ≡ glance }
         ensures asks { (result.asks.now ≡ self.entry.setting.now.asks.now) × (result.before ≡ before) }
     {
         let Worker {
@@ -130,6 +139,7 @@ impl<'a, L, P, G> Worker<'a, L, P, G> {
             alloc,
             live,
             pass,
+            glance,
             asks: setting.asks,
             before,
             gate: setting.gate,

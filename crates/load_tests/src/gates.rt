@@ -6,7 +6,7 @@ use std::thread;
 
 /// How often a job that is held lets others run before it goes on to no avail. It is so often that a machine that is busy
 /// with other work doesn't end the wait: only a load whose jobs don't run beside each other waits to its end.
-const YIELDS: u32 = 100_000_000;
+pub(crate) const YIELDS: u32 = 100_000_000;
 
 /// Which call of which job is held, and until which call of which other.
 #[derive(Clone, Copy)]

@@ -14,6 +14,10 @@ mod gate_tests;
 #[cfg(test)]
 mod gates;
 #[cfg(test)]
+mod glance_tests;
+#[cfg(test)]
+mod held_disk;
+#[cfg(test)]
 mod piece_tests;
 #[cfg(test)]
 mod repeating;

@@ -1,7 +1,7 @@
 use Rattle.std.proofs.Common.{drop}
 use Rattle.retrieval.specs.FoundAsks.{AreFound}
 use Rattle.turn_cell.specs.Pass.{IsFree}
-use Rattle.live_asks.specs.LiveAsks.{OnlySees, every_fourth, reader_view}
+use Rattle.live_asks.specs.LiveAsks.{LooksOn, OnlySees, every_fourth, reader_view}
 use Rattle.live_asks.proofs.Each.{AreAskedSoFar}
 use Rattle.live_asks.proofs.reader.answer_asks.Given as goal
 
@@ -9,6 +9,7 @@ abbrev pub invariant-loop-ask : goal.invariant-loop-ask
 invariant-loop-ask g l = record {
   free : IsFree l.live.cell l.pass;
   sees : OnlySees l.fn.pass l.pass;
+  looks : LooksOn l.fn.glance l.glance;
   found : AreFound l.live.cell.first.store.head l.live.cell.first.store.history (drop l.ask-index l.asks);
-  asked : AreAskedSoFar g.D.Disk.device l.live.cell.first.store (reader_view l.fn.pass l.fn.steps) (reader_view l.pass l.steps) (every_fourth l.before l.asks) (drop l.ask-index l.asks) l.skip l.answers;
+  asked : AreAskedSoFar g.D.Disk.device l.live.cell.first.store l.glance (reader_view l.fn.pass l.fn.steps) (reader_view l.pass l.steps) (every_fourth l.before l.asks) (drop l.ask-index l.asks) l.skip l.answers;
 }

@@ -1,8 +1,17 @@
+use Rattle.std.proofs.Common.{inl, inr, arith}
 use Rattle.std.proofs.lemmas.Result.{err_from_is_err_and}
 use Rattle.retrieval.specs.declared.found_asks.FoundAsk.TheVariants as looked_up
 use Rattle.live_asks.proofs.Asking.{retrieval_answers, retrieval_refuses, retrieval_sees, unasked}
+use Rattle.live_asks.proofs.Looking.{glance_answers}
 use Rattle.live_asks.proofs.Sees.{sees_same}
 use Rattle.live_asks.proofs.turns.values.Goals as goal
+
+pub returns-in-Some-clause-sees : goal.returns-in-Some-clause-sees
+returns-in-Some-clause-sees g c = sees_same c.args.pass.now
+
+pub returns-in-Some-clause-asked : goal.returns-in-Some-clause-asked
+returns-in-Some-clause-asked g c =
+    inl (glance_answers c.args.live.now.cell.first g.D.Disk.device c.args.found.now c.in-Some.answer c.args.glance.now c.glanced.new.glance c.requires.glance c.glanced.ensures.later c.in-Some.ensures.answered, omega arith)
 
 pub returns-in_err-request-clause-sees : goal.returns-in_err-request-clause-sees
 returns-in_err-request-clause-sees g c = sees_same c.args.pass.now
@@ -29,5 +38,5 @@ returns-clause-sees g c =
 
 pub returns-clause-asked : goal.returns-clause-asked
 returns-clause-asked g c =
-    retrieval_answers g.D.Disk.device c.args.live.now.cell.first.store c.args.pass.now c.retrieve.new.pass c.args.found.now c.args.steps.now c.retrieve.new.steps c.in_ok-request.request c.in_ok-request.ensures
-    c.in_ok-answer.answer c.in_ok-answer.ensures.turn
+    inr (retrieval_answers g.D.Disk.device c.args.live.now.cell.first.store c.args.pass.now c.retrieve.new.pass c.args.found.now c.args.steps.now c.retrieve.new.steps c.in_ok-request.request c.in_ok-request.ensures
+    c.in_ok-answer.answer c.in_ok-answer.ensures.turn)

@@ -4,7 +4,8 @@ use Rattle.turn_passes.proofs.Joining.{all_push, halved}
 use Rattle.live_session.specs.Jobs.{IsNumbered, job_setting}
 use Rattle.live_session.proofs.Coming.{may_do}
 use Rattle.live_session.proofs.Lists.{all_made, all_none, left_more, no_items, none_left}
-use Rattle.live_session.proofs.Making.{given_seen_is, lasts, none_split, one_split}
+use Rattle.live_asks.specs.LiveAsks.{IsGlanceAt}
+use Rattle.live_session.proofs.Making.{given_seen_is, glance_taken, lasts, none_split, one_split}
 use Rattle.live_session.proofs.running.make_jobs.Goals as goal
 
 pub loop-order-init : goal.loop-order-init
@@ -21,6 +22,7 @@ loop-order-init g c =
       capacity = refl;
       share = let last = c.requires.share in let e : length c.into_iter-order-iterator.result.rest.items ≡ vec_len c.args.orders = omega (arith, many, ordered) in subst (λ (n : ℕ). 2 ^ n ≤ c.args.pass.now.share) (sym e) last;
       numbered = subst (AllByRecursion IsNumbered) (sym gives) c.requires.numbered;
+      glances = c.requires.glances;
       here = all_none _ c.args.jobs.now.items c.requires.none;
       may = all_none _ c.args.jobs.now.items c.requires.none;
       split = none_split (λ job. job.pass) c.args.pass.now c.args.jobs.now.items c.requires.none;
@@ -42,6 +44,7 @@ loop-order-preserved g c =
     let sees = given_seen_is c.args.pass.now c.loop-order.pass c.split-own.result inv.split.same.0 c.split-own.ensures.given in
     let numbered = subst (AllByRecursion IsNumbered) step inv.numbered in
     let setting = c.args.setting.now in
+    let taken = glance_taken (IsGlanceAt c.args.live.now.cell.first) c.loop-order.glances c.glance_for-glance.new.glances c.glance_for-glance.result c.glance_for-glance.ensures inv.glances in
     record {
       free = c.split-own.ensures.free.0;
       left = left_more (λ job. job.order) _ _ _ c.in-Some.order c.loop-order.order-iterator.rest.items rest c.args.orders.items is refl step inv.left;
@@ -49,9 +52,11 @@ loop-order-preserved g c =
       capacity = c.push_reserved.ensures.capacity ∙ inv.capacity;
       share = subst (λ (s : ℕ). 2 ^ length rest ≤ s) (sym kept) half;
       numbered = numbered.1;
+      glances = taken.1;
       here = rw is (all_push _ _ _ inv.here (refl, refl));
       may = rw is (all_push _ _ _ inv.may (
         c.split-own.ensures.free.1,
+        taken.0,
         may_do c.args.live.now.cell.first.store (job_setting setting.head.now setting.graph.now setting.moment setting.asks.now) c.split-own.result c.in-Some.order c.requires.fit (sees.0 ∙ c.requires.seen) sees.1 numbered.0,
       ));
       split = one_split (λ job. job.pass) c.args.pass.now c.loop-order.pass c.split-own.new.pass c.split-own.result _ _ _ is refl c.split-own.ensures.kept c.split-own.ensures.given inv.split;

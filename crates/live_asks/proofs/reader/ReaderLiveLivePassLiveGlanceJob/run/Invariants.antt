@@ -1,4 +1,4 @@
-use Rattle.live_asks.proofs.reader.ReaderLiveLivePassJob.run.Given as goal
+use Rattle.live_asks.proofs.reader.ReaderLiveLivePassLiveGlanceJob.run.Given as goal
 
 abbrev pub ghosts-run_counted : goal.ghosts-run_counted
 ghosts-run_counted g a = record { name = a.blank.name; parts = a.blank.parts }
