@@ -1,5 +1,5 @@
 -- The text of a load whose jobs were not refused: what it says of the history.
-use Rattle.std.proofs.Common.{◌≡◌, ◌∙◌, ◌-◌, ℕ, ℤ, suc, List, [], ◌∷◌, ◌++◌, length, Option, Some, None, inl, refl, sym, ap, subst, append_assoc}
+use Rattle.std.proofs.Common.{◌≡◌, ◌∙◌, ◌-◌, ℕ, ℤ, suc, List, [], ◌∷◌, ◌++◌, length, Option, Some, None, inl, inr, refl, sym, ap, subst, append_assoc}
 use Rattle.std.specs.Prelude.{IsTrue, unwrap_or}
 use mathlib.Core.List.{IsPrefix}
 use Rattle.arch_disk.specs.Disk.{Device}
@@ -24,7 +24,7 @@ use Rattle.archive_store.specs.Stands.{IsSoundImage}
 use Rattle.live_asks.specs.declared.answered.AskAnswer.{AskAnswer}
 use Rattle.live_asks.specs.declared.answered.AskAnswer.TheVariants as kept
 use Rattle.live_asks.specs.declared.answered.ReplayedRows.{ReplayedRows}
-use Rattle.live_asks.specs.LiveAsks.{AnswersOver, DiskFacts, HasCellsOf, HasReplayOf, IsAnsweredInTurn, disk_facts}
+use Rattle.live_asks.specs.LiveAsks.{AnswersOver, DiskFacts, HasCellsOf, HasReplayOf, HasRowCellsOf, IsAnsweredInTurn, disk_facts}
 use Rattle.live_session.specs.Outcome.{JobsOutcome, counts_of, reported_of}
 use Rattle.retrieval.specs.AnswerText.{answer_lines}
 use Rattle.retrieval.specs.declared.found_asks.FoundAsk.{FoundAsk}
@@ -88,9 +88,7 @@ module _ {D : Type 0} (device : Device D) (e : Call D) (known : IsTrue device.is
         history = over;
         later = later;
         begins = begins;
-        fillings = is.fillings;
-        since = is.since known;
-        text_is = collected_values before over is.fillings k request answer same is.filled;
+        said = inl (record { fillings = is.fillings; since = is.since known; text_is = collected_values before over is.fillings k request answer same is.filled });
         over_rows = λ sound.
             ap (λ (d : Database). answer_lines k answer.front d (unwrap_or (parameter_number d request.parameter) 0) answer.cells) (sym same)
             ∙ ap (λ (n : ℕ). answer_lines k n db number answer.cells) is.filled.front ∙ ap (λ (cells : List Cell). answer_lines k (length over) db number cells) (given (is.cells known sound));
@@ -101,6 +99,29 @@ module _ {D : Type 0} (device : Device D) (e : Call D) (known : IsTrue device.is
       given of_number =
           of_number.2 ∙ ap (λ (o : Option ℕ). answer_of (database_in head.mdb over) (unwrap_or o 0) request (rows_in over)) (sym of_number.1)
 
+  -- cells that a glance gave, by the same database
+  glanced_between : (over : List Item) (k : ℕ) (request : Request) (answer : Answer) → IsPrefix low over → IsPrefix over reached → database_in head.mdb over ≡ database_in head.mdb low → HasRowCellsOf facts before over request answer
+      → IsAnswerBetween Sound before reached k (asked.Values request) (collected_answer_text before.plain k (asked.Values request) (kept.Values answer))
+  glanced_between over k request answer later begins same is = record {
+    history = over;
+    later = later;
+    begins = begins;
+    said = inr (answer.cells, by_front);
+    over_rows = λ sound. by_front ∙ ap (λ (cells : List Cell). answer_lines k (length over) db number cells)
+        (is.cells known sound ∙ ap (λ (o : Option ℕ). answer_of db (unwrap_or o 0) request (rows_in over)) (sym is.named));
+  }
+    where
+      abbrev db : Database
+      db = database_in head.mdb over
+
+      abbrev number : ℕ
+      number = unwrap_or (parameter_number db request.parameter) 0
+
+      by_front : collected_answer_text before.plain k (asked.Values request) (kept.Values answer) ≡ answer_lines k (length over) db number answer.cells
+      by_front =
+          ap (λ (d : Database). answer_lines k answer.front d (unwrap_or (parameter_number d request.parameter) 0) answer.cells) (sym same)
+          ∙ ap (λ (n : ℕ). answer_lines k n db number answer.cells) is.front
+
   -- rows, by the packet names that there were
   rows_between : (over : List Item) (k : ℕ) (request : ReplayRequest) (replayed : ReplayedRows) → IsPrefix low over → IsPrefix over reached → names_in head.mdb over ≡ names_in head.mdb low → HasReplayOf head over request replayed
       → IsAnswerBetween Sound before reached k (asked.Replay request) (collected_answer_text before.plain k (asked.Replay request) (kept.Replay replayed))
@@ -108,9 +129,7 @@ module _ {D : Type 0} (device : Device D) (e : Call D) (known : IsTrue device.is
     history = over;
     later = later;
     begins = begins;
-    fillings = before.fillings;
-    since = λ interval. inl refl;
-    text_is = collected_replay before.plain over k request replayed same is;
+    said = inl (record { fillings = before.fillings; since = λ interval. inl refl; text_is = collected_replay before.plain over k request replayed same is });
     over_rows = λ sound. collected_replay before.plain over k request replayed same is;
   }
 
@@ -128,7 +147,8 @@ module _ {D : Type 0} (device : Device D) (e : Call D) (known : IsTrue device.is
 
       go : (ask' : FoundAsk) (answer' : AskAnswer) → AnswersOver facts before turn.over ask' answer'
           → IsAnswerBetween Sound before reached k (ask_found ask') (collected_answer_text before.plain k (ask_found ask') answer')
-      go (looked_up.Values found) (kept.Values cells) is = cells_between turn.over k found.request cells turn.later turn.begins database is
+      go (looked_up.Values found) (kept.Values cells) (inl is) = cells_between turn.over k found.request cells turn.later turn.begins database is
+      go (looked_up.Values found) (kept.Values cells) (inr is) = glanced_between turn.over k found.request cells turn.later turn.begins database is
       go (looked_up.Replay found) (kept.Replay replayed) is = rows_between turn.over k found.request replayed turn.later turn.begins names is
       go (looked_up.Values found) (kept.Replay replayed) is = absurd is
       go (looked_up.Replay found) (kept.Values cells) is = absurd is

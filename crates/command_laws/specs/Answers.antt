@@ -1,6 +1,7 @@
 -- The answers to asks over the rows of a history, whatever its fills.
-use Rattle.std.specs.Prelude.{◌≡◌, ℕ, suc, List, [], ◌∷◌, ◌++◌, length, unwrap_or, Option, Some, Result, Ok, Err}
+use Rattle.std.specs.Prelude.{◌≡◌, ◌⊎◌, ℕ, suc, List, [], ◌∷◌, ◌++◌, length, unwrap_or, Option, Some, Result, Ok, Err}
 use mathlib.Core.List.{IsPrefix}
+use Rattle.arch_types.specs.declared.cell.Cell.{Cell}
 use Rattle.asks.specs.declared.ask.Ask.{Ask}
 use Rattle.asks.specs.declared.ask.Ask.TheVariants.{Values, Replay}
 use Rattle.asks.specs.declared.ask.Request.{Request}
@@ -45,17 +46,30 @@ sheet_refusal archive (Err refusal) = Some refusal
 
 -- ---- while the history grows
 
+-- the text of the answer to an ask over a history with fills, as a query gives it: each is an archive's or a right one
+-- since
+pub record IsAnswerByFills (before : FilledArchive) (history : List Item) (k : ℕ) (ask : Ask) (text : List ℕ) : Type 0 where
+  pub fillings : Fillings (List SetRow)
+  pub since : AreFillsSince before history fillings
+  pub text_is : text ≡ ask_text before.plain.head before.plain.exponent history fillings k ask
+
+-- the text of the answer to a request is some cells behind the front of a history: what is said of the answer of a reader
+-- that takes no turn, whatever the fills
+abbrev pub HasFrontOf : Head → List Item → ℕ → Ask → List ℕ → Type 0
+HasFrontOf head history k (Values request) text =
+    let db = database_in head.mdb history in
+    let number = unwrap_or (parameter_number db request.parameter) 0 in
+    (cells : List Cell) × (text ≡ answer_lines k (length history) db number cells)
+HasFrontOf head history k (Replay request) text = ⊥
+
 -- The text of the answer to the ask with a number, over a history that goes on from that of an archive, and with which
--- a last one begins: as a query gives it over that history with fills, each of which is the archive's or a right one
--- since. Where `Sound` holds it is that of the history's rows.
+-- a last one begins: by fills, or with that front. Where `Sound` holds it is that of the history's rows.
 pub record IsAnswerBetween (Sound : Type 0) (before : FilledArchive) (last : List Item) (k : ℕ) (ask : Ask)
     (text : List ℕ) : Type 0 where
   pub history : List Item
   pub later : IsPrefix before.plain.history history
   pub begins : IsPrefix history last
-  pub fillings : Fillings (List SetRow)
-  pub since : AreFillsSince before history fillings
-  pub text_is : text ≡ ask_text before.plain.head before.plain.exponent history fillings k ask
+  pub said : IsAnswerByFills before history k ask text ⊎ HasFrontOf before.plain.head history k ask text
   pub over_rows : Sound → text ≡ ask_answer before.plain.head history k ask
 
 -- a text is those of the answers to asks, numbered from k on, each over such a history
