@@ -1,5 +1,5 @@
 -- A job more that is made.
-use Rattle.std.proofs.Common.{◌≡◌, ℕ, zero, suc, ◌+◌, ◌-◌, ◌≤◌, ◌^◌, List, [], ◌∷◌, ◌++◌, length, map, Option, Some, None, IfSome, MatchOption, refl, sym, ap, ◌∙◌, subst, arith, le_refl, pow-suc}
+use Rattle.std.proofs.Common.{◌≡◌, ℕ, zero, suc, ◌+◌, ◌-◌, ◌≤◌, ◌^◌, List, [], ◌∷◌, ◌++◌, length, map, Option, Some, None, IfSome, MatchOption, Result, Ok, Err, IfOk, refl, sym, ap, ◌∙◌, subst, arith, le_refl, pow-suc}
 use Rattle.std.specs.List.{AllByRecursion}
 use Rattle.std.specs.Prelude.{IsSomeAnd, replicate}
 use mathlib.Core.List.{IsPrefix}
@@ -81,3 +81,8 @@ pub share_lasts : (n share : ℕ) → n ≤ 63 → share ≡ 2 ^ 63 → 2 ^ n �
 share_lasts n share few is =
     let all : n + (63 - n) ≡ 63 = omega (arith, few) in
     subst (λ (s : ℕ). 2 ^ n ≤ s) (sym is) (subst (λ (m : ℕ). 2 ^ n ≤ 2 ^ m) all (power_grows n (63 - n)))
+
+-- what holds where a call isn't refused gives what follows from it there
+pub if_ok : {X E : Type 0} (r : Result X E) (P Q : X → Type 0) → ((x : X) → P x → Q x) → IfOk r P → IfOk r Q
+if_ok (Ok x) P Q gives here = gives x here
+if_ok (Err e) P Q gives here = tt

@@ -1,4 +1,5 @@
 -- That the parts of a job may go to another thread, or be shared.
+use denote.RattleType.{RattleType}
 use denote.Param.Send.{IsSend, IsSync, sendable}
 use Rattle.std.proofs.Crossing.{crosses}
 use Rattle.refusals.specs.contracts.refusal.Refusal as Refusal
@@ -8,6 +9,9 @@ use Rattle.retrieval.specs.contracts.found_asks.FoundAsk as FoundAsk
 use Rattle.stream_graph.specs.contracts.graph.Graph as Graph
 use Rattle.load_jobs.specs.contracts.ending.LinkEnd as LinkEnd
 use Rattle.load_jobs.proofs.ending.LinkEnd.TheSendSync as link_end
+use Rattle.glance_board.specs.declared.archived.Archived as archived
+use Rattle.glance.specs.contracts.reader.Glance as Glance
+use Rattle.glance.proofs.reader.Glance.TheSendSync as glance
 use Rattle.live_asks.specs.contracts.answered.AskAnswer as AskAnswer
 use Rattle.live_session.proofs.job.SessionJob.TheSendSync as job
 use Rattle.live_session.proofs.job.SessionJobDone.TheSendSync as job_done
@@ -36,4 +40,7 @@ graph_sync = search (crosses, sendable) depth 60 fits 10000
 pub ask_sync : IsSync FoundAsk.the_row
 ask_sync = search (crosses, mdb_send, mdb_sync, sendable) depth 60 fits 10000
 
-pub ruleset goes = (job.the_send, job_done.the_send, job_end.the_send, order.the_send, setting.the_sync, held_send, pass.the_send, live.the_sync, refusal_send, end_send, answer_send, head_sync, graph_sync, ask_sync, mdb_send, mdb_sync, crosses, sendable)
+pub glance_send : (X : RattleType) (stays : archived.Ghosts X.Denot) → IsSend (Glance.the_row X stays)
+glance_send X stays = search (glance.the_send, crosses, sendable) depth 60
+
+pub ruleset goes = (job.the_send, glance_send, job_done.the_send, job_end.the_send, order.the_send, setting.the_sync, held_send, pass.the_send, live.the_sync, refusal_send, end_send, answer_send, head_sync, graph_sync, ask_sync, mdb_send, mdb_sync, crosses, sendable)

@@ -1,4 +1,4 @@
-use Rattle.live_session.proofs.job.SessionJobLiveLivePassJob.run.Goals as goal
+use Rattle.live_session.proofs.job.SessionJobLiveLivePassLiveGlanceJob.run.Goals as goal
 
 pub returns-in-Reader : goal.returns-in-Reader
 returns-in-Reader g c =
