@@ -6,11 +6,13 @@
 #![tactic(auto)]
 
 #[cfg(test)]
+mod beside;
+#[cfg(test)]
+mod callers;
+#[cfg(test)]
 mod calls;
 #[cfg(test)]
 mod ends;
-#[cfg(test)]
-mod jobs;
 #[cfg(test)]
 mod parts;
 #[cfg(test)]

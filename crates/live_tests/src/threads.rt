@@ -1,13 +1,13 @@
 //! Callers in threads: two links, and a link beside a filler and a reader.
 
-ghost use Rattle.std.specs.Prelude.{◌≡◌, ◌+◌, ◌^◌, None};
-ghost use Rattle.std.specs.Thread.{IsSync};
+ghost use Rattle.std.specs.Prelude.{◌≡◌, ◌^◌, None};
 ghost use Rattle.turn_cell.specs.Pass.{IsFree};
 ghost use Rattle.live_tests.specs.Heads.{HasNames};
 
+use crate::beside::{all_three, both};
+use crate::callers::{Called, Caller, Tally, Work, ingest_hundred};
 use crate::calls::fill;
 use crate::ends::{none_other, other};
-use crate::jobs::{Tally, fill_hundred, ingest_hundred, read_hundred};
 use crate::parts::in_turns;
 use arch_disk::{Disk, MemDisk};
 use archive_store::Store;
@@ -16,7 +16,7 @@ use live_archive::{Live, LivePass};
 use std::alloc::Global;
 use std::sync::Wait;
 use std::test::Fail;
-use std::thread::{Threads, join};
+use std::thread::Threads;
 
 /// Two links in threads.
 fn links<D: Disk + Send, R: Threads + Wait + Sync>(
@@ -32,49 +32,34 @@ fn links<D: Disk + Send, R: Threads + Wait + Sync>(
     ensures share { result.0.share ≡ pass.share }
 {
     let other = live.split(&mut pass);
-    let ((mut first, tally), (second, other_tally)) = join(
-        rt,
-        || -> (LivePass<D>, Tally)
-            requires { IsSync R.row × IsFree live.now.cell pass × HasNames live.now.cell.first.store.head }
-            ensures { IsFree live.entry.now.cell result.0 × (result.0.share ≡ pass.share) }
-        { ingest_hundred(rt, alloc, live, pass, 0) },
-        || -> (LivePass<D>, Tally)
-            requires { IsSync R.row × IsFree live.now.cell other × HasNames live.now.cell.first.store.head }
-            ensures { IsFree live.entry.now.cell result.0 × (result.0.share ≡ other.share) }
-        { ingest_hundred(rt, alloc, live, other, 1_000) },
-    );
-    live.join(&mut first, second);
-    (first, tally, other_tally)
+    let first = Caller {
+        alloc,
+        live,
+        pass,
+        work: Work::Ingests { from: 0 },
+    };
+    let second = Caller {
+        alloc,
+        live,
+        pass: other,
+        work: Work::Ingests { from: 1_000 },
+    };
+    let (first, second) = both(rt, first, second);
+    let Called {
+        mut pass,
+        tally,
+        rises: _,
+    } = first;
+    let Called {
+        pass: other,
+        tally: others,
+        rises: _,
+    } = second;
+    live.join(&mut pass, other);
+    (pass, tally, others)
 }
 
-/// A filler and a reader in threads.
-fn filler_and_reader<D: Disk + Send, R: Threads + Wait + Sync>(
-    rt: &R,
-    alloc: Global,
-    live: &Live<D>,
-    filler: LivePass<D>,
-    reader: LivePass<D>,
-) -> (LivePass<D>, bool)
-    requires free { IsFree live.now.cell filler × IsFree live.now.cell reader }
-    ensures free { IsFree live.now.cell result.0 }
-    ensures share { result.0.share ≡ filler.share + reader.share }
-{
-    let (mut filler, (reader, rises)) = join(
-        rt,
-        || -> LivePass<D>
-            requires { IsSync R.row × IsFree live.now.cell filler }
-            ensures { IsFree live.entry.now.cell result × (result.share ≡ filler.share) }
-        { fill_hundred(rt, alloc, live, filler) },
-        || -> (LivePass<D>, bool)
-            requires { IsSync R.row × IsFree live.now.cell reader }
-            ensures { IsFree live.entry.now.cell result.0 × (result.0.share ≡ reader.share) }
-        { read_hundred(rt, live, reader) },
-    );
-    live.join(&mut filler, reader);
-    (filler, rises)
-}
-
-/// Both beside a link.
+/// A link, a filler and a reader in threads.
 fn three<D: Disk + Send, R: Threads + Wait + Sync>(
     rt: &R,
     alloc: Global,
@@ -89,19 +74,43 @@ fn three<D: Disk + Send, R: Threads + Wait + Sync>(
 {
     let filler = live.split(&mut pass);
     let reader = live.split(&mut pass);
-    let ((mut link, tally), (others, rises)) = join(
-        rt,
-        || -> (LivePass<D>, Tally)
-            requires { IsSync R.row × IsFree live.now.cell pass × HasNames live.now.cell.first.store.head }
-            ensures { IsFree live.entry.now.cell result.0 × (result.0.share ≡ pass.share) }
-        { ingest_hundred(rt, alloc, live, pass, 2_000) },
-        || -> (LivePass<D>, bool)
-            requires { IsSync R.row × IsFree live.now.cell filler × IsFree live.now.cell reader }
-            ensures { IsFree live.entry.now.cell result.0 × (result.0.share ≡ filler.share + reader.share) }
-        { filler_and_reader(rt, alloc, live, filler, reader) },
-    );
-    live.join(&mut link, others);
-    (link, tally, rises)
+    let link = Caller {
+        alloc,
+        live,
+        pass,
+        work: Work::Ingests { from: 2_000 },
+    };
+    let filler = Caller {
+        alloc,
+        live,
+        pass: filler,
+        work: Work::Fills,
+    };
+    let reader = Caller {
+        alloc,
+        live,
+        pass: reader,
+        work: Work::Reads,
+    };
+    let (link, (filler, reader)) = all_three(rt, link, filler, reader);
+    let Called {
+        mut pass,
+        tally,
+        rises: _,
+    } = link;
+    let Called {
+        pass: filler,
+        tally: _,
+        rises: _,
+    } = filler;
+    let Called {
+        pass: reader,
+        tally: _,
+        rises,
+    } = reader;
+    live.join(&mut pass, filler);
+    live.join(&mut pass, reader);
+    (pass, tally, rises)
 }
 
 /// What is otherwise than it has to be behind two links, and behind a link with a filler and a reader.

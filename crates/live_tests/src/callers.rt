@@ -1,4 +1,5 @@
-// What a caller does in a thread of its own: it ingests a hundred packets, fills a hundred times, or reads as often.
+// What a caller does in a thread of its own: it ingests a hundred packets, fills a hundred times, or reads as often. As a
+// job each is generic in the archive and the pass, so that it may go to another thread.
 ghost use Rattle.std.specs.Prelude.{◌≡◌};
 ghost use Rattle.turn_cell.specs.Pass.{IsFree};
 ghost use Rattle.live_tests.specs.Heads.{HasNames};
@@ -7,6 +8,7 @@ use crate::calls::{fill, ingested};
 use arch_disk::Disk;
 use arch_types::inserted::Inserted;
 use intervals::Interval;
+use jobs::Job;
 use live_archive::{Live, LivePass};
 use std::alloc::Global;
 use std::sync::Wait;
@@ -99,4 +101,76 @@ pub(crate) fn read_hundred<D: Disk, R: Wait>(
         last = front;
     }
     (pass, rises)
+}
+
+/// A caller that has done its work.
+pub(crate) struct Called<P> {
+    pub(crate) pass: P,
+    /// What became of a link's packets.
+    pub(crate) tally: Tally,
+    /// Whether a reader's history was never shorter than before.
+    pub(crate) rises: bool,
+}
+
+/// What a caller says that isn't asked.
+const NONE: Tally = Tally {
+    next: None,
+    duplicates: 0,
+};
+
+/// What a caller does.
+#[derive(Clone, Copy)]
+pub(crate) enum Work {
+    /// It ingests the packets of a hundred seconds from a first one on.
+    Ingests { from: u64 },
+    Fills,
+    Reads,
+}
+
+/// A caller, as a job.
+pub(crate) struct Caller<'a, L, P> {
+    pub(crate) alloc: Global,
+    pub(crate) live: &'a L,
+    pub(crate) pass: P,
+    pub(crate) work: Work,
+}
+
+impl<'a, D: Disk + Send> Job for Caller<'a, Live<D>, LivePass<D>> {
+    type Done = Called<LivePass<D>>;
+
+    ghost may = { λ job. IsFree job.live.now.cell job.pass × HasNames job.live.now.cell.first.store.head };
+
+    ghost did = { λ job done. IsFree job.live.now.cell done.pass × (done.pass.share ≡ job.pass.share) };
+
+    fn run<R: Wait>(self, rt: &R) -> Called<LivePass<D>> {
+        let Caller {
+            alloc,
+            live,
+            pass,
+            work,
+        } = self;
+        match work {
+            Work::Ingests { from } => {
+                let (pass, tally) = ingest_hundred(rt, alloc, live, pass, from);
+                Called {
+                    pass,
+                    tally,
+                    rises: true,
+                }
+            }
+            Work::Fills => Called {
+                pass: fill_hundred(rt, alloc, live, pass),
+                tally: NONE,
+                rises: true,
+            },
+            Work::Reads => {
+                let (pass, rises) = read_hundred(rt, live, pass);
+                Called {
+                    pass,
+                    tally: NONE,
+                    rises,
+                }
+            }
+        }
+    }
 }
