@@ -4,7 +4,7 @@ use crate::calls::{NamedFile, Outside, call, none_other};
 use crate::dumps::sheets;
 use crate::held_disk::{HeldDisk, Meeting, ReadersGate};
 use crate::texts::number_behind;
-use arch_disk::MemDisk;
+use arch_disk::{Disk, MemDisk};
 use outer_traits::gate::OpenGate;
 use std::alloc::{AllocError, Global};
 use std::sync::Wait;
@@ -19,7 +19,8 @@ const FIRST: &[u8] =
 const LATER: &[u8] = b"\x08\x64\xC0\x00\x00\x05\x00\x00\x10\x62\x4D\xD3";
 
 /// Nine asks, of which the first reader has three: the first, the fifth and the last.
-const ASKS: &[u8] = b"kind,name,from,to,order,limit,names\nvalues,v,0,2000,,,\nvalues,v,0,2000,,,\nvalues,v,0,2000,,,\nvalues,v,0,2000,,,\nvalues,v,0,2000,,,\nvalues,v,0,2000,,,\nvalues,v,0,2000,,,\nvalues,v,0,2000,,,\nvalues,v,0,2000,,,\n";
+const ASKS: &[u8] =
+    b"kind,name,from,to,order,limit,names\nvalues,v,0,2000,,,\nvalues,v,0,2000,,,\nvalues,v,0,2000,,,\nvalues,v,0,2000,,,\nvalues,v,0,2000,,,\nvalues,v,0,2000,,,\nvalues,v,0,2000,,,\nvalues,v,0,2000,,,\nvalues,v,0,2000,,,\n";
 
 const FILES: [NamedFile<'static>; 5] = [
     ("tables", b"CREATE TABLE copy LIKE tm;"),
@@ -47,38 +48,32 @@ fn files_of(alloc: Global) -> Result<Vec<NamedFile<'static>>, AllocError> {
     Ok(files)
 }
 
-/// An archive of three rows, with their fill.
-fn made<R: Threads + Wait + Sync>(
+/// Whether an archive of three rows, with their fill, could be made on a disk.
+fn is_made<D: Disk + Send, R: Threads + Wait + Sync>(
     rt: &R,
     alloc: Global,
     outside: &Outside<'_>,
-) -> Option<MemDisk> {
+    disk: D,
+) -> (bool, D) {
     let create = "create parameters calibrations containers tables";
-    let disk = MemDisk::new(alloc);
+    let load = "load --route route first";
     let (created, disk) = call(rt, alloc, create, outside, disk, &OpenGate);
-    let (loaded, disk) = call(rt, alloc, "load --route route first", outside, disk, &OpenGate);
-    if created.status == 0 && loaded.status == 0 && loaded.after == 3 {
-        Some(disk)
-    } else {
-        None
-    }
+    let (loaded, disk) = call(rt, alloc, load, outside, disk, &OpenGate);
+    let is_made = created.status == 0 && loaded.status == 0 && loaded.after == 3;
+    (is_made, disk)
 }
 
-/// Whether a reader answers three asks while a link is inside its first write: its first call waits for that, and the write for its third. The link is
-/// job 1, and the reader job 2.
-fn reads_in_a_write<R: Threads + Wait + Sync>(
+/// Whether a reader answers three asks while a link is inside its first write: its first call waits for that, and the
+/// write for its third. The link is job 1, and the reader job 2.
+fn reads_in_a_write<D: Disk + Send + Drop, R: Threads + Wait + Sync>(
     rt: &R,
     alloc: Global,
     outside: &Outside<'_>,
-    disk: MemDisk,
+    disk: D,
+    meeting: &Meeting,
 ) -> bool {
-    let meeting = Meeting::new();
-    let gate = ReadersGate {
-        meeting: &meeting,
-        reader: 2,
-    };
-    let held = HeldDisk::new(disk, &meeting);
-    let (loaded, _disk) = call(rt, alloc, "load --ask nine later", outside, held, &gate);
+    let gate = ReadersGate { meeting, reader: 2 };
+    let (loaded, _disk) = call(rt, alloc, "load --ask nine later", outside, disk, &gate);
     let front = number_behind(loaded.text.as_slice(), b"ask 1 front ");
     loaded.status == 0 && loaded.after == 4 && front == Some(3) && meeting.have_met()
 }
@@ -93,10 +88,13 @@ fn other<R: Threads + Wait + Sync>(
         files: files.as_slice(),
         reads: &[],
     };
-    let Some(disk) = made(rt, alloc, &outside) else {
+    let (is_made, disk) = is_made(rt, alloc, &outside, MemDisk::new(alloc));
+    if !is_made {
         return Ok(Some("the archive"));
-    };
-    if !reads_in_a_write(rt, alloc, &outside, disk) {
+    }
+    let meeting = Meeting::new();
+    let held = HeldDisk::new(disk, &meeting);
+    if !reads_in_a_write(rt, alloc, &outside, held, &meeting) {
         return Ok(Some("the reader"));
     }
     Ok(None)
