@@ -1,0 +1,2 @@
+pub mod SealedOnce
+pub mod NamedFiles

@@ -1,0 +1,3 @@
+pub mod SealFiles
+pub mod Below
+pub mod Laws
