@@ -3,3 +3,4 @@ pub mod Positions
 pub mod HistoryMarks
 pub mod Summing
 pub mod Told
+pub mod OrderBlind
