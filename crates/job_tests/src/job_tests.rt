@@ -80,7 +80,8 @@ fn ends_of_two<R: Threads + Wait + Sync>(rt: &R, alloc: Global) -> Result<Vec<Me
         here: &second,
         there: &first,
     });
-    Ok(run_all(rt, jobs, done))
+    run_all(rt, &mut jobs, &mut done);
+    Ok(done)
 }
 
 /// Each of two jobs goes on while the other waits for it, and they come back in their order.
