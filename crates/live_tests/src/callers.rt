@@ -5,6 +5,7 @@ ghost use Rattle.turn_cell.specs.Pass.{IsFree};
 ghost use Rattle.live_tests.specs.Heads.{HasNames};
 
 use crate::calls::{fill, ingested};
+use crate::parts::packet_octets;
 use arch_disk::Disk;
 use arch_types::inserted::Inserted;
 use intervals::Interval;
@@ -58,7 +59,13 @@ pub(crate) fn ingest_hundred<D: Disk, R: Wait>(
         duplicates: 0,
     };
     for i in 0..100 {
-        let outcome = ingested(rt, alloc, live, &mut pass, from.wrapping_add(i));
+        let outcome = ingested(
+            rt,
+            alloc,
+            live,
+            &mut pass,
+            &packet_octets(from.wrapping_add(i)),
+        );
         tally = tallied(tally, outcome);
     }
     (pass, tally)

@@ -32,20 +32,20 @@ fn outcome_of(ingested: &Ingested) -> Option<Inserted> {
     }
 }
 
-/// What becomes of the packet of a second.
+/// What becomes of the packet that octets begin with.
 pub(crate) fn ingested<D: Disk, R: Wait>(
     rt: &R,
     alloc: Global,
     live: &Live<D>,
     pass: &mut LivePass<D>,
-    second: u64,
+    octets: &[u8],
 ) -> Option<Inserted>
     requires free { IsFree live.now.cell pass.old }
     requires names { HasNames live.now.cell.first.store.head }
     ensures free { IsFree live.now.cell pass.new }
     ensures share { pass.new.share ≡ pass.old.share }
 {
-    let batch = batch(alloc, second)?;
+    let batch = batch(alloc, octets)?;
     match live.ingest(rt, alloc, pass, &batch) {
         Ok(ingested) => outcome_of(&ingested),
         Err(_) => None,
@@ -118,6 +118,27 @@ pub(crate) fn installed<D: Disk, R: Wait>(
     }
 }
 
+/// What becomes of the next fill, where a packet comes while it is in flight; and of the packet.
+pub(crate) fn fill_across<D: Disk, R: Wait>(
+    rt: &R,
+    alloc: Global,
+    live: &Live<D>,
+    filler: &mut LivePass<D>,
+    link: &mut LivePass<D>,
+    octets: &[u8],
+) -> (Option<Inserted>, Option<Installed>)
+    requires free { IsFree live.now.cell filler.old × IsFree live.now.cell link.old }
+    requires names { HasNames live.now.cell.first.store.head }
+    ensures free { IsFree live.now.cell filler.new × IsFree live.now.cell link.new }
+    ensures share { (filler.new.share ≡ filler.old.share) × (link.new.share ≡ link.old.share) }
+{
+    let Some(filled) = built(rt, alloc, live, filler) else {
+        return (None, None);
+    };
+    let outcome = ingested(rt, alloc, live, link, octets);
+    (outcome, installed(rt, alloc, live, filler, filled))
+}
+
 /// Begins the next fill, builds it and installs it.
 pub(crate) fn fill<D: Disk, R: Wait>(
     rt: &R,
@@ -153,8 +174,8 @@ pub(crate) fn gives_up<D: Disk, R: Wait>(
     }
 }
 
-/// The values of `v` from second 0 on.
-fn request(alloc: Global) -> Option<Request> {
+/// The values of `v` in the first thousand seconds.
+pub(crate) fn request(alloc: Global) -> Option<Request> {
     match Name::copy_of(alloc, b"v") {
         Ok(parameter) => Some(Request {
             parameter,

@@ -1,5 +1,6 @@
 // What the tests are made of: a head, packets, batches of one packet, and an archive in turns.
 ghost use Rattle.std.specs.Prelude.{◌≡◌, ◌<◌, ◌≤◌, ◌^◌, List, None, false, length, IfOk, IfSome, pos};
+ghost use Rattle.std.specs.List.{AllByRecursion};
 ghost use Rattle.arch_types.specs.Packet.{IsPacket, is_idle};
 ghost use Rattle.field_codec.specs.declared.entry.Entry.TheVariants as entries;
 ghost use Rattle.field_codec.specs.Entries.{IsArchiveEntry};
@@ -7,6 +8,7 @@ ghost use Rattle.history_items.specs.declared.items.Item.{Item};
 ghost use Rattle.archive_store.specs.declared.head.Head.{Head as HeadOf};
 ghost use Rattle.archive_store.specs.Batches.{IsArrival, IsBatch};
 ghost use Rattle.turn_cell.specs.Pass.{IsFree};
+ghost use Rattle.live_archive.specs.Shelving.{IsOfLog};
 ghost use Rattle.live_tests.specs.Heads.{HasNames};
 
 use arch_disk::Disk;
@@ -14,10 +16,11 @@ use arch_types::octets::Octets;
 use arch_types::tables::PacketTables;
 use archive_store::{Arrival, Arrivals, Batch, Head, Store, received_row};
 use field_codec::{Entry, read_entry};
-use live_archive::{Live, LivePass};
+use live_archive::{Live, LiveGlances, LivePass};
 use space_packet::dump::first_packet;
 use space_packet::header::is_idle_packet;
 use std::alloc::Global;
+use std::sync::Wait;
 
 /// The entry of the table `tm`, the parameters `apid` (uint of 11 bits) and `v` (uint of 8 bits), and the container
 /// `HDR`, which has them at the bits 5 and 96.
@@ -52,7 +55,7 @@ fn head(alloc: Global) -> Option<Head>
 }
 
 /// A packet of APID 100 at so many seconds, of which `v` is the last octet.
-fn packet_octets(second: u64) -> [u8; 13] {
+pub(crate) fn packet_octets(second: u64) -> [u8; 13] {
     let octets = second.to_be_bytes();
     [
         8, 100, 0xC0, 0, 0, 6, octets[4], octets[5], octets[6], octets[7], 0, 0, octets[7],
@@ -77,12 +80,12 @@ fn packet_of(alloc: Global, octets: &[u8]) -> Option<Octets>
     }
 }
 
-/// The packet of a second, of link 1, received at 9 s, which comes into the first table.
-fn arrival(alloc: Global, second: u64) -> Option<Arrival>
+/// The packet that octets begin with, of link 1, received at 9 s, which comes into the first table.
+fn arrival(alloc: Global, octets: &[u8]) -> Option<Arrival>
     ensures { IfSome result (λ arrival. (head : HeadOf) (history : List Item) → HasNames head →
         IsArrival head history (pos 9000) arrival) }
 {
-    let packet = packet_of(alloc, &packet_octets(second))?;
+    let packet = packet_of(alloc, octets)?;
     let mut tables = PacketTables::new();
     let row = received_row(packet, 9_000, 1, 0);
     match tables.push(0) {
@@ -92,11 +95,11 @@ fn arrival(alloc: Global, second: u64) -> Option<Arrival>
 }
 
 /// The batch of that packet, behind any history.
-pub(crate) fn batch(alloc: Global, second: u64) -> Option<Batch>
+pub(crate) fn batch(alloc: Global, octets: &[u8]) -> Option<Batch>
     ensures { IfSome result (λ batch. (head : HeadOf) (history : List Item) → HasNames head →
         IsBatch head history batch) }
 {
-    let arrival = arrival(alloc, second)?;
+    let arrival = arrival(alloc, octets)?;
     let mut arrivals = Arrivals::new(alloc);
     match arrivals.push(arrival) {
         Ok(()) => Some(Batch {
@@ -129,6 +132,26 @@ pub(crate) fn in_turns<D: Disk>(alloc: Global, disk: D) -> Result<(Live<D>, Live
 {
     let store = created(alloc, disk)?;
     match Live::new(alloc, store) {
+        Ok(made) => Ok(made),
+        Err((store, _)) => Err(store.into_disk()),
+    }
+}
+
+/// One in turns with so many glances, and the pass that has the whole share, or the disk.
+pub(crate) fn with_glances<D: Disk, R: Wait>(
+    rt: &R,
+    alloc: Global,
+    disk: D,
+    readers: u8,
+) -> Result<(Live<D>, LivePass<D>, LiveGlances<D>), D>
+    requires readers { (0 < readers) × (readers ≤ 16) }
+    ensures free { IfOk result (λ made. IsFree made.0.cell made.1) }
+    ensures share { IfOk result (λ made. made.1.share ≡ 2 ^ 63) }
+    ensures names { IfOk result (λ made. HasNames made.0.cell.first.store.head) }
+    ensures glances { IfOk result (λ made. AllByRecursion (IsOfLog made.0.cell.first) made.2) }
+{
+    let store = created(alloc, disk)?;
+    match Live::with_glances(rt, alloc, store, readers) {
         Ok(made) => Ok(made),
         Err((store, _)) => Err(store.into_disk()),
     }

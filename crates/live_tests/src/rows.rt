@@ -4,9 +4,9 @@ ghost use Rattle.std.specs.Prelude.{◌≡◌, ◌<◌, ◌^◌, None};
 ghost use Rattle.turn_cell.specs.Pass.{IsFree};
 ghost use Rattle.live_tests.specs.Heads.{HasNames};
 
-use crate::calls::{answered, built, fill, gives_up, ingested, installed};
+use crate::calls::{answered, fill, fill_across, gives_up, ingested};
 use crate::ends::{none_other, other};
-use crate::parts::in_turns;
+use crate::parts::{in_turns, packet_octets};
 use arch_disk::{Disk, MemDisk};
 use arch_types::inserted::{Inserted, Installed};
 use archive_store::Store;
@@ -15,27 +15,6 @@ use live_archive::{Live, LivePass};
 use std::alloc::Global;
 use std::sync::Wait;
 use std::test::Fail;
-
-/// What becomes of the next fill, where a packet comes while it is in flight; and of the packet.
-fn fill_across<D: Disk, R: Wait>(
-    rt: &R,
-    alloc: Global,
-    live: &Live<D>,
-    filler: &mut LivePass<D>,
-    link: &mut LivePass<D>,
-    second: u64,
-) -> (Option<Inserted>, Option<Installed>)
-    requires free { IsFree live.now.cell filler.old × IsFree live.now.cell link.old }
-    requires names { HasNames live.now.cell.first.store.head }
-    ensures free { IsFree live.now.cell filler.new × IsFree live.now.cell link.new }
-    ensures share { (filler.new.share ≡ filler.old.share) × (link.new.share ≡ link.old.share) }
-{
-    let Some(filled) = built(rt, alloc, live, filler) else {
-        return (None, None);
-    };
-    let outcome = ingested(rt, alloc, live, link, second);
-    (outcome, installed(rt, alloc, live, filler, filled))
-}
 
 /// A packet that comes by another pass makes a fill stale; the next one has both. `front` tells of it in no turn.
 fn other_of_stale<D: Disk, R: Wait>(
@@ -50,10 +29,10 @@ fn other_of_stale<D: Disk, R: Wait>(
     ensures free { IsFree live.now.cell filler.new × IsFree live.now.cell link.new }
     ensures share { (filler.new.share ≡ filler.old.share) × (link.new.share ≡ link.old.share) }
 {
-    let first = ingested(rt, alloc, live, link, 42);
+    let first = ingested(rt, alloc, live, link, &packet_octets(42));
     let front = live.front(filler);
     let late = live.is_late(rt, filler, Interval(0));
-    let (second, stale) = fill_across(rt, alloc, live, filler, link, 7);
+    let (second, stale) = fill_across(rt, alloc, live, filler, link, &packet_octets(7));
     let next_front = live.front(filler);
     let done = fill(rt, alloc, live, filler);
     let late_still = live.is_late(rt, link, Interval(0));
@@ -87,7 +66,7 @@ fn other_of_one_interval<D: Disk, R: Wait>(
     ensures free { IsFree live.now.cell first.new × IsFree live.now.cell second.new }
     ensures share { (first.new.share ≡ first.old.share) × (second.new.share ≡ second.old.share) }
 {
-    let outcome = ingested(rt, alloc, live, first, 9);
+    let outcome = ingested(rt, alloc, live, first, &packet_octets(9));
     let given_up = gives_up(rt, alloc, live, first);
     let again = gives_up(rt, alloc, live, second);
     let done = fill(rt, alloc, live, second);
