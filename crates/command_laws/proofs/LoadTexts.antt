@@ -102,25 +102,19 @@ module _ {D : Type 0} (device : Device D) (e : Call D) (known : IsTrue device.is
   -- cells that a glance gave, by the same database
   glanced_between : (over : List Item) (k : ℕ) (request : Request) (answer : Answer) → IsPrefix low over → IsPrefix over reached → database_in head.mdb over ≡ database_in head.mdb low → HasRowCellsOf facts before over request answer
       → IsAnswerBetween Sound before reached k (asked.Values request) (collected_answer_text before.plain k (asked.Values request) (kept.Values answer))
-  glanced_between over k request answer later begins same is = record {
-    history = over;
-    later = later;
-    begins = begins;
-    said = inr (answer.cells, by_front);
-    over_rows = λ sound. by_front ∙ ap (λ (cells : List Cell). answer_lines k (length over) db number cells)
-        (is.cells known sound ∙ ap (λ (o : Option ℕ). answer_of db (unwrap_or o 0) request (rows_in over)) (sym is.named));
-  }
-    where
-      abbrev db : Database
-      db = database_in head.mdb over
-
-      abbrev number : ℕ
-      number = unwrap_or (parameter_number db request.parameter) 0
-
-      by_front : collected_answer_text before.plain k (asked.Values request) (kept.Values answer) ≡ answer_lines k (length over) db number answer.cells
-      by_front =
-          ap (λ (d : Database). answer_lines k answer.front d (unwrap_or (parameter_number d request.parameter) 0) answer.cells) (sym same)
-          ∙ ap (λ (n : ℕ). answer_lines k n db number answer.cells) is.front
+  glanced_between over k request answer later begins same is =
+      let db : Database = database_in head.mdb over in
+      let number : ℕ = unwrap_or (parameter_number db request.parameter) 0 in
+      let by_front : collected_answer_text before.plain k (asked.Values request) (kept.Values answer) ≡ answer_lines k (length over) db number answer.cells =
+      ap (λ (d : Database). answer_lines k answer.front d (unwrap_or (parameter_number d request.parameter) 0) answer.cells) (sym same)
+      ∙ ap (λ (n : ℕ). answer_lines k n db number answer.cells) is.front in record {
+        history = over;
+        later = later;
+        begins = begins;
+        said = inr (answer.cells, by_front);
+        over_rows = λ sound. by_front ∙ ap (λ (cells : List Cell). answer_lines k (length over) db number cells)
+            (is.cells known sound ∙ ap (λ (o : Option ℕ). answer_of db (unwrap_or o 0) request (rows_in over)) (sym is.named));
+      }
 
   -- rows, by the packet names that there were
   rows_between : (over : List Item) (k : ℕ) (request : ReplayRequest) (replayed : ReplayedRows) → IsPrefix low over → IsPrefix over reached → names_in head.mdb over ≡ names_in head.mdb low → HasReplayOf head over request replayed
