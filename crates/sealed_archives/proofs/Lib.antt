@@ -1,2 +1,3 @@
 pub mod SealedOnce
 pub mod NamedFiles
+pub mod SealMoments

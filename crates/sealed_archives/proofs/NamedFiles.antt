@@ -51,8 +51,15 @@ all_below low (y ∷ xs) f x rising is =
     (λ more. all_below y xs f x parts.1 more)
     (first_or y x xs is)
 
+-- all are above the number that they rise from
+pub above_all : (low : ℕ) (xs : List ℕ) (x : ℕ) → are_rising low xs ≡ true → Contains xs x → low < x
+above_all low [] x rising is = absurd (omega (arith, is.1))
+above_all low (y ∷ xs) x rising is =
+    let parts = rising_parts low y xs rising in
+    ⊎_elim (λ same. omega (arith, same, parts.0)) (λ more. omega (arith, parts.0, above_all y xs x parts.1 more)) (first_or y x xs is)
+
 -- the files of a seal but its log
-abbrev files_before_log : Seal → List ℕ
+abbrev pub files_before_log : Seal → List ℕ
 files_before_log seal = map (λ run. run.file) seal.runs ++ seal.fills ∷ []
 
 -- those of seals but the last log
@@ -60,7 +67,7 @@ abbrev front_of : List Seal → Seal → List ℕ
 front_of [] last = files_before_log last
 front_of (s ∷ earlier) last = files_named s ++ front_of earlier last
 
-log_last : (s : Seal) → files_named s ≡ files_before_log s ++ s.log ∷ []
+pub log_last : (s : Seal) → files_named s ≡ files_before_log s ++ s.log ∷ []
 log_last s = sym (append_assoc (map (λ (run : SealedRun). run.file) s.runs) (s.fills ∷ []) (s.log ∷ []))
 
 named_is : (earlier : List Seal) (last : Seal) → files_of_seals (earlier ++ last ∷ []) ≡ front_of earlier last ++ last.log ∷ []
@@ -81,7 +88,7 @@ module _ (c d : Image) where
       )
 
   -- a seal's own files
-  seal_same : (s : Seal) (rows : List (List Placed)) (fills : List StoredFill) → ((file : ℕ) → Contains (files_before_log s) file → d file ≡ c file) → HaveRuns c s.runs rows → HasFills c s fills → HaveRuns d s.runs rows × HasFills d s fills
+  pub seal_same : (s : Seal) (rows : List (List Placed)) (fills : List StoredFill) → ((file : ℕ) → Contains (files_before_log s) file → d file ≡ c file) → HaveRuns c s.runs rows → HasFills c s fills → HaveRuns d s.runs rows × HasFills d s fills
   seal_same s rows fills same runs added =
       let files = map (λ (r : SealedRun). r.file) s.runs in (
         runs_same s.runs rows (λ file is. same file (Contains-append_left files (s.fills ∷ []) file is)) runs,

@@ -35,7 +35,8 @@ rows_of_parts parts = flat_map rows_of_part parts
 abbrev pub behind_positions : List Placed → List (ℕ × Row)
 behind_positions placed = map (λ at. (at.position, at.row)) placed
 
--- Rows that runs may hold together, of the tables and packet names of an archive: no table has a key twice, and they pass no limit.
+-- Rows that runs may hold together, of the tables and packet names of an archive: no table has a key twice, and they pass
+-- no limit.
 pub record MaySeal (old : Archive) (rows : List Row) : Type 0 where
   pub history : IsHistory rows
   pub placed : AllByRecursion (IsPlaced old.head (items_of rows)) rows
@@ -70,8 +71,8 @@ fillings_of parts = fold after_fill no_fillings (flat_map (λ part. part.fills) 
 
 -- ---- archives
 
--- The parts of seals make an archive: its head is that of file 0, its rows are those of all runs, each at its position from 0 to below
--- the last seal's number, and its fills the last of the fill files. Of the rows and fills of file 0 itself nothing counts.
+-- The parts of seals make an archive: its head is that of file 0, its rows are those of all runs, each at its position from 0 to
+-- below the last seal's number, and its fills the last of the fill files. Of file 0's own rows and fills nothing counts.
 pub record PartsMake (old : Archive) (seals : List Seal) (sealed : ℕ) (parts : List Part) (made : FilledArchive) : Type 0 where
   pub rows : List Row
   pub in_order : AreInOrder (behind_positions (rows_of_parts parts)) rows

@@ -1,3 +1,4 @@
 pub mod SealFiles
 pub mod Below
 pub mod Laws
+pub mod Moments

@@ -62,7 +62,8 @@ pub record HasSeals (content : List ℕ) (before : List Entry) (all : List Seal)
 
 -- file 0 names a file
 abbrev pub Names : Image → ℕ → Type 0
-Names image file = (before : List Entry) × (all : List Seal) × HasSeals (image 0) before all × Contains (files_of_seals all) file
+Names image file =
+    (before : List Entry) × (all : List Seal) × HasSeals (image 0) before all × Contains (files_of_seals all) file
 
 -- ---- the other files
 
@@ -71,7 +72,8 @@ abbrev pub HaveRuns : Image → List SealedRun → List (List Placed) → Type 0
 HaveRuns image [] [] = Unit {0}
 HaveRuns image [] (rows ∷ more) = ⊥
 HaveRuns image (run ∷ runs) [] = ⊥
-HaveRuns image (run ∷ runs) (rows ∷ more) = IsRunFile (image run.file) run.table rows × HaveRuns image runs more
+HaveRuns image (run ∷ runs) (rows ∷ more) =
+    IsRunFile (image run.file) run.table rows × HaveRuns image runs more
 
 -- the fill file of a seal is a journal: the head of its number of rows, and these fills
 pub record HasFills (image : Image) (seal : Seal) (fills : List StoredFill) : Type 0 where
@@ -88,4 +90,5 @@ abbrev pub HaveParts : Image → List Seal → List Part → Type 0
 HaveParts image [] [] = Unit {0}
 HaveParts image [] (part ∷ parts) = ⊥
 HaveParts image (seal ∷ more) [] = ⊥
-HaveParts image (seal ∷ more) (part ∷ parts) = HaveRuns image seal.runs part.runs × HasFills image seal part.fills × HaveParts image more parts
+HaveParts image (seal ∷ more) (part ∷ parts) =
+    HaveRuns image seal.runs part.runs × HasFills image seal part.fills × HaveParts image more parts
