@@ -22,6 +22,8 @@ mod partitions_tests;
 #[cfg(test)]
 mod parts;
 #[cfg(test)]
+mod sealed_sums_tests;
+#[cfg(test)]
 mod space_packet_tests;
 #[cfg(test)]
 mod splitter_tests;

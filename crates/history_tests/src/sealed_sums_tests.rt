@@ -1,0 +1,171 @@
+//! Pages of rows that leave memory: what they come to, told by neighbours and asked by table, interval and packet name.
+
+ghost use Rattle.std.specs.Prelude.{◌<◌, ◌≤◌, IsTrue};
+ghost use Rattle.std.specs.List.{AllByRecursion};
+
+use crate::parts::none_other;
+use arch_types::key::Key;
+use arch_types::octets::Octets;
+use arch_types::row::{Row, Rows};
+use fill_tracker::FillTracker;
+use intervals::{Exponent, Interval};
+use partitions::partition::Partition;
+use sealed_sums::sums::SealedSums;
+use std::alloc::{AllocError, Global};
+use std::test::Fail;
+
+/// A row of a page: its time, its packet name, and its position in the history.
+type PageRow = (i64, u16, u64);
+
+/// A table, and the rows of a page.
+type Page = (u8, &'static [PageRow]);
+
+/// Two runs of the first table and one of the second. An interval has 4,194,304 milliseconds.
+const PAGES: &[Page] = &[
+    (
+        0,
+        &[(10, 1, 3), (20, 1, 0), (60_005, 2, 2), (5_000_000, 1, 5)],
+    ),
+    (1, &[(10, 1, 1)]),
+    (0, &[(4, 1, 4)]),
+];
+
+/// A function, so that it stands in no goal of its callers.
+fn pages() -> &'static [Page] {
+    PAGES
+}
+
+/// A row with a packet of three octets.
+fn row(alloc: Global, table: u8, time: i64, pname: u16) -> Result<Row, AllocError> {
+    Ok(Row {
+        key: Key { time, seq: 1 },
+        rectime: 9_000_000_000,
+        packet: Octets::from_slice(alloc, &[1, 2, 3])?,
+        link: 1,
+        pname,
+        table,
+    })
+}
+
+fn rows_of(alloc: Global, table: u8, page: &[PageRow]) -> Result<Rows, AllocError> {
+    let mut rows = Rows::new(alloc);
+    for (time, pname, _) in page {
+        rows.push(row(alloc, table, *time, *pname)?)?;
+    }
+    Ok(rows)
+}
+
+fn positions_of(alloc: Global, page: &[PageRow]) -> Result<Vec<u64>, AllocError> {
+    let mut positions = Vec::new(alloc);
+    for (_, _, position) in page {
+        positions.push(*position)?;
+    }
+    Ok(positions)
+}
+
+/// Whether all rows are of so many tables.
+fn are_of_tables(rows: &[Row], tables: usize) -> bool
+    ensures { IsTrue result → AllByRecursion (λ row. row.table < tables) rows.now }
+{
+    for row in rows {
+        if row.table as usize >= tables {
+            return false;
+        }
+    }
+    true
+}
+
+/// Adds a page, where it may be one.
+fn add(
+    sums: &mut SealedSums,
+    tracker: &mut FillTracker,
+    rows: &[Row],
+    positions: &[u64],
+) -> Result<bool, AllocError> {
+    let tables = sums.tables().len();
+    if rows.len() != positions.len() || rows.len() > 64 || sums.count() > 64 {
+        return Ok(false);
+    }
+    if !are_of_tables(rows, tables) {
+        return Ok(false);
+    }
+    sums.add_page(tracker, rows, positions)?;
+    Ok(true)
+}
+
+/// Whether all pages are taken.
+fn add_all(
+    alloc: Global,
+    sums: &mut SealedSums,
+    tracker: &mut FillTracker,
+    pages: &[Page],
+) -> Result<bool, AllocError> {
+    for (table, page) in pages {
+        let rows = rows_of(alloc, *table, page)?;
+        let positions = positions_of(alloc, page)?;
+        if !add(sums, tracker, rows.as_slice(), positions.as_slice())? {
+            return Ok(false);
+        }
+    }
+    Ok(true)
+}
+
+/// Whether the first two intervals have these numbers of rows, all packets these octets, and the marks these last positions.
+fn are_counted(sums: &SealedSums, tracker: &FillTracker) -> bool {
+    let counts = sums.limit_counts();
+    (sums.count(), counts.octets()) == (6, 18)
+        && (counts.rows_of(Interval(0)), counts.rows_of(Interval(1))) == (4, 1)
+        && (tracker.last(Interval(0)), tracker.last(Interval(1))) == (Some(4), Some(5))
+}
+
+/// How many rows the packet names 1 and 2 have on the first day in a table.
+fn named_rows(sums: &SealedSums, table: usize) -> (u32, u32) {
+    match sums.tables().get(table) {
+        Some(those) => {
+            let partitions = those.partitions();
+            (
+                partitions.row_count(Partition { day: 0, pname: 1 }),
+                partitions.row_count(Partition { day: 0, pname: 2 }),
+            )
+        }
+        None => (0, 0),
+    }
+}
+
+/// Whether packet name 1 has its two records in the first table.
+fn has_records(sums: &SealedSums) -> Result<bool, AllocError> {
+    let Some(those) = sums.tables().first() else {
+        return Ok(false);
+    };
+    let spans = those.spans().records(1)?;
+    match spans.as_slice() {
+        [first, second] => Ok(
+            (first.first, first.last, first.count) == (4, 20, 3)
+                && (second.first, second.last, second.count) == (5_000_000, 5_000_000, 1),
+        ),
+        _ => Ok(false),
+    }
+}
+
+fn other(alloc: Global) -> Result<Option<(&'static str, usize)>, AllocError> {
+    let mut tracker = FillTracker::new(alloc);
+    let mut sums = SealedSums::new(alloc, 2, Exponent::of_format_1())?;
+    if !add_all(alloc, &mut sums, &mut tracker, pages())? {
+        return Ok(Some(("pages", 0)));
+    }
+    if !are_counted(&sums, &tracker) {
+        return Ok(Some(("counts of all rows", 0)));
+    }
+    if (named_rows(&sums, 0), named_rows(&sums, 1)) != ((4, 1), (1, 0)) {
+        return Ok(Some(("rows of packet names", 0)));
+    }
+    if !has_records(&sums)? {
+        return Ok(Some(("records of a packet name", 0)));
+    }
+    Ok(None)
+}
+
+#[test]
+fn pages_are_summed(rt: HostRuntime) -> Result<(), Fail> {
+    none_other(other(rt.alloc())?)
+}
