@@ -20,7 +20,8 @@ pub record GoesWith (exponent table : ℕ) (interval : Interval) (partition : Pa
   pub of_interval : interval_of exponent row.key.time ≡ interval.0
   pub of_partition : partition_of row.key.time row.pname ≡ partition
 
--- rows of one table, interval and partition, how many they are, the record of their times, and their octets, of which no packet has 2^32
+-- rows of one table, interval and partition: how many they are, the record of their times, and their octets, of which no
+-- packet has 2^32
 pub record IsStretchOf (exponent : ℕ) (stretch : Stretch) (rows : List Row) : Type 0 where
   pub some : 0 < stretch.len
   pub len : stretch.len ≡ length rows

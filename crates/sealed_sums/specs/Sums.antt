@@ -14,6 +14,10 @@ pub record SumsView : Type 0 where
   pub limit_counts : LimitCountsView
   pub tables : List TableSumsView
 
+-- the same of its parts
+abbrev pub sums_view : ℕ → ℕ → LimitCountsView → List TableSumsView → SumsView
+sums_view exponent count limit_counts tables = record { exponent = exponent; count = count; limit_counts = limit_counts; tables = tables }
+
 -- the sums are those of these rows, in any order
 pub record AreSumsOf (rows : List Row) (sums : SumsView) : Type 0 where
   pub count : sums.count ≡ length rows

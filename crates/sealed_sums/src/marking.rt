@@ -32,7 +32,8 @@ pub(crate) fn mark_stretch(
 ) -> Result<(), AllocError>
     requires beside { length positions.now ≡ stretch.now.len }
     requires some { 0 < stretch.now.len }
-    ensures marks { OnOk result ((exponent : ℕ) (rows : List ARow) → IsStretchOf exponent stretch.now rows → (placed : List (ℕ × ARow)) →
+    ensures marks { OnOk result ((exponent : ℕ) (rows : List ARow) (placed : List (ℕ × ARow)) →
+        IsStretchOf exponent stretch.now rows →
         AreMarksOfPlaced exponent placed tracker.old.fills tracker.old.marks →
         AreMarksOfPlaced exponent (placed ++ zip positions.now rows) tracker.new.fills tracker.new.marks) }
     ensures fills { tracker.new.fills ≡ tracker.old.fills }

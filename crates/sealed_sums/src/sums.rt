@@ -36,13 +36,13 @@ pub struct SealedSums {
 }
 
 impl Model for SealedSums {
-    ghost use Rattle.sealed_sums.specs.Sums.{HaveRows, SumsView};
+    ghost use Rattle.sealed_sums.specs.Sums.{HaveRows, SumsView, sums_view};
 
     ghost Value = { SumsView };
 
-    ghost view = { λ s. record { exponent = s.exponent; count = s.count; limit_counts = s.limit_counts; tables = s.tables.items } };
+    ghost view = { λ s. sums_view s.exponent s.count s.limit_counts s.tables.items };
 
-    ghost invariant = { λ s. HaveRows (record { exponent = s.exponent; count = s.count; limit_counts = s.limit_counts; tables = s.tables.items }) };
+    ghost invariant = { λ s. HaveRows (sums_view s.exponent s.count s.limit_counts s.tables.items) };
 }
 
 /// So many tables without rows. The one error is want of memory.
@@ -126,8 +126,8 @@ impl SealedSums {
         Ok(())
     }
 
-    /// Adds the rows of a page, each at the position that stands beside it, and notes them in the marks. Refused for want of memory,
-    /// some of them are told, and the sums and the marks serve for nothing more.
+    /// Adds the rows of a page, each at the position that stands beside it, and notes them in the marks. Refused for want of
+    /// memory, some of them are told, and the sums and the marks serve for nothing more.
     pub fn add_page(
         &mut self,
         tracker: &mut FillTracker,
@@ -137,7 +137,8 @@ impl SealedSums {
         requires beside { length positions.now ≡ length rows.now }
         requires tables { AllByRecursion (λ row. row.table < length self.old.tables) rows.now }
         requires few { self.old.count + length rows.now ≤ row_limit limits.Rows }
-        ensures sums { OnOk result ((before : List ARow) → AreSumsOf before self.old → AreSumsOf (before ++ rows.now) self.new) }
+        ensures sums { OnOk result ((before : List ARow) → AreSumsOf before self.old →
+            AreSumsOf (before ++ rows.now) self.new) }
         ensures marks { OnOk result ((placed : List (ℕ × ARow)) →
             AreMarksOfPlaced self.old.exponent placed tracker.old.fills tracker.old.marks →
             AreMarksOfPlaced self.old.exponent (placed ++ zip positions.now rows.now) tracker.new.fills tracker.new.marks) }

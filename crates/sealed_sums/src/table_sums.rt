@@ -59,7 +59,8 @@ impl TableSums {
         requires small { (p : APartition) → rows_counted self.old.partitions.counts p + stretch.now.len < 2 ^ 32 }
         ensures sums { OnOk result ((exponent : ℕ) (before rows : List ARow) → IsStretchOf exponent stretch.now rows →
             AreTableSumsOf before self.old → AreTableSumsOf (before ++ rows) self.new) }
-        ensures kept { OnErr result ((before : List ARow) → AreTableSumsOf before self.old → AreTableSumsOf before self.new) }
+        ensures kept { OnErr result ((before : List ARow) → AreTableSumsOf before self.old →
+            AreTableSumsOf before self.new) }
     {
         self.partitions.reserve(1)?;
         self.spans.add_span(stretch.partition.pname, stretch.span)?;

@@ -6,7 +6,7 @@ use Rattle.sealed_sums.proofs.Positions.{marks_stay, placed_in, roomier}
 use Rattle.sealed_sums.proofs.marking.mark_stretch.Goals as goal
 
 pub returns-in_ok-reserve_rows-clause-marks : goal.returns-in_ok-reserve_rows-clause-marks
-returns-in_ok-reserve_rows-clause-marks c = λ e rows is placed are.
+returns-in_ok-reserve_rows-clause-marks c = λ e rows placed is are.
     let s = c.args.stretch.now in
     let old = c.args.tracker.now in
     let mid = c.reserve_rows.new.self in
@@ -15,6 +15,6 @@ returns-in_ok-reserve_rows-clause-marks c = λ e rows is placed are.
     (roomier e placed old.fills mid.fills old.marks mid.marks c.in_ok-reserve_rows.ensures.fills c.in_ok-reserve_rows.ensures.same.2 are)
 
 pub returns-else-stretch-eq-TM-clause-marks : goal.returns-else-stretch-eq-TM-clause-marks
-returns-else-stretch-eq-TM-clause-marks c = λ e rows is placed are.
+returns-else-stretch-eq-TM-clause-marks c = λ e rows placed is are.
     let other : (c.args.stretch.now.table == 0) ≡ false = grind (arith, nat_tests, c.if-stretch-eq-TM.false) in
     marks_stay e c.args.stretch.now placed c.args.positions.now rows c.args.tracker.now.fills c.args.tracker.now.marks is other are

@@ -28,6 +28,6 @@ loop-rest-preserved c =
     (taken s.len c.loop-rest.places.now part_at more_at c.split_at.ensures.front c.split_at.ensures.back)
     (omega (arith, c.split_at.ensures.front_len, c.split_at-in-loop-rest.ensures.front_len))
     (λ before are. c.in_ok-add_stretch.ensures.sums before part is are)
-    (λ placed are. c.in_ok-mark_stretch.ensures.marks c.loop-rest.self.exponent part is placed are)
+    (λ placed are. c.in_ok-mark_stretch.ensures.marks c.loop-rest.self.exponent part placed is are)
     (omega (arith, c.in_ok-add_stretch.ensures.count, is.len))
     c.add_stretch.ensures.exponent c.add_stretch.ensures.tables c.mark_stretch.ensures.fills
