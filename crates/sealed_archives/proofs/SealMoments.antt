@@ -1,24 +1,21 @@
 -- What images stand for while files above the log are written, and while a seal is appended.
-use Rattle.std.proofs.Common.{◌≡◌, ◌⊎◌, inr, ⊎_elim, ℕ, ◌<◌, List, [], ◌∷◌, ◌++◌, map, true, Some, None, refl, sym, ◌∙◌, ap, subst, arith, append_assoc}
+use Rattle.std.proofs.Common.{◌≡◌, inr, ⊎_elim, ℕ, List, [], ◌∷◌, ◌++◌, map, true, Some, None, refl, sym, ◌∙◌, ap, subst, arith, append_assoc}
 use Rattle.std.specs.Prelude.{Contains}
 use Rattle.std.proofs.lemmas.List.{map-append}
 use Rattle.std.proofs.lemmas.List.Elements.{Contains-append_left, Contains-append_right}
 use Rattle.arch_disk.specs.Image.{AgreesBut, Image}
-use Rattle.arch_disk.specs.Disk.{Device, IsOldBut, LeavesOnly}
+use Rattle.arch_disk.specs.Disk.{Device}
 use Rattle.arch_disk.proofs.Moments.{both, weakens}
-use Rattle.disk_journal.specs.Format.{HasRecords, IsBeforeOrAfter}
-use Rattle.disk_journal.specs.State.{file_of, unhealed_fault}
-use Rattle.disk_journal.specs.declared.journal.Journal.{Journal}
+use Rattle.disk_journal.specs.Format.{HasRecords}
+use Rattle.disk_journal.specs.State.{file_of}
 use Rattle.field_codec.specs.declared.entry.Entry.{Entry}
 use Rattle.field_codec.specs.Spelling.{entry_octets}
 use Rattle.seal_codec.specs.declared.seal.Seal.{Seal}
 use Rattle.seal_codec.specs.Files.{are_rising, files_named}
-use Rattle.archive_store.specs.Entries.{Applies, FilledArchive, Replays}
-use Rattle.archive_store.specs.Images.{LogInvariant}
+use Rattle.archive_store.specs.Entries.{FilledArchive, Replays}
 use Rattle.archive_store.proofs.PendingFaults.{keeps_without_fault}
-use Rattle.run_pages.specs.Placed.{Placed}
-use Rattle.sealed_archives.specs.SealFiles.{HasFills, HaveParts, HaveRuns, Part, StoredFill, files_of_seals, log_head_record, seal_record}
-use Rattle.sealed_archives.specs.Below.{IsBelow, PartsMake, StandsSealed}
+use Rattle.sealed_archives.specs.SealFiles.{HasFills, HaveParts, HaveRuns, Part, files_of_seals, log_head_record, seal_record}
+use Rattle.sealed_archives.specs.Below.{PartsMake, StandsSealed}
 use Rattle.sealed_archives.specs.Moments.{HasNewFiles, MayFollow, SealLeaves, WorkAboveLeaves}
 use Rattle.sealed_archives.proofs.NamedFiles.{above_all, files_before_log, log_last, reads_lower, seal_same}
 
