@@ -1,4 +1,4 @@
-// Tests of arch_types, block_map, command_words, load_progress, octet_fields, refusals and time_text: worked rows, vectors, each call once with ample memory, what no clause says.
+// Tests of arch_types, block_map, command_words, load_progress, octet_fields, refusals, shared_items and time_text: worked rows, vectors, each call once with ample memory, what no clause says.
 #![tactic(auto)]
 
 #[cfg(test)]
@@ -15,5 +15,7 @@ mod load_progress_tests;
 mod octet_fields_tests;
 #[cfg(test)]
 mod refusals_tests;
+#[cfg(test)]
+mod shared_items_tests;
 #[cfg(test)]
 mod time_text_tests;
