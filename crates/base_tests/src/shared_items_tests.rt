@@ -87,7 +87,10 @@ fn other_of(alloc: Global) -> Result<Option<&'static str>, AllocError> {
         ("in no order", count(&mixed) == Some(601)),
         ("blocks are full", ordered.blocks().len() == 5),
         ("a copy shares each", before == 5),
-        ("one is made anew", shared(&ordered) == 4 && copy.blocks().len() == 5),
+        (
+            "one is made anew",
+            shared(&ordered) == 4 && copy.blocks().len() == 5,
+        ),
         ("the copy has it", first_value(&copy) == Some(9)),
         ("the first has it not", first_value(&ordered) == Some(0)),
     ];
