@@ -9,13 +9,14 @@ ghost use Rattle.archive_core.specs.Replies.{RepliesToRequest};
 
 use crate::ordered::{TM, range_of};
 use crate::reply::Reply;
-use arch_types::cell::{Cell, Cells};
+use arch_types::cell::Cell;
 use arch_types::direction::Direction;
 use arch_types::row::Row;
 use arch_types::steps::Steps;
 use asks::{Answer, AskRefusal, Request, range_refusal};
 use container_extract::{Extractor, eng_of};
 use mdb_model::Mdb;
+use packed_cells::PackedCells;
 use std::alloc::{AllocError, Global};
 use std::marker::Brand;
 use std::sync::ledger::{Blank, Ledger};
@@ -92,14 +93,16 @@ fn cells_asked(
     number: u16,
     rows: &[Row],
     request: &Request,
-) -> Result<Cells, AllocError>
+) -> Result<PackedCells, AllocError>
     ensures { IfOk result (λ cells. cells ≡ answer_of mdb.now number request.now rows.now) }
 {
     let in_range = range_of(alloc, rows, TM as usize, request.from, request.to)?;
     let mut cells = cells_in::<Brand>(alloc, Blank::new(1), mdb, number, in_range.as_slice())?;
     turn(&mut cells, request.direction);
     keep_first(&mut cells, request.limit);
-    Ok(Cells::from_vec(cells))
+    let mut asked = PackedCells::new(alloc);
+    asked.extend_from_slice(&cells)?;
+    Ok(asked)
 }
 
 /// The reply to a request over a history. The one error is want of memory.

@@ -22,7 +22,7 @@ fn base_after(interval: Interval, base: Option<u64>, fill: &Fill) -> Option<u64>
             interval: done,
             base: new,
         } => { if interval == *done { Some(*new) } else { base } }
-        Fill::Begun { .. } | Fill::Freed { .. } | Fill::Fault { .. } => base,
+        Fill::Begun { .. } | Fill::Freed { .. } | Fill::Fault { .. } | Fill::Closed => base,
     }
 }
 
@@ -51,7 +51,7 @@ fn flight_after(interval: Interval, base: Option<u64>, fill: &Fill) -> Option<u6
             ..
         }
         | Fill::Freed { interval: ended } => { if interval == *ended { None } else { base } }
-        Fill::Fault { .. } => base,
+        Fill::Fault { .. } | Fill::Closed => base,
     }
 }
 

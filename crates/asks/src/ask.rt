@@ -1,9 +1,9 @@
 //! What is asked of an archive, and the answer.
 
-use arch_types::cell::Cells;
 use arch_types::direction::Direction;
 use arch_types::name::{Name, Names};
 use item_list::Items;
+use packed_cells::PackedCells;
 
 /// The values of a parameter with `from <= time < to`, in milliseconds.
 #[derive(Debug, Drop)]
@@ -32,7 +32,7 @@ pub struct ReplayRequest {
 #[derive(Debug, Drop)]
 pub struct Answer {
     pub front: u64,
-    pub cells: Cells,
+    pub cells: PackedCells,
 }
 
 /// One line of a sheet of asks.

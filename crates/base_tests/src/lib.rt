@@ -1,4 +1,4 @@
-// Tests of arch_types, block_map, command_words, load_progress, octet_fields, refusals, shared_items and time_text: worked rows, vectors, each call once with ample memory, what no clause says.
+// Tests of arch_types, block_map, command_words, load_progress, octet_fields, packed_cells, refusals, shared_items, time_text and varints: worked rows, vectors, each call once with ample memory, what no clause says.
 #![tactic(auto)]
 
 #[cfg(test)]
@@ -13,6 +13,8 @@ mod ends;
 mod load_progress_tests;
 #[cfg(test)]
 mod octet_fields_tests;
+#[cfg(test)]
+mod packed_cells_tests;
 #[cfg(test)]
 mod refusals_tests;
 #[cfg(test)]

@@ -1,11 +1,11 @@
 //! Replies as text.
 
-use arch_types::cell::Cell;
 use arch_types::inserted::{Inserted, Installed};
 use arch_types::row::Row;
 use archive_core::Reply;
 use asks::{Answer, AskRefusal};
 use intervals::Interval;
+use packed_cells::PackedCells;
 use std::alloc::{AllocError, Global};
 
 /// What became of rows: the position of each, with a `+` before it where the row is new.
@@ -32,9 +32,9 @@ fn rows_text(alloc: Global, front: u64, rows: &[Row]) -> Result<String, AllocErr
 }
 
 /// A front, and the raw number of each cell.
-fn cells_text(alloc: Global, front: u64, cells: &[Cell]) -> Result<String, AllocError> {
+fn cells_text(alloc: Global, front: u64, cells: &PackedCells) -> Result<String, AllocError> {
     let mut text = format!(in alloc; "values {front}:")?;
-    for cell in cells {
+    for cell in cells.iter() {
         let one = format!(in alloc; " {}", cell.raw)?;
         text.push_str(one.as_str())?;
     }
@@ -85,7 +85,7 @@ pub(crate) fn reply_text(alloc: Global, reply: &Reply) -> Result<String, AllocEr
         Reply::Void => String::from_str(alloc, "void"),
         Reply::Installed(installed) => installed_text(alloc, installed),
         Reply::Abandoned => String::from_str(alloc, "abandoned"),
-        Reply::Answered(Answer { front, cells }) => cells_text(alloc, *front, cells.as_slice()),
+        Reply::Answered(Answer { front, cells }) => cells_text(alloc, *front, cells),
         Reply::Replayed { front, rows } => replayed_text(alloc, *front, rows.as_slice()),
         Reply::Refused(refusal) => refusal_text(alloc, refusal),
     }

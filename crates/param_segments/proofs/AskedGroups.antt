@@ -19,7 +19,7 @@ use Rattle.segment_codec.specs.OneColumn.{column_there}
 use Rattle.segment_codec.specs.RangeColumn.{first_in}
 use Rattle.segment_codec.specs.Segment.{IsSegment}
 use Rattle.segment_codec.specs.declared.segment.Segment.{Segment}
-use Rattle.param_segments.specs.CellRange.{GoesOn, IsAskedOf, is_raw_cell_in_range, segment_at, segment_cells_in_range}
+use Rattle.param_segments.specs.CellRange.{GoesOn, IsAskedOf, is_raw_cell_in_range, segment_of_step, segment_cells_in_range}
 use Rattle.param_segments.specs.Cells.{cells_from, column_cells, segment_cells}
 use Rattle.param_segments.specs.Groups.{set_of}
 use Rattle.param_segments.specs.Rows.{AreSetRows, SetRow}
@@ -92,19 +92,19 @@ descending_first : (keys others : List Key) → AreBefore keys others → AllFir
 descending_first keys others all = swapped (λ k l. is_lt (key_cmp k l) ≡ true) keys others (ascending_first keys others all)
 
 -- a segment's keys come first in a direction where it and the next have the same parameters
-in_order : (direction : Direction) (ts : List SetRow) (step : ℕ) → AreSetRows ts → step + 1 < length (set_of ts) → (segment_at direction (set_of ts) step).parameters ≡ (segment_at direction (set_of ts) (step + 1)).parameters →
-    AllFirst direction (segment_at direction (set_of ts) step).keys (segment_at direction (set_of ts) (step + 1)).keys
-in_order Ascending ts step are lt same = ascending_first (segment_at Ascending (set_of ts) step).keys (segment_at Ascending (set_of ts) (step + 1)).keys (neighbours_in_order ts step no_segment are lt same).1
+in_order : (direction : Direction) (ts : List SetRow) (step : ℕ) → AreSetRows ts → step + 1 < length (set_of ts) → (segment_of_step direction (set_of ts) step).parameters ≡ (segment_of_step direction (set_of ts) (step + 1)).parameters →
+    AllFirst direction (segment_of_step direction (set_of ts) step).keys (segment_of_step direction (set_of ts) (step + 1)).keys
+in_order Ascending ts step are lt same = ascending_first (segment_of_step Ascending (set_of ts) step).keys (segment_of_step Ascending (set_of ts) (step + 1)).keys (neighbours_in_order ts step no_segment are lt same).1
 in_order Descending ts step are lt same =
     let ss = set_of ts in
     let i = length ss - 1 - (step + 1) in
     let next : length ss - 1 - step ≡ i + 1 = omega (arith, lt) in
     let inside : i + 1 < length ss = omega (arith, lt) in
-    let here : segment_at Descending ss step ≡ get_or ss (i + 1) no_segment = get_or-reverse ss step no_segment (omega (arith, lt)) ∙ ap (λ (k : ℕ). get_or ss k no_segment) next in
-    let there : segment_at Descending ss (step + 1) ≡ get_or ss i no_segment = get_or-reverse ss (step + 1) no_segment lt in
+    let here : segment_of_step Descending ss step ≡ get_or ss (i + 1) no_segment = get_or-reverse ss step no_segment (omega (arith, lt)) ∙ ap (λ (k : ℕ). get_or ss k no_segment) next in
+    let there : segment_of_step Descending ss (step + 1) ≡ get_or ss i no_segment = get_or-reverse ss (step + 1) no_segment lt in
     let equal : (get_or ss i no_segment).parameters ≡ (get_or ss (i + 1) no_segment).parameters = sym (ap (λ (s : Segment). s.parameters) there) ∙ sym same ∙ ap (λ (s : Segment). s.parameters) here in
     let first = descending_first (get_or ss i no_segment).keys (get_or ss (i + 1) no_segment).keys (neighbours_in_order ts i no_segment are inside equal).1 in
-    subst (λ (s : Segment). AllFirst Descending s.keys (segment_at Descending ss (step + 1)).keys) (sym here)
+    subst (λ (s : Segment). AllFirst Descending s.keys (segment_of_step Descending ss (step + 1)).keys) (sym here)
     (subst (λ (s : Segment). AllFirst Descending (get_or ss (i + 1) no_segment).keys s.keys) (sym there) first)
 
 -- ---- what a group wants
@@ -121,14 +121,14 @@ Wants direction limit asked cells s = AllByRecursion (Suffices direction limit a
 
 -- what is wanted suffices where the next segment goes on with the group
 abbrev pub WantsNext : Direction → List Segment → ℕ → ℕ → ℕ → List RawCell → Type 0
-WantsNext direction ss step limit wanted cells = step < length ss → GoesOn direction ss step → Wants direction limit wanted cells (segment_at direction ss step)
+WantsNext direction ss step limit wanted cells = step < length ss → GoesOn direction ss step → Wants direction limit wanted cells (segment_of_step direction ss step)
 
 pub wants_first : (direction : Direction) (ss : List Segment) (limit : ℕ) → WantsNext direction ss 0 limit limit []
 wants_first direction ss limit lt on = absurd (let h : 0 < 0 = on.0 in omega (arith, h))
 
-asked_suffices : (direction : Direction) (ss : List Segment) (step limit wanted asked : ℕ) (cells : List RawCell) → step < length ss → WantsNext direction ss step limit wanted cells → IsAskedOf direction ss step limit wanted asked → Wants direction limit asked cells (segment_at direction ss step)
-asked_suffices direction ss step limit wanted asked cells lt next (inl whole) = all_so (Suffices direction limit asked cells) (λ k. omega (arith, whole)) (segment_at direction ss step).keys
-asked_suffices direction ss step limit wanted asked cells lt next (inr on) = subst (λ (n : ℕ). Wants direction limit n cells (segment_at direction ss step)) (sym on.0) (next lt on.1)
+asked_suffices : (direction : Direction) (ss : List Segment) (step limit wanted asked : ℕ) (cells : List RawCell) → step < length ss → WantsNext direction ss step limit wanted cells → IsAskedOf direction ss step limit wanted asked → Wants direction limit asked cells (segment_of_step direction ss step)
+asked_suffices direction ss step limit wanted asked cells lt next (inl whole) = all_so (Suffices direction limit asked cells) (λ k. omega (arith, whole)) (segment_of_step direction ss step).keys
+asked_suffices direction ss step limit wanted asked cells lt next (inr on) = subst (λ (n : ℕ). Wants direction limit n cells (segment_of_step direction ss step)) (sym on.0) (next lt on.1)
 
 -- behind the first so many of a segment what's left of them suffices for the next of its group
 suffices_behind : (direction : Direction) (limit asked : ℕ) (cells piece : List RawCell) (y : Key) (others : List Key) → Suffices direction limit asked cells y → AllByRecursion (λ z. is_first direction y z ≡ true) others →
@@ -168,7 +168,7 @@ module _ (direction : Direction) (q : ℕ) (low high : ℤ) (ts : List SetRow) (
   all = in_direction direction (set_of ts)
 
   abbrev own : Segment
-  own = segment_at direction (set_of ts) step
+  own = segment_of_step direction (set_of ts) step
 
   abbrev piece : List RawCell
   piece = in_direction direction (segment_cells_in_range q low high own)
@@ -211,9 +211,9 @@ module _ (direction : Direction) (q : ℕ) (low high : ℤ) (ts : List SetRow) (
     wants_then lt on =
         let o = ranked direction in
         let front = take asked piece in
-        let next = segment_at direction (set_of ts) (step + 1) in
+        let next = segment_of_step direction (set_of ts) (step + 1) in
         let back : step + 1 - 1 ≡ step = omega arith in
-        let same = subst (λ (k : ℕ). (segment_at direction (set_of ts) k).parameters ≡ next.parameters) back on.1 in
+        let same = subst (λ (k : ℕ). (segment_of_step direction (set_of ts) k).parameters ≡ next.parameters) back on.1 in
         let first = in_order direction ts step are lt same in
         let F : RawCell → Type 0 = λ c. AllByRecursion (λ z. is_first direction c.key z ≡ true) next.keys in
         let of_piece : AllByRecursion F piece = cells_keep (λ k. AllByRecursion (λ z. is_first direction k z ≡ true) next.keys) direction q low high own first in
@@ -225,7 +225,7 @@ module _ (direction : Direction) (q : ℕ) (low high : ℤ) (ts : List SetRow) (
 
 -- what a step does: what it gathered is enough so far, and what is left suffices for the next of its group
 pub step_enough : (direction : Direction) (q : ℕ) (low high : ℤ) (ts : List SetRow) (step limit wanted asked : ℕ) (cells new : List RawCell) → AreSetRows ts → step < length (set_of ts) → WantsNext direction (set_of ts) step limit wanted cells →
-    IsAskedOf direction (set_of ts) step limit wanted asked → new ≡ cells ++ first_in direction (Some asked) (segment_cells_in_range q low high (segment_at direction (set_of ts) step)) →
+    IsAskedOf direction (set_of ts) step limit wanted asked → new ≡ cells ++ first_in direction (Some asked) (segment_cells_in_range q low high (segment_of_step direction (set_of ts) step)) →
     HasEnough (ranked direction) limit (flat_map (segment_cells_in_range q low high) (take step (in_direction direction (set_of ts)))) cells →
     HasEnough (ranked direction) limit (flat_map (segment_cells_in_range q low high) (take (step + 1) (in_direction direction (set_of ts)))) new × WantsNext direction (set_of ts) (step + 1) limit (asked - (length new - length cells)) new
 step_enough direction q low high ts step limit wanted asked cells new are lt next is new_is has =

@@ -47,13 +47,13 @@ segment_cells_asked q range s = first_in range.direction range.limit (segment_ce
 -- ---- the groups of a set, in a direction
 
 -- the segment so many steps into a set
-abbrev pub segment_at : Direction → List Segment → ℕ → Segment
-segment_at direction segments step = numbered_segment (in_direction direction segments) step
+abbrev pub segment_of_step : Direction → List Segment → ℕ → Segment
+segment_of_step direction segments step = numbered_segment (in_direction direction segments) step
 
 -- it's of the same group as the one a step before
 abbrev pub GoesOn : Direction → List Segment → ℕ → Type 0
 GoesOn direction segments step =
-    (0 < step) × ((segment_at direction segments (step - 1)).parameters ≡ (segment_at direction segments step).parameters)
+    (0 < step) × ((segment_of_step direction segments (step - 1)).parameters ≡ (segment_of_step direction segments step).parameters)
 
 -- how many cells it's asked for: those that its group still wants, or as many as the limit
 abbrev pub IsAskedOf : Direction → List Segment → ℕ → ℕ → ℕ → ℕ → Type 0

@@ -4,7 +4,7 @@
 ghost use Rattle.std.specs.Prelude.{◌≡◌, ◌<◌, ◌<ℤ◌, ◌++◌, List, flat_map, length, true, Some, IfOk, OnOk};
 ghost use Rattle.std.specs.List.{AllByRecursion};
 ghost use Rattle.arch_types.specs.Directions.{in_direction, truncated};
-ghost use Rattle.param_segments.specs.CellRange.{GivesFirst, IsAskedOf, as_range_asks, raw_cells_in_range, segment_at, segment_cells_asked};
+ghost use Rattle.param_segments.specs.CellRange.{GivesFirst, IsAskedOf, as_range_asks, raw_cells_in_range, segment_of_step, segment_cells_asked};
 ghost use Rattle.param_segments.specs.Groups.{set_of};
 ghost use Rattle.param_segments.specs.Octets.{IsSpelledSet, rows_in_octets};
 ghost use Rattle.param_segments.specs.RowPlaces.{numbered_segment};
@@ -124,7 +124,7 @@ fn number_at(direction: Direction, segments: usize, step: usize) -> usize
     requires { step < segments }
     ensures within { result < segments }
     ensures at { (all : List Segment) → length all ≡ segments →
-        numbered_segment all result ≡ segment_at direction all step }
+        numbered_segment all result ≡ segment_of_step direction all step }
 {
     match direction {
         Direction::Ascending => step,
@@ -142,7 +142,7 @@ fn head_at(
 ) -> Result<SegmentHead, AllocError>
     requires spelled { IsSpelledSet octets.now starts.now }
     requires within { step < length starts.now }
-    ensures { IfOk result (IsHeadOf (segment_at direction (set_of (rows_in_octets octets.now)) step)) }
+    ensures { IfOk result (IsHeadOf (segment_of_step direction (set_of (rows_in_octets octets.now)) step)) }
 {
     let number = number_at(direction, starts.len(), step);
     read_head(alloc, octets, starts[number] as usize)

@@ -9,7 +9,6 @@ ghost use Rattle.param_segments.specs.Plans.{ArePartsOver, HasValuesOf, rows_of_
 ghost use Rattle.part_answers.specs.PartCells.{answer_over_parts, answer_over_rows};
 
 use crate::part_cells::cells_over_parts;
-use arch_types::cell::Cells;
 use arch_types::steps::Steps;
 use asks::{Answer, Request};
 use param_segments::Plan;
@@ -47,6 +46,6 @@ pub fn answer<L: Ledger>(
     )?;
     Ok(Answer {
         front: plan.front,
-        cells: Cells::from_vec(cells),
+        cells,
     })
 }

@@ -9,6 +9,7 @@ use arch_types::row::Row;
 use arch_types::steps::Steps;
 use container_extract::{Extractor, eng_of};
 use mdb_model::Mdb;
+use packed_cells::PackedCells;
 use std::alloc::AllocError;
 use std::sync::ledger::Ledger;
 
@@ -41,10 +42,10 @@ pub(crate) fn add_cell<L: Ledger>(
     mdb: &Mdb,
     number: u16,
     row: &Row,
-    cells: &mut Vec<Cell>,
+    cells: &mut PackedCells,
     steps: &mut Steps<L>,
 ) -> Result<(), AllocError>
-    ensures cell { OnOk result (cells.new.items ≡ cells.old.items ++ cell_list (cell_of mdb.now number row.now)) }
+    ensures cell { OnOk result (cells.new ≡ cells.old ++ cell_list (cell_of mdb.now number row.now)) }
     ensures step { steps.new ≡ steps.old + 1 }
 {
     match cell_of(extractor, mdb, number, row, steps) {
@@ -57,7 +58,7 @@ pub(crate) fn add_cell<L: Ledger>(
 }
 
 /// Whether there are as many cells as the limit says.
-pub(crate) fn is_full(cells: &[Cell], limit: Option<u64>) -> bool
+pub(crate) fn is_full(cells: &PackedCells, limit: Option<u64>) -> bool
     ensures { result ≡ is_full limit cells.now }
 {
     match limit {

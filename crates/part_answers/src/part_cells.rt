@@ -11,13 +11,13 @@ ghost use Rattle.container_extract.specs.Answer.{as_asked};
 ghost use Rattle.part_answers.specs.PartCells.{cell_in_range, cell_list, cells_of_part, limit_left};
 
 use crate::cells::{add_cell, is_full};
-use arch_types::cell::Cell;
 use arch_types::direction::Direction;
 use arch_types::row::Row;
 use arch_types::steps::Steps;
 use asks::Request;
 use container_extract::Extractor;
 use mdb_model::Mdb;
+use packed_cells::PackedCells;
 use param_segments::{CellRange, Part, SegSet};
 use std::alloc::{AllocError, Global};
 use std::sync::ledger::Ledger;
@@ -30,9 +30,9 @@ pub(crate) fn cells_over_parts<L: Ledger>(
     request: &Request,
     parts: &[Part],
     steps: &mut Steps<L>,
-) -> Result<Vec<Cell>, AllocError>
+) -> Result<PackedCells, AllocError>
     requires { AllByRecursion (HasValuesOf mdb.now) parts.now }
-    ensures cells { IfOk result (λ cells. cells.items ≡ as_asked request.now
+    ensures cells { IfOk result (λ cells. cells ≡ as_asked request.now
         (flat_map (cells_of_part mdb.now number request.now.from request.now.to) parts.now)) }
     ensures steps { steps.new ≤ steps.old + length (filter (is_in_time_range request.now.from request.now.to)
         (rows_of_parts parts.now)) }
@@ -51,16 +51,16 @@ fn first_part_cells<L: Ledger>(
     request: &Request,
     parts: &[Part],
     steps: &mut Steps<L>,
-) -> Result<Vec<Cell>, AllocError>
+) -> Result<PackedCells, AllocError>
     requires { AllByRecursion (HasValuesOf mdb.now) parts.now }
-    ensures cells { IfOk result (λ cells. cells.items ≡ truncated request.now.limit
+    ensures cells { IfOk result (λ cells. cells ≡ truncated request.now.limit
         (flat_map (cells_of_part mdb.now number request.now.from request.now.to) parts.now)) }
     ensures steps { steps.new ≤ steps.old + length (filter (is_in_time_range request.now.from request.now.to)
         (rows_of_parts parts.now)) }
 {
-    let mut cells = Vec::new(alloc);
+    let mut cells = PackedCells::new(alloc);
     for part in parts {
-        if is_full(cells.as_slice(), request.limit) {
+        if is_full(&cells, request.limit) {
             return Ok(cells);
         }
         add_part_cells(alloc, mdb, number, request, part, &mut cells, steps)?;
@@ -76,16 +76,16 @@ fn last_part_cells<L: Ledger>(
     request: &Request,
     parts: &[Part],
     steps: &mut Steps<L>,
-) -> Result<Vec<Cell>, AllocError>
+) -> Result<PackedCells, AllocError>
     requires { AllByRecursion (HasValuesOf mdb.now) parts.now }
-    ensures cells { IfOk result (λ cells. cells.items ≡ truncated request.now.limit
+    ensures cells { IfOk result (λ cells. cells ≡ truncated request.now.limit
         (reverse (flat_map (cells_of_part mdb.now number request.now.from request.now.to) parts.now))) }
     ensures steps { steps.new ≤ steps.old + length (filter (is_in_time_range request.now.from request.now.to)
         (rows_of_parts parts.now)) }
 {
-    let mut cells = Vec::new(alloc);
+    let mut cells = PackedCells::new(alloc);
     for part in parts.iter().rev() {
-        if is_full(cells.as_slice(), request.limit) {
+        if is_full(&cells, request.limit) {
             return Ok(cells);
         }
         add_last_part_cells(alloc, mdb, number, request, part, &mut cells, steps)?;
@@ -94,7 +94,7 @@ fn last_part_cells<L: Ledger>(
 }
 
 /// The range of a request in a direction, up to so many cells as its limit has room for beside some.
-fn range_left(request: &Request, direction: Direction, cells: &[Cell]) -> CellRange
+fn range_left(request: &Request, direction: Direction, cells: &PackedCells) -> CellRange
     ensures from { result.from ≡ request.now.from }
     ensures to { result.to ≡ request.now.to }
     ensures direction { result.direction ≡ direction }
@@ -121,15 +121,15 @@ fn add_set_cells(
     request: &Request,
     direction: Direction,
     set: &SegSet,
-    cells: &mut Vec<Cell>,
+    cells: &mut PackedCells,
 ) -> Result<(), AllocError>
     requires values { AreValuesOf mdb.now set.now }
-    requires within { truncated request.now.limit cells.old.items ≡ cells.old.items }
-    ensures { OnOk result (cells.new.items ≡ truncated request.now.limit (cells.old.items ++
+    requires within { truncated request.now.limit cells.old ≡ cells.old }
+    ensures { OnOk result (cells.new ≡ truncated request.now.limit (cells.old ++
         in_direction direction (filter (is_cell_in_range request.now.from request.now.to)
         (set_cells mdb.now number set.now)))) }
 {
-    let range = range_left(request, direction, cells.as_slice());
+    let range = range_left(request, direction, cells);
     let found = set.cells_in_range(alloc, mdb, number, range)?;
     cells.extend_from_slice(found.as_slice())?;
     Ok(())
@@ -143,12 +143,12 @@ fn add_part_cells<L: Ledger>(
     number: u16,
     request: &Request,
     part: &Part,
-    cells: &mut Vec<Cell>,
+    cells: &mut PackedCells,
     steps: &mut Steps<L>,
 ) -> Result<(), AllocError>
     requires values { HasValuesOf mdb.now part.now }
-    requires within { truncated request.now.limit cells.old.items ≡ cells.old.items }
-    ensures cells { OnOk result (cells.new.items ≡ truncated request.now.limit (cells.old.items ++
+    requires within { truncated request.now.limit cells.old ≡ cells.old }
+    ensures cells { OnOk result (cells.new ≡ truncated request.now.limit (cells.old ++
         cells_of_part mdb.now number request.now.from request.now.to part.now)) }
     ensures steps { steps.new ≤ steps.old + length (filter (is_in_time_range request.now.from request.now.to)
         (rows_of_part part.now)) }
@@ -172,12 +172,12 @@ fn add_last_part_cells<L: Ledger>(
     number: u16,
     request: &Request,
     part: &Part,
-    cells: &mut Vec<Cell>,
+    cells: &mut PackedCells,
     steps: &mut Steps<L>,
 ) -> Result<(), AllocError>
     requires values { HasValuesOf mdb.now part.now }
-    requires within { truncated request.now.limit cells.old.items ≡ cells.old.items }
-    ensures cells { OnOk result (cells.new.items ≡ truncated request.now.limit (cells.old.items ++
+    requires within { truncated request.now.limit cells.old ≡ cells.old }
+    ensures cells { OnOk result (cells.new ≡ truncated request.now.limit (cells.old ++
         reverse (cells_of_part mdb.now number request.now.from request.now.to part.now))) }
     ensures steps { steps.new ≤ steps.old + length (filter (is_in_time_range request.now.from request.now.to)
         (rows_of_part part.now)) }
@@ -201,18 +201,18 @@ fn add_row_cells<L: Ledger>(
     number: u16,
     request: &Request,
     rows: &[Row],
-    cells: &mut Vec<Cell>,
+    cells: &mut PackedCells,
     steps: &mut Steps<L>,
 ) -> Result<(), AllocError>
-    requires { truncated request.now.limit cells.old.items ≡ cells.old.items }
-    ensures cells { OnOk result (cells.new.items ≡ truncated request.now.limit (cells.old.items ++
+    requires { truncated request.now.limit cells.old ≡ cells.old }
+    ensures cells { OnOk result (cells.new ≡ truncated request.now.limit (cells.old ++
         filter_map (cell_in_range mdb.now number request.now.from request.now.to) rows.now)) }
     ensures steps { steps.new ≤ steps.old + length (filter (is_in_time_range request.now.from request.now.to)
         rows.now) }
 {
     let mut extractor = Extractor::new(alloc)?;
     for row in rows {
-        if is_full(cells.as_slice(), request.limit) {
+        if is_full(cells, request.limit) {
             return Ok(());
         }
         add_row_cell(&mut extractor, mdb, number, request, row, cells, steps)?;
@@ -227,18 +227,18 @@ fn add_last_row_cells<L: Ledger>(
     number: u16,
     request: &Request,
     rows: &[Row],
-    cells: &mut Vec<Cell>,
+    cells: &mut PackedCells,
     steps: &mut Steps<L>,
 ) -> Result<(), AllocError>
-    requires { truncated request.now.limit cells.old.items ≡ cells.old.items }
-    ensures cells { OnOk result (cells.new.items ≡ truncated request.now.limit (cells.old.items ++
+    requires { truncated request.now.limit cells.old ≡ cells.old }
+    ensures cells { OnOk result (cells.new ≡ truncated request.now.limit (cells.old ++
         filter_map (cell_in_range mdb.now number request.now.from request.now.to) (reverse rows.now))) }
     ensures steps { steps.new ≤ steps.old + length (filter (is_in_time_range request.now.from request.now.to)
         rows.now) }
 {
     let mut extractor = Extractor::new(alloc)?;
     for row in rows.iter().rev() {
-        if is_full(cells.as_slice(), request.limit) {
+        if is_full(cells, request.limit) {
             return Ok(());
         }
         add_row_cell(&mut extractor, mdb, number, request, row, cells, steps)?;
@@ -253,10 +253,10 @@ fn add_row_cell<L: Ledger>(
     number: u16,
     request: &Request,
     row: &Row,
-    cells: &mut Vec<Cell>,
+    cells: &mut PackedCells,
     steps: &mut Steps<L>,
 ) -> Result<(), AllocError>
-    ensures cell { OnOk result (cells.new.items ≡ cells.old.items ++
+    ensures cell { OnOk result (cells.new ≡ cells.old ++
         cell_list (cell_in_range mdb.now number request.now.from request.now.to row.now)) }
     ensures steps { steps.new ≤ steps.old + length (filter (is_in_time_range request.now.from request.now.to)
         (row.now ∷ [])) }

@@ -10,7 +10,6 @@ ghost use Rattle.line_buffer.specs.LineRoom.{HasLineRoom};
 
 use crate::cell_text::put_cell;
 use crate::cells::calibration_of;
-use arch_types::cell::Cell;
 use arch_types::octets::Octets;
 use archive_store::FoundRequest;
 use asks::Answer;
@@ -18,6 +17,7 @@ use line_buffer::LineBuffer;
 use mdb_model::{Calibration, Mdb};
 use outer_traits::fault::Failed;
 use outer_traits::sink::Sink;
+use packed_cells::PackedCells;
 use std::alloc::{AllocError, Global};
 
 /// The lines of the cells of an answer over a parameter of the database. A label that the parameter's calibration
@@ -32,14 +32,14 @@ pub fn answer_text(
     ensures { IfOk result (λ text. text ≡ cell_lines mdb.now parameter answer.now.cells) }
 {
     let calibration = calibration_of(mdb, parameter);
-    let text = cells_text(alloc, answer.cells.as_slice(), calibration)?;
+    let text = cells_text(alloc, &answer.cells, calibration)?;
     Octets::from_vec(alloc, text)
 }
 
 /// The lines of cells of a parameter with this calibration.
 fn cells_text(
     alloc: Global,
-    cells: &[Cell],
+    cells: &PackedCells,
     calibration: Option<&Calibration>,
 ) -> Result<Vec<u8>, AllocError>
     requires { HasShortLabels (option_copied calibration) }
@@ -47,8 +47,8 @@ fn cells_text(
 {
     let mut line_buffer = LineBuffer::new(alloc)?;
     let mut text = Vec::new(alloc);
-    for cell in cells {
-        put_cell(&mut line_buffer, *cell, calibration);
+    for cell in cells.iter() {
+        put_cell(&mut line_buffer, cell, calibration);
         line_buffer.append_to(&mut text)?;
     }
     Ok(text)
@@ -69,17 +69,16 @@ pub fn print_found<K: Sink>(
         answer.now.cells) line_buffer.new }
 {
     let calibration = calibration_of(&found.mdb, found.number);
-    let cells = answer.cells.as_slice();
     put_front(line_buffer, k, answer.front);
     line_buffer.flush_if_full(sink)?;
-    print_cells(cells, calibration, line_buffer, sink)?;
-    put_end(line_buffer, cells.len());
+    print_cells(&answer.cells, calibration, line_buffer, sink)?;
+    put_end(line_buffer, answer.cells.len());
     line_buffer.flush_if_full(sink)
 }
 
 /// Prints the lines of cells of a parameter with this calibration, of which the last may still be buffered.
 fn print_cells<K: Sink>(
-    cells: &[Cell],
+    cells: &PackedCells,
     calibration: Option<&Calibration>,
     line_buffer: &mut LineBuffer,
     sink: &mut K,
@@ -89,8 +88,8 @@ fn print_cells<K: Sink>(
     ensures { BuffersText result (K.state sink.old) (K.state sink.new)
         (line_buffer.old ++ flat_map (cell_line (option_copied calibration.entry)) cells.now) line_buffer.new }
 {
-    for cell in cells {
-        put_cell(line_buffer, *cell, calibration);
+    for cell in cells.iter() {
+        put_cell(line_buffer, cell, calibration);
         line_buffer.flush_if_full(sink)?;
     }
     Ok(())

@@ -215,7 +215,7 @@ fn is_answered<D: Disk, L: Ledger>(
         return false;
     };
     match answer_request(alloc, store, &found, steps) {
-        Ok(answer) => answer.front == 4 && are_raws(answer.cells.as_slice(), raws),
+        Ok(answer) => answer.front == 4 && are_raws(&answer.cells, raws),
         Err(_) => false,
     }
 }

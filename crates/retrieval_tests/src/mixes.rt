@@ -206,7 +206,7 @@ fn gives(
     asked: &AskedValues,
 ) -> bool {
     match answer_of(alloc, mdb, intervals, mix, &asked.0) {
-        Some(answer) => answer.front == 7 && are_raws(answer.cells.as_slice(), asked.1),
+        Some(answer) => answer.front == 7 && are_raws(&answer.cells, asked.1),
         None => false,
     }
 }

@@ -6,7 +6,6 @@ ghost use Rattle.param_segments.specs.Cells.{AreValuesOf};
 ghost use Rattle.param_segments.specs.Plans.{HasValuesOf};
 
 use crate::ordered::built;
-use arch_types::cell::Cell;
 use arch_types::direction::Direction;
 use arch_types::key::Key;
 use arch_types::name::Name;
@@ -17,6 +16,7 @@ use archive_store::FoundRequest;
 use asks::{Answer, Request};
 use intervals::{Exponent, Interval};
 use mdb_model::Mdb;
+use packed_cells::PackedCells;
 use param_segments::{Part, Parts, Plan, SegSet};
 use part_answers::answer::answer;
 use std::alloc::{AllocError, Global};
@@ -231,14 +231,11 @@ pub(crate) fn answer_over(alloc: Global, parts: Parts, mdb: &Mdb, asked: &Asked)
 }
 
 /// Whether cells have these raw values.
-pub(crate) fn are_raws(cells: &[Cell], raws: &[i64]) -> bool {
-    if cells.len() != raws.len() {
-        return false;
-    }
-    for i in 0..cells.len() {
-        if cells[i].raw != i128::from(raws[i]) {
+pub(crate) fn are_raws(cells: &PackedCells, raws: &[i64]) -> bool {
+    for (cell, raw) in cells.iter().zip(raws) {
+        if cell.raw != i128::from(*raw) {
             return false;
         }
     }
-    true
+    cells.len() == raws.len()
 }

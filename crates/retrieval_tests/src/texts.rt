@@ -5,13 +5,14 @@ ghost use Rattle.param_segments.specs.Plans.{HasValuesOf};
 
 use crate::mixes::put_part;
 use crate::parts::{Other, answer_over, none_other, part, put_row};
-use arch_types::cell::{Cell, Cells, Eng};
+use arch_types::cell::{Cell, Eng};
 use arch_types::direction::Direction;
 use arch_types::key::Key;
 use arch_types::row::Rows;
 use asks::Answer;
 use intervals::Interval;
 use mdb_model::Mdb;
+use packed_cells::PackedCells;
 use param_segments::{Part, Parts};
 use retrieval::answer_text::answer_text;
 use std::alloc::{AllocError, Global};
@@ -132,8 +133,8 @@ pub(crate) fn is_worked(alloc: Global, mdb: &Mdb, as_set: bool) -> bool {
 }
 
 /// Cells at one key, with the raw number 1.
-fn cells_of(alloc: Global, engs: &[Eng]) -> Result<Cells, AllocError> {
-    let mut cells = Cells::new(alloc);
+fn cells_of(alloc: Global, engs: &[Eng]) -> Result<PackedCells, AllocError> {
+    let mut cells = PackedCells::new(alloc);
     for eng in engs {
         cells.push(Cell {
             key: Key { time: -5, seq: 6 },
@@ -145,7 +146,7 @@ fn cells_of(alloc: Global, engs: &[Eng]) -> Result<Cells, AllocError> {
 }
 
 /// Whether cells have these lines.
-fn are_lines(alloc: Global, cells: Cells, mdb: &Mdb, number: u16, lines: &[u8]) -> bool {
+fn are_lines(alloc: Global, cells: PackedCells, mdb: &Mdb, number: u16, lines: &[u8]) -> bool {
     let answer = Answer { front: 0, cells };
     has_lines(alloc, &answer, mdb, number, lines)
 }
@@ -175,7 +176,7 @@ fn has_each_line(alloc: Global, answer: &Answer, mdb: &Mdb) -> bool {
 }
 
 /// The cells of a long answer.
-fn many_cells(alloc: Global) -> Result<Cells, AllocError> {
+fn many_cells(alloc: Global) -> Result<PackedCells, AllocError> {
     let engs = Vec::from_elem(alloc, Eng::Whole, MANY)?;
     cells_of(alloc, engs.as_slice())
 }

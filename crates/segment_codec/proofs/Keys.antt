@@ -13,11 +13,11 @@ use Rattle.octet_fields.specs.Reading.{◌>>=◌}
 use Rattle.octet_fields.specs.Exact.{IsOctets, IsExact}
 use Rattle.octet_fields.proofs.Exact.{bind_some, some_is, rest_octets, IsExact-tested}
 use Rattle.segment_codec.specs.KeyColumn.{IsKey, is_gap, key_after, key_after_at, key_gap, key_gaps, key_number, keys_after_at}
-use Rattle.segment_codec.specs.Varint.{is_short, varint}
+use Rattle.varints.specs.Varint.{is_short, varint}
 use Rattle.segment_codec.proofs.Leaves.{mapped_as}
 use Rattle.arch_types.specs.Order.{key_cmp}
 use Rattle.arch_types.specs.declared.key.Key.{Key}
-use Rattle.segment_codec.proofs.Varints.{short_varint_exact}
+use Rattle.varints.proofs.Varints.{short_varint_exact}
 
 -- a key behind another
 pub record IsKeyAfter (last next : Key) : Type 0 where

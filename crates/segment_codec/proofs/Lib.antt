@@ -1,5 +1,4 @@
 pub mod Leaves
-pub mod Varints
 pub mod Numbers
 pub mod Packing
 pub mod PackedRows

@@ -5,7 +5,7 @@ use Rattle.octet_fields.specs.Reading.{◌>>=◌}
 use Rattle.octet_fields.proofs.Times.{with_front}
 use Rattle.arch_types.specs.declared.key.Key.{Key}
 use Rattle.segment_codec.specs.KeyColumn.{first_key_at, key_after_at, key_gap, key_gaps, keys_after_at, keys_at}
-use Rattle.segment_codec.specs.Varint.{varint}
+use Rattle.varints.specs.Varint.{varint}
 
 started : (k : Key) (read : Option (List Key × List ℕ)) → ◌>>=◌ {A = (Key × List Key) × List ℕ} {B = List Key × List ℕ} (◌>>=◌ {A = List Key × List ℕ} {B = (Key × List Key) × List ℕ} read (λ b. Some ((k, b.0), b.1))) (λ a. Some (a.0.0 ∷ a.0.1, a.1)) ≡ with_front (k ∷ []) read
 started k None = refl

@@ -10,7 +10,7 @@ use Rattle.octet_fields.proofs.Times.{with_front}
 use Rattle.arch_types.specs.declared.key.Key.{Key}
 use Rattle.segment_codec.specs.KeyColumn.{is_gap, key_after, key_after_at, keys_after_at}
 use Rattle.segment_codec.specs.RangeColumn.{AreKeysUpTo, IsSpanOf, is_key_in_range, keys_before}
-use Rattle.segment_codec.specs.Varint.{short_varint_at}
+use Rattle.varints.specs.Varint.{short_varint_at}
 use Rattle.segment_codec.specs.declared.range_column.KeysInRange.{KeysInRange}
 
 -- ---- one key more

@@ -5,9 +5,9 @@ use Rattle.std.specs.List.{position}
 use Rattle.std.proofs.lemmas.Bool.{cases_Bool}
 use Rattle.std.proofs.lemmas.List.Quantifiers.{position-Some}
 use Rattle.segment_codec.specs.RangeColumn.{AreKeysUpTo}
-use Rattle.segment_codec.specs.Varint.{behind_ends, ends_in}
+use Rattle.segment_codec.specs.VarintEnds.{behind_ends, ends_in}
 use Rattle.segment_codec.proofs.RangeSteps.{gap_passed, no_gap}
-use Rattle.segment_codec.proofs.Varints.{varint_ends}
+use Rattle.varints.proofs.Varints.{varint_ends}
 
 -- the octet ends a varint
 abbrev ends : ℕ → Bool

@@ -5,7 +5,7 @@ use Rattle.std.specs.Int.RustNames.{FitsSigned, unsigned_abs}
 use Rattle.octet_fields.specs.Reading.{Reader, ◌>>=◌, number_at, signed_at, both_at, tested_at, mapped_at}
 use Rattle.octet_fields.specs.Spelling.{number, signed}
 use Rattle.arch_types.specs.declared.key.Key.{Key}
-use Rattle.segment_codec.specs.Varint.{varint, short_varint_at}
+use Rattle.varints.specs.Varint.{varint, short_varint_at}
 
 -- a key in the octets of its fields
 pub record IsKey (key : Key) : Type 0 where

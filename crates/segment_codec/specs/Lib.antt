@@ -1,4 +1,4 @@
-pub mod Varint
+pub mod VarintEnds
 pub mod Bits
 pub mod Pending
 pub mod KeyColumn

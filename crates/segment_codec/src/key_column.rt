@@ -4,13 +4,13 @@ ghost use Rattle.std.specs.Prelude.{◌≡◌, ◌≤◌, ◌++◌, length, true
 ghost use Rattle.octet_fields.specs.Answers.{Answers, Gives};
 ghost use Rattle.segment_codec.specs.KeyColumn.{first_key_at, is_gap, key_after, key_after_at, key_column, key_gap, key_gaps, keys_at};
 ghost use Rattle.segment_codec.specs.Outline.{key_ends};
-ghost use Rattle.segment_codec.specs.Varint.{varint};
+ghost use Rattle.varints.specs.Varint.{varint};
 
 use crate::segment::KeyList;
-use crate::varint::{put_varint, put_word, varint_at, word_at};
 use arch_types::key::Key;
 use octet_fields::{DecodeError, Short, i64_at, put_i64, put_u32, room_for, u32_at};
 use std::alloc::{AllocError, Global};
+use varints::{put_varint, put_word, varint_at, word_at};
 
 /// The first key, and the octets after it.
 #[tactic(auto, unfolding(crate::specs::KeyColumn::first_key_at))]
@@ -23,6 +23,7 @@ pub(crate) fn first_key_at(octets: &[u8]) -> Result<(Key, &[u8]), Short>
 }
 
 /// The key that lies so far behind another, where it's found in 64 bits.
+#[inline(always)]
 #[tactic(auto, unfolding(crate::specs::KeyColumn::is_gap))]
 fn near_key(last: Key, gap: u64) -> Option<Key>
     ensures key { IfSome result (λ key. key ≡ key_after last gap) }
@@ -38,6 +39,7 @@ fn near_key(last: Key, gap: u64) -> Option<Key>
 }
 
 /// The key behind another, and the octets after its gap, where it's found in 64 bits.
+#[inline(always)]
 #[tactic(auto, unfolding(crate::specs::KeyColumn::key_after_at))]
 fn near_key_at(last: Key, octets: &[u8]) -> Result<(Key, &[u8]), Short>
     ensures { IfOk result (λ x. key_after_at last octets.now ≡ Some (x.0, x.1.now)) }
@@ -68,6 +70,7 @@ fn wide_key_after_at(last: Key, octets: &[u8]) -> Result<(Key, &[u8]), Short>
 
 /// The key behind another, and the octets after its gap: one within weeks is found in 64 bits, where it takes half the
 /// time.
+#[inline(always)]
 pub(crate) fn key_after_at(last: Key, octets: &[u8]) -> Result<(Key, &[u8]), Short>
     ensures { Answers (λ x. (x.0, x.1.now)) result (key_after_at last octets.now) }
 {

@@ -34,7 +34,7 @@ mod reading;
 mod segment;
 mod segment_head;
 mod unpack;
-mod varint;
+mod varint_ends;
 mod writing;
 
 pub use column_range::ColumnRange;

@@ -16,7 +16,7 @@ use crate::parameters::counted_parameters_at;
 use crate::raw_column::values_in_rows;
 use crate::reading::row_count_at;
 use crate::segment::{KeyList, RawColumn};
-use crate::varint::varints_end;
+use crate::varint_ends::varints_end;
 use arch_types::direction::Direction;
 use arch_types::key::Key;
 use octet_fields::{DecodeError, Short};

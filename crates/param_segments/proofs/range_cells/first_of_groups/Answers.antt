@@ -3,7 +3,7 @@ use Rattle.std.specs.Int.{w64}
 use Rattle.std.proofs.lemmas.Int.{to_z-of_z}
 use Rattle.segment_codec.specs.RangeColumn.{first_in}
 use Rattle.segment_codec.specs.declared.segment.Segment.{Segment}
-use Rattle.param_segments.specs.CellRange.{segment_at, segment_cells_in_range}
+use Rattle.param_segments.specs.CellRange.{segment_of_step, segment_cells_in_range}
 use Rattle.param_segments.specs.Groups.{set_of}
 use Rattle.param_segments.specs.Octets.{rows_in_octets}
 use Rattle.param_segments.specs.RowPlaces.{numbered_segment}
@@ -52,7 +52,7 @@ loop-step-preserved c =
     let inside : step < length ss = subst (λ (n : ℕ). step < n) count c.loop-step-test.true in
     let there = c.number_at-number.ensures.at ss (sym count) in
     let given = simp to_z-of_z at c.in_ok-put_numbered_cells.ensures in
-    let is : new ≡ cells ++ first_in direction (Some asked) (segment_cells_in_range q c.args.range.from c.args.range.to (segment_at direction ss step)) =
+    let is : new ≡ cells ++ first_in direction (Some asked) (segment_cells_in_range q c.args.range.from c.args.range.to (segment_of_step direction ss step)) =
     given ∙ ap (λ (s : Segment). cells ++ first_in direction (Some asked) (segment_cells_in_range q c.args.range.from c.args.range.to s)) there in
     let h = step_enough direction q c.args.range.from c.args.range.to rows step c.args.limit c.loop-step.wanted asked cells new c.requires.rows inside c.loop-step.invariant.next c.in_ok-asked.ensures is c.loop-step.invariant.enough in
     let got : c.len.result - c.len-had.result ≡ length new - length cells = omega (arith, c.len.ensures, c.len-had.ensures, c.put_numbered_cells.new.cells.ok.0, c.loop-step.cells.ok.0) in

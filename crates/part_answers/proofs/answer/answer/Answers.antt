@@ -12,7 +12,7 @@ pub returns-clause-cells : goal.returns-clause-cells
 returns-clause-cells g c =
     let request = c.args.request.now in
     let q = c.args.number in
-    c.from_vec.ensures ∙ c.in_ok-cells.ensures.cells
+    c.in_ok-cells.ensures.cells
     ∙ ap (λ (parts : List Part). as_asked request (flat_map (cells_of_part c.deref.result.now q request.from request.to) parts)) c.as_slice.ensures
     ∙ ap (λ (db : Database). answer_over_parts db q request c.args.plan.parts) c.deref.ensures
 
@@ -20,7 +20,7 @@ pub returns-clause-over : goal.returns-clause-over
 returns-clause-over g c rows over =
     let request = c.args.request.now in
     let q = c.args.number in
-    c.from_vec.ensures ∙ c.in_ok-cells.ensures.cells
+    c.in_ok-cells.ensures.cells
     ∙ ap (λ (parts : List Part). as_asked request (flat_map (cells_of_part c.deref.result.now q request.from request.to) parts)) c.as_slice.ensures
     ∙ ap (λ (db : Database). answer_over_parts db q request c.args.plan.parts) c.deref.ensures
     ∙ answer_over (arc_value c.args.plan.mdb) q request c.args.plan.parts rows over

@@ -15,11 +15,11 @@ loop-row-preserved g c =
     let request = c.args.request.now in
     let test = is_in_time_range request.from request.to in
     let f = cell_in_range c.args.mdb.now c.args.number request.from request.to in
-    let cells = c.loop-row.cells.items in
+    let cells = c.loop-row.cells in
     let rest = iter_rest (rev_source c.loop-row.row-iterator) in
     let left = iter_rest (rev_source c.next.new.self) in
-    let space : is_full request.limit cells ≡ false = rw c.as_slice.ensures.value at (sym c.is_full.ensures ∙ c.if-is_full.false) in
-    let next = next_last f request.limit cells c.add_row_cell.new.cells.items rest left c.in-Some.row.now (truncated request.limit (c.args.cells.now.items ++ filter_map f (reverse c.args.rows.now))) space
+    let space : is_full request.limit cells ≡ false = sym c.is_full.ensures ∙ c.if-is_full.false in
+    let next = next_last f request.limit cells c.add_row_cell.new.cells rest left c.in-Some.row.now (truncated request.limit (c.args.cells.now ++ filter_map f (reverse c.args.rows.now))) space
     c.in_ok-add_row_cell.ensures.cell c.in-Some.ensures.steps c.loop-row.invariant.all in
     record {
       all = next.0;
@@ -38,9 +38,9 @@ pub returns-then-is_full-clause-cells : goal.returns-then-is_full-clause-cells
 returns-then-is_full-clause-cells g c =
     let request = c.args.request.now in
     let f = cell_in_range c.args.mdb.now c.args.number request.from request.to in
-    let cells = c.loop-row.cells.items in
+    let cells = c.loop-row.cells in
     let rest = iter_rest (rev_source c.loop-row.row-iterator) in
-    let most : is_full request.limit cells ≡ true = rw c.as_slice.ensures.value at (sym c.is_full.ensures ∙ c.if-is_full.true) in
+    let most : is_full request.limit cells ≡ true = sym c.is_full.ensures ∙ c.if-is_full.true in
     sym (full request.limit cells (filter_map f (reverse rest)) most c.loop-row.invariant.within) ∙ c.loop-row.invariant.all
 
 pub returns-clause-cells : goal.returns-clause-cells
@@ -48,4 +48,4 @@ returns-clause-cells g c =
     let request = c.args.request.now in
     let f = cell_in_range c.args.mdb.now c.args.number request.from request.to in
     let rest = iter_rest (rev_source c.loop-row.row-iterator) in
-    items_done f request.limit c.loop-row.cells.items rest (truncated request.limit (c.args.cells.now.items ++ filter_map f (reverse c.args.rows.now))) c.in-None.ensures.steps.0 c.loop-row.invariant.within c.loop-row.invariant.all
+    items_done f request.limit c.loop-row.cells rest (truncated request.limit (c.args.cells.now ++ filter_map f (reverse c.args.rows.now))) c.in-None.ensures.steps.0 c.loop-row.invariant.within c.loop-row.invariant.all

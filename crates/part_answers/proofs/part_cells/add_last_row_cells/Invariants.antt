@@ -10,8 +10,8 @@ use Rattle.part_answers.proofs.part_cells.add_last_row_cells.Given as goal
 
 abbrev pub invariant-loop-row : goal.invariant-loop-row
 invariant-loop-row g l = record {
-  all : truncated l.request.limit (l.cells.items ++ filter_map (cell_in_range l.mdb l.number l.request.from l.request.to) (reverse (iter_rest (rev_source l.row-iterator))))
-      ≡ truncated l.request.limit (l.initial.cells.items ++ filter_map (cell_in_range l.mdb l.number l.request.from l.request.to) (reverse l.rows));
-  within : truncated l.request.limit l.cells.items ≡ l.cells.items;
+  all : truncated l.request.limit (l.cells ++ filter_map (cell_in_range l.mdb l.number l.request.from l.request.to) (reverse (iter_rest (rev_source l.row-iterator))))
+      ≡ truncated l.request.limit (l.initial.cells ++ filter_map (cell_in_range l.mdb l.number l.request.from l.request.to) (reverse l.rows));
+  within : truncated l.request.limit l.cells ≡ l.cells;
   steps : l.steps + length (filter (is_in_time_range l.request.from l.request.to) (iter_rest (rev_source l.row-iterator))) ≤ l.initial.steps + length (filter (is_in_time_range l.request.from l.request.to) l.rows);
 }

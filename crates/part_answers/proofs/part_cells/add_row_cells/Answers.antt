@@ -18,10 +18,10 @@ loop-row-preserved g c =
     let i = c.loop-row.row-index in
     let row = c.row-item.result in
     let left = drop (i + 1) rows in
-    let cells = c.loop-row.cells.items in
+    let cells = c.loop-row.cells in
     let step : drop i rows ≡ row ∷ left = drop_more rows i row c.loop-row-test.true ∙ ap (λ (r : Row). r ∷ left) (sym c.row-item.is) in
-    let space : is_full request.limit cells ≡ false = rw c.as_slice.ensures.value at (sym c.is_full.ensures ∙ c.if-is_full.false) in
-    let next = next_first f request.limit cells c.add_row_cell.new.cells.items (drop i rows) left row (truncated request.limit (c.args.cells.now.items ++ filter_map f rows)) space c.in_ok-add_row_cell.ensures.cell step c.loop-row.invariant.all in
+    let space : is_full request.limit cells ≡ false = sym c.is_full.ensures ∙ c.if-is_full.false in
+    let next = next_first f request.limit cells c.add_row_cell.new.cells (drop i rows) left row (truncated request.limit (c.args.cells.now ++ filter_map f rows)) space c.in_ok-add_row_cell.ensures.cell step c.loop-row.invariant.all in
     record {
       all = next.0;
       within = next.1;
@@ -42,6 +42,6 @@ pub returns-then-is_full-clause-cells : goal.returns-then-is_full-clause-cells
 returns-then-is_full-clause-cells g c =
     let request = c.args.request.now in
     let f = cell_in_range c.args.mdb.now c.args.number request.from request.to in
-    let cells = c.loop-row.cells.items in
-    let most : is_full request.limit cells ≡ true = rw c.as_slice.ensures.value at (sym c.is_full.ensures ∙ c.if-is_full.true) in
+    let cells = c.loop-row.cells in
+    let most : is_full request.limit cells ≡ true = sym c.is_full.ensures ∙ c.if-is_full.true in
     sym (full request.limit cells (filter_map f (drop c.loop-row.row-index c.args.rows.now)) most c.loop-row.invariant.within) ∙ c.loop-row.invariant.all

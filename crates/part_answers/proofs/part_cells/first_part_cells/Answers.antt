@@ -28,9 +28,9 @@ loop-part-preserved g c =
     let i = c.loop-part.part-index in
     let part = c.part-item.result in
     let left = drop (i + 1) parts in
-    let cells = c.loop-part.cells.items in
+    let cells = c.loop-part.cells in
     let step : drop i parts ≡ part ∷ left = drop_more parts i part c.loop-part-test.true ∙ ap (λ (p : Part). p ∷ left) (sym c.part-item.is) in
-    let next = next_part f request.limit cells c.add_part_cells.new.cells.items (drop i parts) left part (truncated request.limit (flat_map f parts)) c.in_ok-add_part_cells.ensures.cells step c.loop-part.invariant.all in
+    let next = next_part f request.limit cells c.add_part_cells.new.cells (drop i parts) left part (truncated request.limit (flat_map f parts)) c.in_ok-add_part_cells.ensures.cells step c.loop-part.invariant.all in
     record {
       all = next.0;
       within = next.1;
@@ -52,6 +52,6 @@ pub returns-then-is_full-clause-cells : goal.returns-then-is_full-clause-cells
 returns-then-is_full-clause-cells g c =
     let request = c.args.request.now in
     let f = cells_of_part c.args.mdb.now c.args.number request.from request.to in
-    let cells = c.loop-part.cells.items in
-    let most : is_full request.limit cells ≡ true = rw c.as_slice.ensures.value at (sym c.is_full.ensures ∙ c.if-is_full.true) in
+    let cells = c.loop-part.cells in
+    let most : is_full request.limit cells ≡ true = sym c.is_full.ensures ∙ c.if-is_full.true in
     sym (full request.limit cells (flat_map f (drop c.loop-part.part-index c.args.parts.now)) most c.loop-part.invariant.within) ∙ c.loop-part.invariant.all

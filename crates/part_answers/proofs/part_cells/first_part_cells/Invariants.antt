@@ -9,9 +9,9 @@ use Rattle.part_answers.proofs.part_cells.first_part_cells.Given as goal
 
 abbrev pub invariant-loop-part : goal.invariant-loop-part
 invariant-loop-part g l = record {
-  all : truncated l.request.limit (l.cells.items ++ flat_map (cells_of_part l.mdb l.number l.request.from l.request.to) (drop l.part-index l.parts))
+  all : truncated l.request.limit (l.cells ++ flat_map (cells_of_part l.mdb l.number l.request.from l.request.to) (drop l.part-index l.parts))
       ≡ truncated l.request.limit (flat_map (cells_of_part l.mdb l.number l.request.from l.request.to) l.parts);
-  within : truncated l.request.limit l.cells.items ≡ l.cells.items;
+  within : truncated l.request.limit l.cells ≡ l.cells;
   values : AllByRecursion (HasValuesOf l.mdb) (drop l.part-index l.parts);
   steps : l.steps + length (filter (is_in_time_range l.request.from l.request.to) (rows_of_parts (drop l.part-index l.parts))) ≤ l.initial.steps + length (filter (is_in_time_range l.request.from l.request.to) (rows_of_parts l.parts));
 }

@@ -33,10 +33,10 @@ loop-part-preserved g c =
     let parts = c.args.parts.now in
     let f = cells_of_part c.args.mdb.now c.args.number request.from request.to in
     let part = c.in-Some.part.now in
-    let cells = c.loop-part.cells.items in
+    let cells = c.loop-part.cells in
     let rest = iter_rest (rev_source c.loop-part.part-iterator) in
     let left = iter_rest (rev_source c.next.new.self) in
-    let next = next_last_part f request.limit cells c.add_last_part_cells.new.cells.items rest left part (truncated request.limit (reverse (flat_map f parts))) c.in_ok-add_last_part_cells.ensures.cells c.in-Some.ensures.steps c.loop-part.invariant.all in
+    let next = next_last_part f request.limit cells c.add_last_part_cells.new.cells rest left part (truncated request.limit (reverse (flat_map f parts))) c.in_ok-add_last_part_cells.ensures.cells c.in-Some.ensures.steps c.loop-part.invariant.all in
     let values = subst (AllByRecursion (HasValuesOf c.args.mdb.now)) c.in-Some.ensures.steps c.loop-part.invariant.values in
     record {
       all = next.0;
@@ -57,9 +57,9 @@ pub returns-then-is_full-clause-cells : goal.returns-then-is_full-clause-cells
 returns-then-is_full-clause-cells g c =
     let request = c.args.request.now in
     let f = cells_of_part c.args.mdb.now c.args.number request.from request.to in
-    let cells = c.loop-part.cells.items in
+    let cells = c.loop-part.cells in
     let rest = iter_rest (rev_source c.loop-part.part-iterator) in
-    let most : is_full request.limit cells ≡ true = rw c.as_slice.ensures.value at (sym c.is_full.ensures ∙ c.if-is_full.true) in
+    let most : is_full request.limit cells ≡ true = sym c.is_full.ensures ∙ c.if-is_full.true in
     sym (full request.limit cells (reverse (flat_map f rest)) most c.loop-part.invariant.within) ∙ c.loop-part.invariant.all
 
 pub returns-clause-cells : goal.returns-clause-cells
@@ -67,4 +67,4 @@ returns-clause-cells g c =
     let request = c.args.request.now in
     let f = cells_of_part c.args.mdb.now c.args.number request.from request.to in
     let rest = iter_rest (rev_source c.loop-part.part-iterator) in
-    parts_done f request.limit c.loop-part.cells.items rest (truncated request.limit (reverse (flat_map f c.args.parts.now))) c.in-None.ensures.steps.0 c.loop-part.invariant.within c.loop-part.invariant.all
+    parts_done f request.limit c.loop-part.cells rest (truncated request.limit (reverse (flat_map f c.args.parts.now))) c.in-None.ensures.steps.0 c.loop-part.invariant.within c.loop-part.invariant.all

@@ -11,9 +11,9 @@ use Rattle.part_answers.proofs.part_cells.last_part_cells.Given as goal
 
 abbrev pub invariant-loop-part : goal.invariant-loop-part
 invariant-loop-part g l = record {
-  all : truncated l.request.limit (l.cells.items ++ reverse (flat_map (cells_of_part l.mdb l.number l.request.from l.request.to) (iter_rest (rev_source l.part-iterator))))
+  all : truncated l.request.limit (l.cells ++ reverse (flat_map (cells_of_part l.mdb l.number l.request.from l.request.to) (iter_rest (rev_source l.part-iterator))))
       ≡ truncated l.request.limit (reverse (flat_map (cells_of_part l.mdb l.number l.request.from l.request.to) l.parts));
-  within : truncated l.request.limit l.cells.items ≡ l.cells.items;
+  within : truncated l.request.limit l.cells ≡ l.cells;
   values : AllByRecursion (HasValuesOf l.mdb) (iter_rest (rev_source l.part-iterator));
   steps : l.steps + length (filter (is_in_time_range l.request.from l.request.to) (rows_of_parts (iter_rest (rev_source l.part-iterator)))) ≤ l.initial.steps + length (filter (is_in_time_range l.request.from l.request.to) (rows_of_parts l.parts));
 }

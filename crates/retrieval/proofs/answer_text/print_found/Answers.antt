@@ -36,8 +36,8 @@ returns-in_err-print_cells g c =
     let front = front_line c.args.k c.args.answer.now.front in
     let lines = cell_lines (arc_value found.mdb) found.number cells in
     let end = end_line (length cells) in
-    let printed : flat_map (cell_line (option_copied c.calibration_of-calibration.result)) c.as_slice-cells.result.now ≡ lines =
-    rw (c.calibration_of-calibration.ensures.value, c.deref.ensures, c.as_slice-cells.ensures) refl in
+    let printed : flat_map (cell_line (option_copied c.calibration_of-calibration.result)) c.args.answer.now.cells ≡ lines =
+    rw (c.calibration_of-calibration.ensures.value, c.deref.ensures) refl in
     let text = three_parts c.args.line_buffer.now front lines end mid c.put_front.ensures in
     let cut : IsCutOff s1 s2 (left ++ lines) = subst (λ (l : List ℕ). IsCutOff s1 s2 (left ++ l)) printed c.in_err-print_cells.ensures in
     let gone = cut_front s0 s2 (mid ++ lines) end (printed_cut s0 s1 s2 mid lines left c.in_ok-flush_if_full.ensures cut) in
@@ -59,12 +59,12 @@ returns g c =
     let front = front_line c.args.k c.args.answer.now.front in
     let lines = cell_lines (arc_value found.mdb) found.number cells in
     let end = end_line (length cells) in
-    let printed : flat_map (cell_line (option_copied c.calibration_of-calibration.result)) c.as_slice-cells.result.now ≡ lines =
-    rw (c.calibration_of-calibration.ensures.value, c.deref.ensures, c.as_slice-cells.ensures) refl in
+    let printed : flat_map (cell_line (option_copied c.calibration_of-calibration.result)) c.args.answer.now.cells ≡ lines =
+    rw (c.calibration_of-calibration.ensures.value, c.deref.ensures) refl in
     let text = three_parts c.args.line_buffer.now front lines end mid c.put_front.ensures in
     let there : IsPrinted s1 s2 (left ++ lines) last = subst (λ (l : List ℕ). IsPrinted s1 s2 (left ++ l) last) printed c.in_ok-print_cells.ensures in
     let gone = printed_on s0 s1 s2 mid lines left last c.in_ok-flush_if_full.ensures there in
-    let put : c.put_end.new.line_buffer ≡ last ++ end = rw c.as_slice-cells.ensures at c.put_end.ensures in
+    let put : c.put_end.new.line_buffer ≡ last ++ end = rw c.len.ensures at c.put_end.ensures in
     let ended = subst (λ (l : List ℕ). BuffersText c.flush_if_full-2.result s2 s3 l still) put c.flush_if_full-2.ensures in
     subst (λ (l : List ℕ). BuffersText c.flush_if_full-2.result s0 s3 l still) text
     (buffers_then c.flush_if_full-2.result s0 s2 s3 (mid ++ lines) end last still gone ended)

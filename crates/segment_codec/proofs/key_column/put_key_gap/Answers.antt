@@ -2,7 +2,7 @@ use Rattle.std.proofs.Common.{◌≡◌, ◌∙◌, ◌++◌, ℕ, Option, ap, s
 use Rattle.std.specs.Prelude.{IfSome}
 use Rattle.std.proofs.lemmas.Result.{on_ok_weaker}
 use Rattle.segment_codec.specs.KeyColumn.{key_gap}
-use Rattle.segment_codec.specs.Varint.{varint}
+use Rattle.varints.specs.Varint.{varint}
 use Rattle.segment_codec.proofs.key_column.put_key_gap.Goals as goal
 
 pub returns-in-Some : goal.returns-in-Some

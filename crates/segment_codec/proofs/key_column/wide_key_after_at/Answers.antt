@@ -1,5 +1,5 @@
 use Rattle.std.proofs.Common.{arith}
-use Rattle.segment_codec.proofs.Varints.{short_below}
+use Rattle.varints.proofs.Varints.{short_below}
 use Rattle.segment_codec.proofs.key_column.wide_key_after_at.Goals as goal
 
 pub overflow_add-sum : goal.overflow_add-sum

@@ -1,6 +1,0 @@
-use Rattle.std.proofs.Common.{◌≡◌, ◌≤◌, take}
-use Rattle.segment_codec.specs.Varint.{ends_in}
-use Rattle.segment_codec.proofs.varint.ends_in.Given as goal
-
-abbrev pub invariant-loop-octet : goal.invariant-loop-octet
-invariant-loop-octet l = (l.ends ≡ ends_in (take l.octet-index l.octets)) × (l.ends ≤ l.octet-index)

@@ -1,9 +1,0 @@
-use Rattle.std.proofs.Common.{◌≡◌, ◌++◌}
-use Rattle.segment_codec.specs.Varint.{varint}
-use Rattle.segment_codec.proofs.varint.put_word.Given as goal
-
-abbrev pub invariant-loop-rest : goal.invariant-loop-rest
-invariant-loop-rest l = l.out.items ++ varint l.rest ≡ l.initial.out.items ++ varint l.n
-
-abbrev pub decreases-loop-rest : goal.decreases-loop-rest
-decreases-loop-rest l = l.rest
