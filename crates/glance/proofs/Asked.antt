@@ -1,11 +1,12 @@
 -- What a request asks of the marks of a publication.
-use Rattle.std.proofs.Common.{◌≡◌, ℕ, ℤ, ◌≤ℤ◌, ◌<ℤ◌, Bool, true, false, cond, true≢false, List, [], ◌∷◌, ◌++◌, Option, Some, None, refl, sym, ◌∙◌, ap, arith, append_assoc}
-use Rattle.std.specs.Prelude.{IfSome, IsSomeAnd, ◌&&◌, ◌||◌, filter, map}
+use Rattle.std.proofs.Common.{◌≡◌, ◌+◌, ◌<◌, ℕ, ℤ, ◌≤ℤ◌, ◌<ℤ◌, Bool, true, false, cond, true≢false, List, [], ◌∷◌, ◌++◌, length, get_or, drop, Option, Some, None, refl, sym, subst, ◌∙◌, ap, arith, append_assoc}
+use Rattle.std.specs.Prelude.{IfSome, IsSomeAnd, ◌&&◌, ◌||◌, filter, int_le, map}
 use Rattle.std.specs.Arc.{arc_value}
 use Rattle.std.specs.List.{list_any, AllByRecursion}
 use Rattle.std.specs.Option.{option_map_or, option_to_list}
 use Rattle.std.proofs.lemmas.Bool.Decides.{Decides-int_eq}
 use Rattle.std.proofs.lemmas.Int.{ints}
+use Rattle.std.proofs.lemmas.List.{drop_more}
 use Rattle.std.proofs.lemmas.Option.{same_Some}
 use Rattle.arch_types.specs.declared.row.Row.{Row}
 use Rattle.intervals.specs.declared.interval.Interval.{Interval}
@@ -23,9 +24,13 @@ use Rattle.param_segments.specs.Plans.{ArePartsOver, HasValuesOf}
 use Rattle.param_segments.specs.Extracted.{IsSetOf}
 use Rattle.param_segments.specs.Rows.{SetRow}
 use Rattle.store_fills.specs.Filled.{HoldsRows}
+use Rattle.shared_items.specs.Blocks.{items_of_blocks}
+use Rattle.shared_items.specs.Order.{AllAbove, AllBelow, AreFrom, RiseBy}
+use Rattle.shared_items.proofs.Order.{below_from_test, rise_second}
 use Rattle.glance_board.specs.declared.contents.PublishedMark.{PublishedMark}
 use Rattle.glance_board.specs.Listings.{IsInTime, IsMarkOf, StayingFacts, database_of, intervals_of}
-use Rattle.glance.specs.Asked.{AreSetsOver, HasSeenValues, SeenSet, is_late_where, late_where, seen_part, set_of_mark, set_where, sets_where}
+use Rattle.glance.specs.declared.span.Span.{Span}
+use Rattle.glance.specs.Asked.{AreSetsOver, HasSeenValues, SeenSet, begin_behind, is_late_where, is_within, late_where, seen_part, set_of_mark, set_where, sets_where}
 
 -- ---- two tests that are one
 
@@ -60,6 +65,76 @@ module _ (test : Interval → Bool) where
   pub sets_append : (ms more : List PublishedMark) → sets_where test (ms ++ more) ≡ sets_where test ms ++ sets_where test more
   sets_append [] more = refl
   sets_append (m ∷ ms) more = ap (λ (l : List SeenSet). set_where test m ++ l) (sets_append ms more) ∙ sym (append_assoc (set_where test m) (sets_where test ms) (sets_where test more))
+
+-- ---- marks outside a span
+
+abbrev number : PublishedMark → ℤ
+number mark = mark.interval.0
+
+and_false : (b c : Bool) → c ≡ false → (b && c) ≡ false
+and_false true c e = e
+and_false false c e = refl
+
+module _ (span : Span) where
+  abbrev Outside : PublishedMark → Type 0
+  Outside mark = is_within span mark.interval ≡ false
+
+  before_span : (mark : PublishedMark) → number mark <ℤ span.first.0 → Outside mark
+  before_span mark less = let no : int_le span.first.0 mark.interval.0 ≡ false = grind (arith, ints, less) in ap (λ (b : Bool). b && int_le mark.interval.0 span.last.0) no
+
+  behind_span : (mark : PublishedMark) → span.last.0 <ℤ number mark → Outside mark
+  behind_span mark more = let no : int_le mark.interval.0 span.last.0 ≡ false = grind (arith, ints, more) in and_false (int_le span.first.0 mark.interval.0) (int_le mark.interval.0 span.last.0) no
+
+  all_before : (ms : List PublishedMark) → AllBelow number span.first.0 ms → AllByRecursion Outside ms
+  all_before [] below = tt
+  all_before (m ∷ ms) below = (before_span m below.0, all_before ms below.1)
+
+  all_behind : (low : ℤ) (ms : List PublishedMark) → span.last.0 <ℤ low → AllAbove number low ms → AllByRecursion Outside ms
+  all_behind low [] less above = tt
+  all_behind low (m ∷ ms) less above = (behind_span m (omega (arith, ints, less, above.0)), all_behind low ms less above.1)
+
+  none_outside : (ms : List PublishedMark) → AllByRecursion Outside ms → late_where (is_within span) ms ≡ None
+  none_outside [] out = refl
+  none_outside (m ∷ ms) out =
+      ap (λ (b : Bool). cond (b && is_late_by m.last m.base) (Some m.interval) (late_where (is_within span) ms)) out.0 ∙ none_outside ms out.1
+
+  no_sets : (ms : List PublishedMark) → AllByRecursion Outside ms → sets_where (is_within span) ms ≡ []
+  no_sets [] out = refl
+  no_sets (m ∷ ms) out =
+      ap (λ (b : Bool). cond b (set_of_mark m) [] ++ sets_where (is_within span) ms) out.0 ∙ no_sets ms out.1
+
+  -- what stands before the block in which the span begins
+  pub late_from : (all rest : List PublishedMark) → AreFrom number span.first.0 all rest → late_where (is_within span) rest ≡ late_where (is_within span) all
+  late_from all rest from =
+      sym (ap (late_where (is_within span)) from.whole ∙ late_behind (is_within span) from.before rest (none_outside from.before (all_before from.before from.below)))
+
+  pub sets_from : (all rest : List PublishedMark) → AreFrom number span.first.0 all rest → sets_where (is_within span) rest ≡ sets_where (is_within span) all
+  sets_from all rest from =
+      sym (ap (sets_where (is_within span)) from.whole ∙ sets_append (is_within span) from.before rest ∙ ap (λ (l : List SeenSet). l ++ sets_where (is_within span) rest) (no_sets from.before (all_before from.before from.below)))
+
+  -- marks that begin behind it, and those behind them
+  behind_all : (ms more : List PublishedMark) → begin_behind span ms ≡ true → RiseBy number (ms ++ more) → AllByRecursion Outside (ms ++ more)
+  behind_all [] more begins rise = absurd (true≢false (sym begins))
+  behind_all (m ∷ ms) more begins rise =
+      let less : span.last.0 <ℤ number m = below_from_test span.last.0 m.interval.0 begins in
+      (behind_span m less, all_behind (number m) (ms ++ more) less rise.0)
+
+  pub late_behind_span : (ms more : List PublishedMark) → begin_behind span ms ≡ true → RiseBy number (ms ++ more) → late_where (is_within span) (ms ++ more) ≡ None
+  late_behind_span ms more begins rise = none_outside (ms ++ more) (behind_all ms more begins rise)
+
+  pub sets_behind_span : (ms more : List PublishedMark) → begin_behind span ms ≡ true → RiseBy number (ms ++ more) → sets_where (is_within span) (ms ++ more) ≡ []
+  sets_behind_span ms more begins rise = no_sets (ms ++ more) (behind_all ms more begins rise)
+
+-- the marks behind some rise as all do
+pub rise_from : (span_first : ℤ) (all rest : List PublishedMark) → AreFrom number span_first all rest → RiseBy number all → RiseBy number rest
+rise_from span_first all rest from rise = rise_second number from.before rest (subst (RiseBy number) from.whole rise)
+
+-- the items from a block on are its own and those of the blocks behind it
+pub from_block : {A X : Type 0} (f : A → List X) (bs : List A) (k : ℕ) (b : A) (items : List X) → k < length bs → b ≡ get_or bs k b → items ≡ f b
+    → items_of_blocks (map f (drop k bs)) ≡ items ++ items_of_blocks (map f (drop (k + 1) bs))
+from_block {A} {X} f bs k b items within is same =
+    ap (λ (l : List A). items_of_blocks (map f l)) (drop_more bs k b within ∙ ap (λ (y : A). y ∷ drop (k + 1) bs) (sym is))
+    ∙ ap (λ (l : List X). l ++ items_of_blocks (map f (drop (k + 1) bs))) (sym same)
 
 -- ---- late marks
 

@@ -1,5 +1,5 @@
 -- Which intervals a request asks for, and what a listing has of them.
-use Rattle.std.specs.Prelude.{◌≡◌, ◌&&◌, ℕ, Bool, List, [], ◌∷◌, ◌++◌, flat_map, map, Option, Some, None, IsSomeAnd, MatchOption, ⊤, int_le, int_lt, if◌then◌else◌}
+use Rattle.std.specs.Prelude.{◌≡◌, ◌&&◌, ℕ, Bool, false, List, [], ◌∷◌, ◌++◌, flat_map, map, Option, Some, None, IsSomeAnd, MatchOption, ⊤, int_le, int_lt, if◌then◌else◌}
 use Rattle.std.specs.Arc.{arc_value}
 use Rattle.std.specs.Option.{option_to_list}
 use Rattle.asks.specs.declared.ask.Request.{Request}
@@ -23,6 +23,11 @@ is_asked exponent request interval = int_lt request.from request.to && meets_ran
 -- whether an interval is one of a span
 abbrev pub is_within : Span → Interval → Bool
 is_within span interval = int_le span.first.0 interval.0 && int_le interval.0 span.last.0
+
+-- whether marks begin behind a span
+abbrev pub begin_behind : Span → List PublishedMark → Bool
+begin_behind span [] = false
+begin_behind span (mark ∷ marks) = int_lt span.last.0 mark.interval.0
 
 -- ---- by a test of intervals
 

@@ -10,7 +10,7 @@ ghost use Rattle.late_marks.specs.Mark.{is_late_by};
 ghost use Rattle.param_segments.specs.Plans.{ArePartsOver, HasValuesOf};
 ghost use Rattle.part_answers.specs.PartCells.{answer_over_rows};
 ghost use Rattle.glance.specs.Answers.{IsNowAnswer, IsNowRefusal, IsNotAsked};
-ghost use Rattle.glance.specs.Asked.{AreSetsOver, HasSeenValues, is_within, late_where, seen_part, set_where, sets_where};
+ghost use Rattle.glance.specs.Asked.{AreSetsOver, HasSeenValues, begin_behind, is_within, late_where, seen_part, set_where, sets_where};
 
 use crate::span::Span;
 use arch_types::steps::Steps;
@@ -66,11 +66,24 @@ fn late_among(marks: &[Arc<PublishedMark, Global>], span: Span) -> Option<Interv
     None
 }
 
+/// Whether marks begin behind a span.
+fn begin_behind(marks: &[Arc<PublishedMark, Global>], span: Span) -> bool
+    ensures { result ≡ begin_behind span (map arc_value marks.now) }
+{
+    match marks.first() {
+        Some(mark) => span.last.0 < mark.interval.0,
+        None => false,
+    }
+}
+
 /// The first late interval of a span.
 fn late_in(marks: &PublishedMarks, span: Span) -> Option<Interval>
     ensures { result ≡ late_where (is_within span) marks.now }
 {
-    for block in marks.blocks() {
+    for block in marks.blocks_from(span.first.0) {
+        if begin_behind(block.items(), span) {
+            return None;
+        }
         if let Some(interval) = late_among(block.items(), span) {
             return Some(interval);
         }
@@ -115,7 +128,10 @@ fn parts_in(alloc: Global, marks: &PublishedMarks, span: Span) -> Result<Parts, 
     ensures { IfOk result (λ parts. map seen_part parts ≡ sets_where (is_within span) marks.now) }
 {
     let mut parts = Vec::new(alloc);
-    for block in marks.blocks() {
+    for block in marks.blocks_from(span.first.0) {
+        if begin_behind(block.items(), span) {
+            return Ok(Parts::from_vec(parts));
+        }
         add_parts(block.items(), span, &mut parts)?;
     }
     Ok(Parts::from_vec(parts))

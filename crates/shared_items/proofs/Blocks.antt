@@ -2,8 +2,8 @@
 use Rattle.std.proofs.Common.{◌≡◌, ℕ, ◌+◌, ◌<◌, ℤ, ◌<ℤ◌, ◌≤ℤ◌, List, [], ◌∷◌, ◌++◌, length, get_or, take, drop, refl, sym, ap, subst, ◌∙◌, arith, append_assoc}
 use Rattle.std.proofs.lemmas.Int.{ints}
 use Rattle.std.proofs.lemmas.List.{drop_more, take-append-drop}
-use Rattle.shared_items.specs.Order.{AllAbove, AllBelow, AllFrom, RiseBy, with_item}
-use Rattle.shared_items.specs.Blocks.{AreBlocks, HaveItems, items_of_blocks}
+use Rattle.shared_items.specs.Order.{AllAbove, AllBelow, AllFrom, AreFrom, RiseBy, with_item}
+use Rattle.shared_items.specs.Blocks.{AreBlocks, HaveItems, IsBlockFor, items_of_blocks}
 use Rattle.shared_items.proofs.Order.{above_more, all_both, all_first, before_below, behind_above, below_more, from_above, rise_second, with_before, with_behind, with_rises}
 
 module _ {X : Type 0} where
@@ -40,6 +40,19 @@ module _ {X : Type 0} (n : X → ℤ) where
   below_before us x b cs number rise le =
       let parts = subst (RiseBy n) (items_append us ((x ∷ b) ∷ cs)) rise in
       below_more n (n x) number (items_of_blocks us) le (before_below n (items_of_blocks us) x (b ++ items_of_blocks cs) parts)
+
+  -- ---- the blocks from one on
+
+  pub none_before : (number : ℤ) (all rest : List X) → all ≡ rest → AreFrom n number all rest
+  none_before number all rest same = record { before = []; whole = same; below = tt }
+
+  pub from_place : (number : ℤ) (blocks : List (List X)) (place : ℕ) (rest : List X) → IsBlockFor n number blocks place → rest ≡ items_of_blocks (drop place blocks)
+      → AreFrom n number (items_of_blocks blocks) rest
+  from_place number blocks place rest is same = record {
+    before = items_of_blocks (take place blocks);
+    whole = ap items_of_blocks (sym (take-append-drop place blocks)) ∙ items_append (take place blocks) (drop place blocks) ∙ ap (λ (l : List X). items_of_blocks (take place blocks) ++ l) (sym same);
+    below = is.before;
+  }
 
   -- ---- a block for another
 

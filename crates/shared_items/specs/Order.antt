@@ -1,5 +1,5 @@
 -- Lists in the order of numbers.
-use Rattle.std.specs.Prelude.{ℤ, ◌<ℤ◌, ◌≤ℤ◌, List, [], ◌∷◌, int_lt, if◌then◌else◌}
+use Rattle.std.specs.Prelude.{◌≡◌, ◌++◌, ℤ, ◌<ℤ◌, ◌≤ℤ◌, List, [], ◌∷◌, int_lt, if◌then◌else◌}
 use Rattle.std.specs.List.{AllByRecursion}
 use Rattle.std.specs.Ordering.{int_eq}
 
@@ -31,3 +31,9 @@ with_item number_of new [] = new ∷ []
 with_item number_of new (item ∷ items) =
     if int_lt (number_of item) (number_of new) then item ∷ with_item number_of new items
     else new ∷ without_first number_of (number_of new) (item ∷ items)
+
+-- the last of some items: those before them are below a number
+pub record AreFrom {X : Type 0} (number_of : X → ℤ) (number : ℤ) (all rest : List X) : Type 0 where
+  pub before : List X
+  pub whole : all ≡ before ++ rest
+  pub below : AllBelow number_of number before

@@ -4,7 +4,7 @@ ghost use Rattle.std.specs.Prelude.{◌≡◌, ◌+◌, ◌<◌, ◌++◌, ◌�
 ghost use Rattle.std.specs.Arc.{arc_value};
 ghost use Rattle.std.specs.Option.{option_to_list};
 ghost use Rattle.shared_items.specs.Blocks.{items_of_blocks};
-ghost use Rattle.shared_items.specs.Order.{RiseBy, with_item};
+ghost use Rattle.shared_items.specs.Order.{AreFrom, RiseBy, with_item};
 
 use crate::block::Block;
 use crate::numbered::Numbered;
@@ -71,6 +71,18 @@ impl<T: Numbered> SharedItems<T> {
         ensures rising { RiseBy T.number_of self.now }
     {
         self.blocks.as_slice()
+    }
+
+    /// The blocks from the one on in which a number belongs: all items before them have numbers below it.
+    pub fn blocks_from(&self, number: i64) -> &[Arc<Block<T>, Global>]
+        ensures from { AreFrom T.number_of number self.now (items_of_blocks (map arc_value result.now)) }
+        ensures rising { RiseBy T.number_of self.now }
+    {
+        if self.blocks.len() == 0 {
+            return self.blocks.as_slice();
+        }
+        let place = block_for(self.blocks.as_slice(), number);
+        &self.blocks.as_slice()[place..]
     }
 
     /// The same items once more, in the same blocks. The one error is want of memory.
