@@ -9,7 +9,7 @@ use Rattle.arch_types.specs.declared.row.Row.{Row}
 use Rattle.history_items.specs.declared.fills.Addition.{Addition}
 use Rattle.history_items.specs.declared.fills.Addition.TheVariants as additions
 use Rattle.history_items.specs.declared.fills.Fill.{Fill}
-use Rattle.history_items.specs.declared.fills.Fill.TheVariants.{Begun, Done, Freed, Fault}
+use Rattle.history_items.specs.declared.fills.Fill.TheVariants.{Begun, Done, Freed, Fault, Closed}
 use Rattle.history_items.specs.Fills.{rows_of_faults, unacknowledged_in}
 use Rattle.history_items.specs.Items.{items_of}
 use Rattle.store_fills.specs.Faults.{faults_in}
@@ -50,6 +50,7 @@ pending_held [] rows some = absurd (cc some)
 pending_held (Begun i b ∷ fills) rows some = pending_held fills rows some
 pending_held (Done i b ∷ fills) rows some = pending_held fills rows some
 pending_held (Freed i ∷ fills) rows some = pending_held fills rows some
+pending_held (Closed ∷ fills) rows some = pending_held fills rows some
 pending_held (Fault count true (additions.Rows held) ∷ fills) rows some =
     let same : held ≡ rows = cc some in
     inl (ap items_of same)

@@ -6,6 +6,7 @@ pub mod Taken
 pub mod Pieces
 pub mod Splits
 pub mod Runs
+pub mod Ahead
 pub mod Underway
 pub mod Ended
 pub mod OneLink

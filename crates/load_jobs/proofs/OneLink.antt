@@ -9,7 +9,7 @@ use Rattle.arch_types.specs.declared.row.Row.{Row}
 use Rattle.history_items.specs.declared.fills.Addition.{Addition}
 use Rattle.history_items.specs.declared.fills.Addition.TheVariants.{Rows}
 use Rattle.history_items.specs.declared.fills.Fill.{Fill}
-use Rattle.history_items.specs.declared.fills.Fill.TheVariants.{Begun, Done, Freed, Fault}
+use Rattle.history_items.specs.declared.fills.Fill.TheVariants.{Begun, Done, Freed, Fault, Closed}
 use Rattle.history_items.specs.declared.items.Item.{Item}
 use Rattle.history_items.specs.declared.items.Item.TheVariants as items
 use Rattle.history_items.specs.Items.{after_rows, items_of, row_item, rows_in}
@@ -99,6 +99,8 @@ some_fault (Done i b ∷ fills) zero count wrote addition at none = absurd cc
 some_fault (Done i b ∷ fills) (suc place) count wrote addition at none = some_fault fills place count wrote addition at none
 some_fault (Freed i ∷ fills) zero count wrote addition at none = absurd cc
 some_fault (Freed i ∷ fills) (suc place) count wrote addition at none = some_fault fills place count wrote addition at none
+some_fault (Closed ∷ fills) zero count wrote addition at none = absurd cc
+some_fault (Closed ∷ fills) (suc place) count wrote addition at none = some_fault fills place count wrote addition at none
 some_fault (Fault c w a ∷ fills) place count wrote addition at none = absurd (cc none)
 
 -- a fault at some place, where there's one alone
@@ -111,6 +113,8 @@ fault_alone (Done i b ∷ fills) zero count wrote addition x at one = absurd cc
 fault_alone (Done i b ∷ fills) (suc place) count wrote addition x at one = fault_alone fills place count wrote addition x at one
 fault_alone (Freed i ∷ fills) zero count wrote addition x at one = absurd cc
 fault_alone (Freed i ∷ fills) (suc place) count wrote addition x at one = fault_alone fills place count wrote addition x at one
+fault_alone (Closed ∷ fills) zero count wrote addition x at one = absurd cc
+fault_alone (Closed ∷ fills) (suc place) count wrote addition x at one = fault_alone fills place count wrote addition x at one
 fault_alone (Fault c w a ∷ fills) zero count wrote addition x at one =
     let same : Fault c w a ≡ Fault count wrote addition = cc at in
     let rest : faults_in fills ≡ [] = cc one in

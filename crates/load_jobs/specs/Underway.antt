@@ -1,5 +1,5 @@
 -- A link between its turns.
-use Rattle.std.specs.Prelude.{◌≡◌, ℕ, ℤ, ◌+◌, ◌*◌, ◌<◌, ◌≤◌, List, [], ◌++◌, length, Option, Result, Err}
+use Rattle.std.specs.Prelude.{◌≡◌, ℕ, ℤ, ◌+◌, ◌*◌, ◌<◌, ◌≤◌, List, [], ◌∷◌, ◌++◌, flat_map, length, Option, Result, Err}
 use Rattle.arch_types.specs.declared.row.Row.{Row}
 use Rattle.arch_types.specs.Dump.{BeginsWithNoPacket}
 use Rattle.refusals.specs.declared.refusal.Refusal.{Refusal}
@@ -10,7 +10,7 @@ use Rattle.history_items.specs.declared.items.Item.{Item}
 use Rattle.history_items.specs.Items.{databases_in}
 use Rattle.shared_history.specs.Sent.{HasSent}
 use Rattle.space_packet.specs.Rest.{why_of}
-use Rattle.space_packet.specs.Waiting.{IsSplitSoFar}
+use Rattle.space_packet.specs.Waiting.{IsSplitSoFar, Waiting}
 use Rattle.turn_cell.specs.Pass.{PassView}
 use Rattle.archive_store.specs.StoreView.{StoreView}
 use Rattle.load_session.specs.declared.batches.NextBatch.{NextBatch}
@@ -50,14 +50,23 @@ abbrev pub CountsStay : Progress → Progress → Type 0
 CountsStay before after =
     (after.packets ≡ before.packets) × (after.idle ≡ before.idle) × (after.routed ≡ before.routed)
 
--- The counts are those of packets within the limit of a dump: each has an octet or more, and 16 rows at most.
-pub record IsWithinLimit (p : Progress) : Type 0 where
-  pub packets : p.packets + p.taken.packets ≤ p.splitter.at
+-- The counts are those of packets within the limit of a dump, beside so many that were taken ahead: each has an octet
+-- or more, and 16 rows at most.
+pub record IsWithinLimitWith (ahead : ℕ) (p : Progress) : Type 0 where
+  pub packets : p.packets + ahead + p.taken.packets ≤ p.splitter.at
   pub idle : p.idle ≤ p.packets
   pub routed : p.routed ≤ 16 * p.packets
   pub octets : p.splitter.at + length p.splitter.octets ≤ limit_of DumpOctets
 
--- ---- what is in hand
+abbrev pub IsWithinLimit : Progress → Type 0
+IsWithinLimit p = IsWithinLimitWith 0 p
+
+-- so many fewer are ahead, within the limit
+abbrev pub StaysWithin : ℕ → Progress → Progress → Type 0
+StaysWithin fewer before after =
+    (ahead : ℕ) → IsWithinLimitWith (fewer + ahead) before → IsWithinLimitWith ahead after
+
+-- ---- what is in hand, and what was taken ahead
 
 -- packets are received so behind what a pass has seen
 abbrev pub behind : {T : Type 0} → Receiving → PassView Item Fill T → Receiving
@@ -71,24 +80,52 @@ behind_none r = receiving r.head [] r.route r.link r.moment
 abbrev pub IsInHand : Receiving → NextBatch → Type 0
 IsInHand r taken = (packets : List (List ℕ)) × IsTakenFor (behind_none r) packets taken
 
--- Of the octets that were read, these packets were sent, and these behind them are in hand; behind those octets wait.
--- Nothing was noted in the fill list, and nothing had added a database before.
-pub record IsUnderway {T : Type 0} (r : Receiving) (read : List ℕ) (sent in_hand : List (List ℕ))
+-- the packets of batches, in their order
+abbrev pub packets_of : List (List (List ℕ)) → List (List ℕ)
+packets_of groups = flat_map (λ (packets : List (List ℕ)). packets) groups
+
+-- each of these batches was taken for 64 packets of its own
+unfoldable pub AreTakenFor : Receiving → List (List (List ℕ)) → List NextBatch → Type 0
+AreTakenFor r [] [] = Unit {0}
+AreTakenFor r (packets ∷ more) (batch ∷ batches) =
+    (length packets ≡ 64) × IsTakenFor r packets batch × AreTakenFor r more batches
+AreTakenFor r _ _ = ⊥
+
+-- some packets were taken for these batches
+abbrev pub AreAhead : Receiving → List NextBatch → Type 0
+AreAhead r batches = (groups : List (List (List ℕ))) × AreTakenFor (behind_none r) groups batches
+
+-- Packets that waited first were taken behind those in hand: the first of all these are the packets of whole batches,
+-- and the others are in hand now.
+pub record HasTakenAhead (r : Receiving) (had : List (List ℕ)) (old new : Waiting) (after : NextBatch)
+    (batches : List NextBatch) : Type 0 where
+  pub groups : List (List (List ℕ))
+  pub in_hand : List (List ℕ)
+  pub ahead : AreTakenFor r groups batches
+  pub taken : IsTakenFor r in_hand after
+  pub rising : old.at + length (packets_of groups ++ in_hand) ≤ new.at + length had
+  pub level : new.at + length new.octets ≡ old.at + length old.octets
+  pub split : (read : List ℕ) (sent : List (List ℕ)) → IsSplitSoFar read (sent ++ had) old
+      → IsSplitSoFar read (sent ++ (packets_of groups ++ in_hand)) new
+
+-- Of the octets that were read, these packets were sent, these behind them were taken ahead, and these are in hand;
+-- behind those octets wait. Nothing was noted in the fill list, and nothing had added a database before.
+pub record IsUnderway {T : Type 0} (r : Receiving) (read : List ℕ) (sent ahead in_hand : List (List ℕ))
     (old now : PassView Item Fill T) (p : Progress) : Type 0 where
   pub alone : databases_in old.history.seen ≡ []
-  pub split : IsSplitSoFar read (sent ++ in_hand) p.splitter
+  pub split : IsSplitSoFar read (sent ++ (ahead ++ in_hand)) p.splitter
   pub taken : IsTakenFor (behind_none r) in_hand p.taken
   pub so_far : IsSentSoFar r sent old now
   pub silent : now.fills.places ≡ old.fills.places
   pub turns : IsATurnEach old.turns now.turns sent
   pub counted : AreCounted r sent p
 
--- so it is between two reads: whole batches were sent, and no packet waits whole
+-- so it is between two reads: whole batches were sent, none is ahead, and no packet waits whole
 pub record IsBetweenReads {T : Type 0} (r : Receiving) (read : List ℕ) (old now : PassView Item Fill T)
     (p : Progress) : Type 0 where
   pub sent : List (List ℕ)
   pub in_hand : List (List ℕ)
-  pub underway : IsUnderway r read sent in_hand old now p
+  pub underway : IsUnderway r read sent [] in_hand old now p
   pub whole : AreBatches sent
   pub none_waits : BeginsWithNoPacket p.splitter.octets
 
@@ -112,21 +149,46 @@ IsAnswered first read r old new answer =
 
 -- ---- what its calls do, whatever was read and sent before
 
--- what is in hand was sent by a turn, and is counted
-abbrev pub SendsInHand : {T : Type 0} → Receiving → PassView Item Fill T → PassView Item Fill T → Progress → Progress
-    → Type 0
-SendsInHand {T = T} r old new before after =
-    (origin : PassView Item Fill T) (read : List ℕ) (sent in_hand : List (List ℕ)) → AreBatches sent
-    → IsUnderway (behind r origin) read sent in_hand origin old before
-    → IsUnderway (behind r origin) read (sent ++ in_hand) [] origin new after
+-- whole batches were taken ahead
+abbrev pub TakesAhead : Receiving → Progress → Progress → List NextBatch → Type 0
+TakesAhead r before after batches = (had : List (List ℕ)) → IsTakenFor (behind_none r) had before.taken
+    → HasTakenAhead (behind_none r) had before.splitter after.splitter after.taken batches
 
--- its turn was refused, where it is a whole batch or no packet waits
-abbrev pub RefusesInHand : {D T : Type 0} → StoreView D → Receiving → PassView Item Fill T → PassView Item Fill T
-    → Progress → Refusal → Type 0
-RefusesInHand {T = T} first r old new before refusal =
-    (origin : PassView Item Fill T) (read : List ℕ) (sent in_hand : List (List ℕ)) → AreBatches sent
-    → (length in_hand < 64 → BeginsWithNoPacket before.splitter.octets)
-    → IsUnderway (behind r origin) read sent in_hand origin old before
+-- a batch was sent by a turn, and is counted
+abbrev pub SendsBatch : {T : Type 0} → Receiving → NextBatch → PassView Item Fill T → PassView Item Fill T → Progress
+    → Progress → Type 0
+SendsBatch {T = T} r batch old new before after =
+    (origin : PassView Item Fill T) (read : List ℕ) (sent packets ahead in_hand : List (List ℕ)) → AreBatches sent
+    → IsTakenFor (behind_none r) packets batch
+    → IsUnderway (behind r origin) read sent (packets ++ ahead) in_hand origin old before
+    → IsUnderway (behind r origin) read (sent ++ packets) ahead in_hand origin new after
+
+-- its turn was refused, where it is a whole batch or no packet is behind it
+abbrev pub RefusesBatch : {D T : Type 0} → StoreView D → Receiving → NextBatch → PassView Item Fill T
+    → PassView Item Fill T → Progress → Refusal → Type 0
+RefusesBatch {T = T} first r batch old new before refusal =
+    (origin : PassView Item Fill T) (read : List ℕ) (sent packets ahead in_hand : List (List ℕ)) → AreBatches sent
+    → IsTakenFor (behind_none r) packets batch
+    → (length packets < 64 → (ahead ++ in_hand ≡ []) × BeginsWithNoPacket before.splitter.octets)
+    → IsUnderway (behind r origin) read sent (packets ++ ahead) in_hand origin old before
+    → IsAnswered first read (behind r origin) origin new (Err refusal)
+
+-- batches that were taken ahead were sent, each by a turn, and are counted
+abbrev pub SendsAhead : {T : Type 0} → Receiving → List NextBatch → PassView Item Fill T → PassView Item Fill T
+    → Progress → Progress → Type 0
+SendsAhead {T = T} r batches old new before after =
+    (origin : PassView Item Fill T) (read : List ℕ) (sent : List (List ℕ)) (groups : List (List (List ℕ)))
+    (in_hand : List (List ℕ)) → AreBatches sent → AreTakenFor (behind_none r) groups batches
+    → IsUnderway (behind r origin) read sent (packets_of groups) in_hand origin old before
+    → IsUnderway (behind r origin) read (sent ++ packets_of groups) [] in_hand origin new after
+
+-- the turn of one of them was refused: those behind it are as if they had not been taken
+abbrev pub RefusesAhead : {D T : Type 0} → StoreView D → Receiving → List NextBatch → PassView Item Fill T
+    → PassView Item Fill T → Progress → Refusal → Type 0
+RefusesAhead {T = T} first r batches old new before refusal =
+    (origin : PassView Item Fill T) (read : List ℕ) (sent : List (List ℕ)) (groups : List (List (List ℕ)))
+    (in_hand : List (List ℕ)) → AreBatches sent → AreTakenFor (behind_none r) groups batches
+    → IsUnderway (behind r origin) read sent (packets_of groups) in_hand origin old before
     → IsAnswered first read (behind r origin) origin new (Err refusal)
 
 -- what waited was taken in hand, and sent but for fewer packets than a batch takes
@@ -134,7 +196,7 @@ abbrev pub SendsWaiting : {T : Type 0} → Receiving → PassView Item Fill T �
     → Type 0
 SendsWaiting {T = T} r old new before after =
     (origin : PassView Item Fill T) (read : List ℕ) (sent in_hand : List (List ℕ)) → AreBatches sent
-    → IsUnderway (behind r origin) read sent in_hand origin old before
+    → IsUnderway (behind r origin) read sent [] in_hand origin old before
     → IsBetweenReads (behind r origin) read origin new after
 
 -- the sending was answered so
@@ -142,7 +204,7 @@ abbrev pub EndsSending : {D T : Type 0} → StoreView D → Receiving → PassVi
     → Progress → Result DumpSummary Refusal → Type 0
 EndsSending {T = T} first r old new before answer =
     (origin : PassView Item Fill T) (read : List ℕ) (sent in_hand : List (List ℕ)) → AreBatches sent
-    → IsUnderway (behind r origin) read sent in_hand origin old before
+    → IsUnderway (behind r origin) read sent [] in_hand origin old before
     → IsAnswered first read (behind r origin) origin new answer
 
 -- ---- what reading its dump comes to

@@ -1,6 +1,6 @@
 //! The packets of a dump, sent batch by batch as they are read.
 
-ghost use Rattle.std.specs.Prelude.{◌≡◌, ◌+◌, ◌-◌, ◌^◌, ◌≤◌, ◌<◌, ◌++◌, [], Err, length, IfErr, IfOk, OnOk};
+ghost use Rattle.std.specs.Prelude.{◌≡◌, ◌+◌, ◌-◌, ◌*◌, ◌^◌, ◌≤◌, ◌<◌, ◌++◌, [], Err, length, vec_len, IfErr, IfOk, OnOk};
 ghost use Rattle.refusals.specs.Limits.{limit_of};
 ghost use Rattle.refusals.specs.declared.refusal.Which.TheVariants as limits;
 ghost use Rattle.arch_types.specs.Dump.{BeginsWithNoPacket};
@@ -12,7 +12,7 @@ ghost use Rattle.turn_cell.specs.Pass.{IsFree};
 ghost use Rattle.load_session.specs.Batches.{HasTakenWaiting};
 ghost use Rattle.load_session.specs.Receiving.{receiving, IsRouteOver};
 ghost use Rattle.load_jobs.specs.Reading.{is_version};
-ghost use Rattle.load_jobs.specs.Underway.{CountsStay, EndsSending, IsInHand, IsWithinLimit, RefusesInHand, SendsInHand, SendsWaiting, summary_of};
+ghost use Rattle.load_jobs.specs.Underway.{AreAhead, CountsStay, EndsSending, IsInHand, IsWithinLimit, IsWithinLimitWith, RefusesAhead, RefusesBatch, SendsAhead, SendsBatch, SendsWaiting, StaysWithin, TakesAhead, summary_of};
 
 use arch_disk::Disk;
 use arch_types::octets::Octets;
@@ -26,8 +26,13 @@ use refusals::Refusal;
 use space_packet::dump::Why;
 use space_packet::splitter::Splitter;
 use std::alloc::{AllocError, Global};
+use std::mem;
 use std::sync::Wait;
 use stream_graph::graph::Graph;
+
+/// How many whole batches a link takes, at most, before it sends them in turns one behind the other: a turn that goes
+/// from one link to another takes the archive's octets from processor to processor.
+const AHEAD: usize = 8;
 
 /// How packets are received.
 #[derive(Clone, Copy)]
@@ -106,6 +111,7 @@ impl Progress {
         ensures taken { OnOk result (HasTakenWaiting (receiving reception.now.head.now [] reception.now.graph.now
             reception.now.link reception.now.moment) self.old.splitter self.new.splitter self.old.taken self.new.taken) }
         ensures last { OnOk result (self.new.taken.packets < 64 → BeginsWithNoPacket self.new.splitter.octets) }
+        ensures received { self.new.taken.batch.rectime ≡ self.old.taken.batch.rectime }
         ensures counts { CountsStay self.old self.new }
     {
         take_waiting(
@@ -119,24 +125,61 @@ impl Progress {
         )
     }
 
-    /// Counts the batch in hand as sent, whose packets came to so many rows, and begins the next one.
-    fn begin_next(&mut self, alloc: Global, rows: usize)
-        requires packets { self.old.packets + self.old.taken.packets < 2 ^ 64 }
-        requires arrivals { length self.old.taken.batch.arrivals ≤ self.old.taken.packets }
-        requires idle { self.old.idle ≤ self.old.packets }
-        requires routed { self.old.routed + rows < 2 ^ 64 }
-        ensures packets { self.new.packets ≡ self.old.packets + self.old.taken.packets }
-        ensures idle { self.new.idle ≡ self.old.idle
-            + (self.old.taken.packets - length self.old.taken.batch.arrivals) }
-        ensures routed { self.new.routed ≡ self.old.routed + rows }
-        ensures waiting { self.new.splitter ≡ self.old.splitter }
+    /// Takes the whole batches that wait, `AHEAD` of them at most. Where they are fewer, fewer packets than a batch takes
+    /// stay in hand, and none waits whole. The one error is want of memory.
+    fn take_ahead(
+        &mut self,
+        alloc: Global,
+        reception: &Reception<'_>,
+    ) -> Result<Vec<NextBatch>, AllocError>
+        requires link { (1 ≤ reception.now.link) × (reception.now.link ≤ limit_of limits.Links) }
+        requires moment { IsClockTime reception.now.moment }
+        requires received { self.old.taken.batch.rectime ≡ reception.now.moment }
+        requires head { IsArchiveEntry (entries.Head reception.now.head.now.tables reception.now.head.now.mdb) }
+        requires route { IsRouteOver reception.now.head.now reception.now.graph.now }
+        ensures ahead { IfOk result (λ ahead. TakesAhead (receiving reception.now.head.now [] reception.now.graph.now
+            reception.now.link reception.now.moment) self.old self.new ahead.items) }
+        ensures last { IfOk result (λ ahead. vec_len ahead < 8 → BeginsWithNoPacket self.new.splitter.octets) }
+        ensures counts { CountsStay self.old self.new }
+    {
+        let mut ahead = Vec::new(alloc);
+        'batches: while ahead.len() < AHEAD {
+            self.take_in_hand(alloc, reception)?;
+            if self.taken.packets < BATCH {
+                return Ok(ahead);
+            }
+            ahead.push(self.take_batch(alloc))?;
+        }
+        Ok(ahead)
+    }
+
+    /// Takes the batch in hand out of it, and begins the next one.
+    fn take_batch(&mut self, alloc: Global) -> NextBatch
+        ensures taken { result ≡ self.old.taken }
         ensures none { (self.new.taken.packets ≡ 0) × (self.new.taken.batch.arrivals ≡ [])
             × (self.new.taken.batch.rectime ≡ self.old.taken.batch.rectime) }
+        ensures waiting { self.new.splitter ≡ self.old.splitter }
+        ensures counts { CountsStay self.old self.new }
     {
-        self.packets += self.taken.packets;
-        self.idle += self.taken.packets - self.taken.batch.arrivals.as_slice().len() as u64;
+        let next = NextBatch::empty(alloc, self.taken.batch.rectime);
+        mem::replace(&mut self.taken, next)
+    }
+
+    /// Counts a batch as sent, whose packets came to so many rows.
+    fn count_sent(&mut self, batch: &NextBatch, rows: usize)
+        requires packets { self.old.packets + batch.now.packets < 2 ^ 64 }
+        requires arrivals { length batch.now.batch.arrivals ≤ batch.now.packets }
+        requires idle { self.old.idle ≤ self.old.packets }
+        requires routed { self.old.routed + rows < 2 ^ 64 }
+        ensures packets { self.new.packets ≡ self.old.packets + batch.now.packets }
+        ensures idle { self.new.idle ≡ self.old.idle + (batch.now.packets - length batch.now.batch.arrivals) }
+        ensures routed { self.new.routed ≡ self.old.routed + rows }
+        ensures waiting { self.new.splitter ≡ self.old.splitter }
+        ensures in_hand { self.new.taken ≡ self.old.taken }
+    {
+        self.packets += batch.packets;
+        self.idle += batch.packets - batch.batch.arrivals.as_slice().len() as u64;
         self.routed += rows as u64;
-        self.taken = NextBatch::empty(alloc, self.taken.batch.rectime);
     }
 
     /// What the dump had, where all packets of it were sent.
@@ -153,9 +196,10 @@ impl Progress {
     }
 }
 
-/// Sends the packets that wait, a batch whenever 64 of them are in hand. Fewer stay in hand.
+/// Sends the packets that wait, in batches of 64, as many in turns one behind the other as are taken ahead. Fewer stay
+/// in hand.
 ///
-/// Refuses as `send_in_hand` does, or by `OutOfMemory`.
+/// Refuses as `send_batch` does, or by `OutOfMemory`.
 pub(crate) fn send_waiting<D: Disk, G: Gate, R: Wait>(
     rt: &R,
     alloc: Global,
@@ -188,14 +232,15 @@ pub(crate) fn send_waiting<D: Disk, G: Gate, R: Wait>(
     ensures in_hand { OnOk result (IsInHand (receiving reception.now.head.now [] reception.now.graph.now
         reception.now.link reception.now.moment) progress.new.taken) }
 {
-    'batches: loop {
-        progress.take_in_hand(alloc, reception)?;
-        if progress.taken.packets < BATCH {
+    'rounds: loop {
+        let ahead = progress.take_ahead(alloc, reception)?;
+        let is_last = ahead.len() < AHEAD;
+        send_ahead(
+            rt, alloc, live, pass, reception, progress, ahead, wake, gate, number,
+        )?;
+        if is_last {
             return Ok(());
         }
-        send_in_hand(
-            rt, alloc, live, pass, reception, progress, wake, gate, number,
-        )?;
     }
 }
 
@@ -229,23 +274,24 @@ pub(crate) fn send_rest<D: Disk, G: Gate, R: Wait>(
     if progress.taken.packets == 0 {
         return Ok(progress.summary());
     }
-    send_in_hand(
-        rt, alloc, live, pass, reception, progress, wake, gate, number,
+    let batch = progress.take_batch(alloc);
+    send_batch(
+        rt, alloc, live, pass, reception, progress, batch, wake, gate, number,
     )?;
     Ok(progress.summary())
 }
 
-/// Ingests the batch in hand in a turn, and wakes a filler once it is acknowledged.
+/// Sends batches that were taken ahead, in their order.
 ///
-/// Refuses by a `Limit` of the history, by `NeedsReopen` where the disk failed in the turn of another, by `DiskFault`
-/// where it did in its own, or by `OutOfMemory`.
-fn send_in_hand<D: Disk, G: Gate, R: Wait>(
+/// Refuses as `send_batch` does.
+fn send_ahead<D: Disk, G: Gate, R: Wait>(
     rt: &R,
     alloc: Global,
     live: &Live<D>,
     pass: &mut LivePass<D>,
     reception: &Reception<'_>,
     progress: &mut Progress,
+    ahead: Vec<NextBatch>,
     wake: &Sender<()>,
     gate: &G,
     number: u32,
@@ -256,26 +302,68 @@ fn send_in_hand<D: Disk, G: Gate, R: Wait>(
     requires head { IsArchiveEntry (entries.Head reception.now.head.now.tables reception.now.head.now.mdb) }
     requires of_archive { reception.now.head.now ≡ live.now.cell.first.store.head }
     requires route { IsRouteOver reception.now.head.now reception.now.graph.now }
-    requires in_hand { IsInHand (receiving reception.now.head.now [] reception.now.graph.now reception.now.link
-        reception.now.moment) progress.old.taken }
-    requires within { IsWithinLimit progress.old }
-    requires some { 0 < progress.old.taken.packets }
+    requires ahead { AreAhead (receiving reception.now.head.now [] reception.now.graph.now reception.now.link
+        reception.now.moment) ahead.items }
+    requires within { IsWithinLimitWith (64 * length ahead.items) progress.old }
     ensures free { IsFree live.now.cell pass.new }
-    ensures sent { OnOk result (SendsInHand (receiving reception.now.head.now [] reception.now.graph.now
-        reception.now.link reception.now.moment) pass.old pass.new progress.old progress.new) }
-    ensures refused { IfErr result (λ refusal. RefusesInHand live.now.cell.first.store (receiving
-        reception.now.head.now [] reception.now.graph.now reception.now.link reception.now.moment) pass.old pass.new
-        progress.old refusal) }
+    ensures sent { OnOk result (SendsAhead (receiving reception.now.head.now [] reception.now.graph.now
+        reception.now.link reception.now.moment) ahead.items pass.old pass.new progress.old progress.new) }
+    ensures refused { IfErr result (λ refusal. RefusesAhead live.now.cell.first.store (receiving
+        reception.now.head.now [] reception.now.graph.now reception.now.link reception.now.moment) ahead.items
+        pass.old pass.new progress.old refusal) }
     ensures within { OnOk result (IsWithinLimit progress.new) }
     ensures waiting { progress.new.splitter ≡ progress.old.splitter }
-    ensures none { OnOk result ((progress.new.taken.packets ≡ 0) × (progress.new.taken.batch.arrivals ≡ [])
-        × (progress.new.taken.batch.rectime ≡ reception.now.moment)) }
+    ensures in_hand { progress.new.taken ≡ progress.old.taken }
+{
+    'batches: for batch in ahead {
+        send_batch(
+            rt, alloc, live, pass, reception, progress, batch, wake, gate, number,
+        )?;
+    }
+    Ok(())
+}
+
+/// Ingests a batch in a turn, and wakes a filler once it is acknowledged.
+///
+/// Refuses by a `Limit` of the history, by `NeedsReopen` where the disk failed in the turn of another, by `DiskFault`
+/// where it did in its own, or by `OutOfMemory`.
+fn send_batch<D: Disk, G: Gate, R: Wait>(
+    rt: &R,
+    alloc: Global,
+    live: &Live<D>,
+    pass: &mut LivePass<D>,
+    reception: &Reception<'_>,
+    progress: &mut Progress,
+    batch: NextBatch,
+    wake: &Sender<()>,
+    gate: &G,
+    number: u32,
+) -> Result<(), Refusal>
+    requires free { IsFree live.now.cell pass.old }
+    requires link { (1 ≤ reception.now.link) × (reception.now.link ≤ limit_of limits.Links) }
+    requires moment { IsClockTime reception.now.moment }
+    requires head { IsArchiveEntry (entries.Head reception.now.head.now.tables reception.now.head.now.mdb) }
+    requires of_archive { reception.now.head.now ≡ live.now.cell.first.store.head }
+    requires route { IsRouteOver reception.now.head.now reception.now.graph.now }
+    requires batch { IsInHand (receiving reception.now.head.now [] reception.now.graph.now reception.now.link
+        reception.now.moment) batch }
+    requires within { IsWithinLimitWith batch.packets progress.old }
+    requires some { 0 < batch.packets }
+    ensures free { IsFree live.now.cell pass.new }
+    ensures sent { OnOk result (SendsBatch (receiving reception.now.head.now [] reception.now.graph.now
+        reception.now.link reception.now.moment) batch pass.old pass.new progress.old progress.new) }
+    ensures refused { IfErr result (λ refusal. RefusesBatch live.now.cell.first.store (receiving
+        reception.now.head.now [] reception.now.graph.now reception.now.link reception.now.moment) batch pass.old
+        pass.new progress.old refusal) }
+    ensures within { OnOk result (StaysWithin batch.packets progress.old progress.new) }
+    ensures waiting { progress.new.splitter ≡ progress.old.splitter }
+    ensures in_hand { progress.new.taken ≡ progress.old.taken }
 {
     progress.turn = progress.turn.saturating_add(1);
     gate.pass(number, progress.turn);
-    let ingested = live.ingest(rt, alloc, pass, &progress.taken.batch)?;
+    let ingested = live.ingest(rt, alloc, pass, &batch.batch)?;
     // A wake-up that is refused for memory is passed over: what is late is filled behind the jobs all the same.
     let _ = wake.try_send(rt, ());
-    progress.begin_next(alloc, ingested.outcomes.as_slice().len());
+    progress.count_sent(&batch, ingested.outcomes.as_slice().len());
     Ok(())
 }

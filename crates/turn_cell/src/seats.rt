@@ -14,9 +14,10 @@ use std::snapshot::Snapshot;
 use std::sync::Wait;
 use std::time::Duration;
 
-/// How often a caller looks whether the turn is free before it draws a ticket all the same. Callers that draw at once
-/// would hand the value, and with it each octet that a turn touches, from processor to processor at every turn.
-const LOOKS: u32 = 2048;
+/// How often a caller looks whether the turn is free before it draws a ticket all the same: until it has slept twice.
+/// Callers that draw at once would hand the value, and with it each octet that a turn touches, from processor to
+/// processor at every turn; one that never draws would wait as long as others take turns one behind the other.
+const LOOKS: u32 = 48;
 
 /// How many looks are close together, by backing off and then yielding the processor. Behind them a caller sleeps: a
 /// short turn, as that of a batch, is over by then.

@@ -63,7 +63,7 @@ pieces-preserved g c =
     let piece = c.in-Ok.piece in
     let q = c.feed.new.self in
     let same = c.feed.ensures.counts in
-    let fed : IsUnderway r (was.0 ++ piece) b.sent b.in_hand c.args.pass.now c.pieces.pass q =
+    let fed : IsUnderway r (was.0 ++ piece) b.sent [] b.in_hand c.args.pass.now c.pieces.pass q =
     underway_fed r was.0 piece b.sent b.in_hand c.args.pass.now c.pieces.pass c.pieces.progress q b.underway c.in_ok-feed.ensures.fed c.feed.ensures.in_hand same.0 same.1 same.2 in
     let on = c.in_ok-send_waiting.ensures.sent c.args.pass.now (was.0 ++ piece) b.sent b.in_hand b.whole fed in
     let room = i.room in
@@ -146,7 +146,7 @@ returns-then-is_at_version-clause-sent g c =
     let piece = c.in-Ok.piece in
     let q = c.feed.new.self in
     let same = c.feed.ensures.counts in
-    let fed : IsUnderway r (was.0 ++ piece) b.sent b.in_hand c.args.pass.now c.pieces.pass q =
+    let fed : IsUnderway r (was.0 ++ piece) b.sent [] b.in_hand c.args.pass.now c.pieces.pass q =
     underway_fed r was.0 piece b.sent b.in_hand c.args.pass.now c.pieces.pass c.pieces.progress q b.underway c.in_ok-feed.ensures.fed c.feed.ensures.in_hand same.0 same.1 same.2 in
     let on = c.in_ok-send_waiting.ensures.sent c.args.pass.now (was.0 ++ piece) b.sent b.in_hand b.whole fed in
     let all = read_of_split (was.0 ++ piece) (on.sent ++ on.in_hand) c.send_waiting.new.progress.splitter on.underway.split in
@@ -215,7 +215,7 @@ returns-in_err-send_waiting-clause-refused g c =
     let piece = c.in-Ok.piece in
     let q = c.feed.new.self in
     let same = c.feed.ensures.counts in
-    let fed : IsUnderway r (was.0 ++ piece) b.sent b.in_hand c.args.pass.now c.pieces.pass q =
+    let fed : IsUnderway r (was.0 ++ piece) b.sent [] b.in_hand c.args.pass.now c.pieces.pass q =
     underway_fed r was.0 piece b.sent b.in_hand c.args.pass.now c.pieces.pass c.pieces.progress q b.underway c.in_ok-feed.ensures.fed c.feed.ensures.in_hand same.0 same.1 same.2 in
     let all = read_of_split (was.0 ++ piece) (b.sent ++ b.in_hand) q.splitter fed.split in
     let room = c.pieces.invariant.room in

@@ -1,14 +1,16 @@
-use Rattle.std.proofs.Common.{◌++◌, [], refl, ap, ◌∙◌, length, arith, length-append}
+use Rattle.std.proofs.Common.{◌+◌, ◌++◌, [], refl, sym, ap, ◌∙◌, length, subst, arith}
 use Rattle.space_packet.specs.Waiting.{Waiting}
 use Rattle.std.proofs.lemmas.Result.{err_from_is_err_and}
+use Rattle.load_session.specs.declared.batches.NextBatch.{NextBatch}
+use Rattle.load_session.specs.Batches.{IsTakenFor}
 use Rattle.load_session.specs.Receiving.{Receiving, receiving}
-use Rattle.load_session.proofs.Batching.{taken_for_none}
-use Rattle.load_jobs.specs.Underway.{behind}
-use Rattle.load_jobs.proofs.Underway.{answered_no_memory, batches_sent, underway_taken, within_taken}
+use Rattle.load_jobs.specs.Underway.{behind, packets_of}
+use Rattle.load_jobs.proofs.Ahead.{ahead_smaller, within_ahead}
+use Rattle.load_jobs.proofs.Underway.{answered_no_memory, groups_sent, underway_ahead}
 use Rattle.load_jobs.proofs.sending.send_waiting.Goals as goal
 
-pub batches-init : goal.batches-init
-batches-init g c = record {
+pub rounds-init : goal.rounds-init
+rounds-init g c = record {
   free = c.requires.free;
   in_hand = c.requires.in_hand;
   within = c.requires.within;
@@ -16,119 +18,113 @@ batches-init g c = record {
   on = λ origin read sent in_hand whole u. (sent, in_hand, whole, u);
 }
 
-pub take_in_hand-requires-clause-received : goal.take_in_hand-requires-clause-received
-take_in_hand-requires-clause-received g c = c.batches.invariant.in_hand.1.batch.received
+pub take_ahead-requires-clause-received : goal.take_ahead-requires-clause-received
+take_ahead-requires-clause-received g c = c.rounds.invariant.in_hand.1.batch.received
 
--- ---- a batch of 64
+-- ---- batches one behind the other
 
-pub send_in_hand-requires-clause-in_hand : goal.send_in_hand-requires-clause-in_hand
-send_in_hand-requires-clause-in_hand g c =
-    let hand = c.batches.invariant.in_hand in
-    let t = c.in_ok-take_in_hand.ensures.taken in
-    (hand.0 ++ t.packets, t.taken hand.0 hand.1)
+pub send_ahead-requires-clause-ahead : goal.send_ahead-requires-clause-ahead
+send_ahead-requires-clause-ahead g c =
+    let hand = c.rounds.invariant.in_hand in
+    let t = c.in_ok-ahead.ensures.ahead hand.0 hand.1 in
+    (t.groups, t.ahead)
 
-pub send_in_hand-requires-clause-within : goal.send_in_hand-requires-clause-within
-send_in_hand-requires-clause-within g c =
-    let hand = c.batches.invariant.in_hand in
-    let t = c.in_ok-take_in_hand.ensures.taken in
-    let same = c.take_in_hand.ensures.counts in
+pub send_ahead-requires-clause-within : goal.send_ahead-requires-clause-within
+send_ahead-requires-clause-within g c =
+    let hand = c.rounds.invariant.in_hand in
+    let same = c.take_ahead.ensures.counts in
     let at = c.args.reception.now in
-    within_taken (receiving at.head.now [] at.graph.now at.link at.moment) c.batches.progress c.take_in_hand.new.self hand t c.batches.invariant.within same.0 same.1 same.2
+    let r : Receiving = receiving at.head.now [] at.graph.now at.link at.moment in
+    within_ahead r hand.0 c.in_ok-ahead.ahead.items c.rounds.progress c.take_ahead.new.self hand.1 (c.in_ok-ahead.ensures.ahead hand.0 hand.1) c.rounds.invariant.within same.0 same.1 same.2
 
-pub batches-preserved : goal.batches-preserved
-batches-preserved g c =
-    let hand = c.batches.invariant.in_hand in
-    let t = c.in_ok-take_in_hand.ensures.taken in
-    let q = c.take_in_hand.new.self in
-    let same = c.take_in_hand.ensures.counts in
+pub rounds-preserved : goal.rounds-preserved
+rounds-preserved g c =
+    let hand = c.rounds.invariant.in_hand in
+    let t = c.in_ok-ahead.ensures.ahead hand.0 hand.1 in
+    let batches = c.in_ok-ahead.ahead.items in
+    let q = c.take_ahead.new.self in
+    let same = c.take_ahead.ensures.counts in
     let level = t.level in
-    let had = c.batches.invariant.level in
-    let waiting = c.send_in_hand.ensures.waiting in
-    let none = c.in_ok-send_in_hand.ensures.none in
+    let had = c.rounds.invariant.level in
     let at = c.args.reception.now in
     let r : Receiving = receiving at.head.now [] at.graph.now at.link at.moment in
     record {
-      free = c.send_in_hand.ensures.free;
-      in_hand = ([], taken_for_none r c.send_in_hand.new.progress.taken none.0 none.2 none.1 c.requires.moment);
-      within = c.in_ok-send_in_hand.ensures.within;
-      level = rw waiting (level ∙ had);
-      on = λ origin read sent in_hand whole u.
-          let was = c.batches.invariant.on origin read sent in_hand whole u in
-          let now = underway_taken (behind r origin) read was.0 was.1 origin c.batches.pass c.batches.progress q was.3 t same.0 same.1 same.2 in
-          let sent_so = c.in_ok-send_in_hand.ensures.sent origin read was.0 (was.1 ++ t.packets) was.2 now in
-          (was.0 ++ (was.1 ++ t.packets), [], batches_sent was.0 (was.1 ++ t.packets) was.2 (let count = now.taken.count in let few = now.taken.few in omega (arith, count, few, c.if-progress-lt-BATCH.false)), sent_so);
+      free = c.send_ahead.ensures.free;
+      in_hand = (t.in_hand, subst (IsTakenFor r t.in_hand) (sym c.send_ahead.ensures.in_hand) t.taken);
+      within = c.in_ok-send_ahead.ensures.within;
+      level = ap (λ (w : Waiting). w.at + length w.octets) c.send_ahead.ensures.waiting ∙ (level ∙ had);
+      on = λ origin read sent in_hand whole u. (
+          let was = c.rounds.invariant.on origin read sent in_hand whole u in
+          let taken = c.in_ok-ahead.ensures.ahead was.1 was.3.taken in
+          let now = underway_ahead (behind r origin) read was.0 was.1 origin c.rounds.pass batches c.rounds.progress q was.3 taken same.0 same.1 same.2 in
+          let all = c.in_ok-send_ahead.ensures.sent origin read was.0 taken.groups taken.in_hand was.2 taken.ahead now in
+          (was.0 ++ packets_of taken.groups, taken.in_hand, groups_sent r was.0 taken.groups batches was.2 taken.ahead, all));
     }
 
--- each of the 64 has an octet or more
-pub batches-smaller : goal.batches-smaller
-batches-smaller g c =
-    let hand = c.batches.invariant.in_hand in
-    let t = c.in_ok-take_in_hand.ensures.taken in
-    let before = hand.1.count in
-    let after = (t.taken hand.0 hand.1).count in
-    let both = length-append hand.0 t.packets in
-    let rising = t.rising in
-    let level = t.level in
-    let none = c.in_ok-send_in_hand.ensures.none.0 in
-    let same = ap (λ (w : Waiting). length w.octets) c.send_in_hand.ensures.waiting in
-    omega (arith, before, after, both, rising, level, none, same, c.if-progress-lt-BATCH.false)
+-- each of their packets has an octet or more
+pub rounds-smaller : goal.rounds-smaller
+rounds-smaller g c =
+    let hand = c.rounds.invariant.in_hand in
+    let at = c.args.reception.now in
+    let r : Receiving = receiving at.head.now [] at.graph.now at.link at.moment in
+    let less = ahead_smaller r hand.0 c.in_ok-ahead.ahead.items c.rounds.progress c.take_ahead.new.self hand.1 (c.in_ok-ahead.ensures.ahead hand.0 hand.1) in
+    let octets = ap (λ (w : Waiting). length w.octets) c.send_ahead.ensures.waiting in
+    let taken = ap (λ (t : NextBatch). t.packets) c.send_ahead.ensures.in_hand in
+    omega (arith, less, octets, taken, c.in_ok-ahead.ahead.ok, c.if-is_last.false)
 
 -- ---- its ends
 
 -- fewer are in hand, and none waits
-pub returns-then-progress-lt-BATCH-clause-sent : goal.returns-then-progress-lt-BATCH-clause-sent
-returns-then-progress-lt-BATCH-clause-sent g c = λ origin read sent in_hand whole u.
+pub returns-then-is_last-clause-sent : goal.returns-then-is_last-clause-sent
+returns-then-is_last-clause-sent g c = λ origin read sent in_hand whole u.
     let at = c.args.reception.now in
     let r : Receiving = receiving at.head.now [] at.graph.now at.link at.moment in
-    let hand = c.batches.invariant.in_hand in
-    let t = c.in_ok-take_in_hand.ensures.taken in
-    let q = c.take_in_hand.new.self in
-    let same = c.take_in_hand.ensures.counts in
-    let was = c.batches.invariant.on origin read sent in_hand whole u in
+    let batches = c.in_ok-ahead.ahead.items in
+    let q = c.take_ahead.new.self in
+    let same = c.take_ahead.ensures.counts in
+    let was = c.rounds.invariant.on origin read sent in_hand whole u in
+    let taken = c.in_ok-ahead.ensures.ahead was.1 was.3.taken in
+    let now = underway_ahead (behind r origin) read was.0 was.1 origin c.rounds.pass batches c.rounds.progress q was.3 taken same.0 same.1 same.2 in
     record {
-      sent = was.0;
-      in_hand = was.1 ++ t.packets;
-      underway = underway_taken (behind r origin) read was.0 was.1 origin c.batches.pass c.batches.progress q was.3 t same.0 same.1 same.2;
-      whole = was.2;
-      none_waits = c.in_ok-take_in_hand.ensures.last c.if-progress-lt-BATCH.true;
+      sent = was.0 ++ packets_of taken.groups;
+      in_hand = taken.in_hand;
+      underway = c.in_ok-send_ahead.ensures.sent origin read was.0 taken.groups taken.in_hand was.2 taken.ahead now;
+      whole = groups_sent r was.0 taken.groups batches was.2 taken.ahead;
+      none_waits = rw c.send_ahead.ensures.waiting (c.in_ok-ahead.ensures.last (omega (arith, c.if-is_last.true)));
     }
 
-pub returns-then-progress-lt-BATCH-clause-in_hand : goal.returns-then-progress-lt-BATCH-clause-in_hand
-returns-then-progress-lt-BATCH-clause-in_hand g c =
-    let hand = c.batches.invariant.in_hand in
-    let t = c.in_ok-take_in_hand.ensures.taken in
-    (hand.0 ++ t.packets, t.taken hand.0 hand.1)
-
-pub returns-then-progress-lt-BATCH-clause-within : goal.returns-then-progress-lt-BATCH-clause-within
-returns-then-progress-lt-BATCH-clause-within g c =
+pub returns-then-is_last-clause-in_hand : goal.returns-then-is_last-clause-in_hand
+returns-then-is_last-clause-in_hand g c =
     let at = c.args.reception.now in
     let r : Receiving = receiving at.head.now [] at.graph.now at.link at.moment in
-    let hand = c.batches.invariant.in_hand in
-    let t = c.in_ok-take_in_hand.ensures.taken in
-    let same = c.take_in_hand.ensures.counts in
-    within_taken r c.batches.progress c.take_in_hand.new.self hand t c.batches.invariant.within same.0 same.1 same.2
+    let hand = c.rounds.invariant.in_hand in
+    let t = c.in_ok-ahead.ensures.ahead hand.0 hand.1 in
+    (t.in_hand, subst (IsTakenFor r t.in_hand) (sym c.send_ahead.ensures.in_hand) t.taken)
 
-pub returns-then-progress-lt-BATCH-clause-level : goal.returns-then-progress-lt-BATCH-clause-level
-returns-then-progress-lt-BATCH-clause-level g c = c.in_ok-take_in_hand.ensures.taken.level ∙ c.batches.invariant.level
+pub returns-then-is_last-clause-level : goal.returns-then-is_last-clause-level
+returns-then-is_last-clause-level g c =
+    let hand = c.rounds.invariant.in_hand in
+    let level = (c.in_ok-ahead.ensures.ahead hand.0 hand.1).level in
+    ap (λ (w : Waiting). w.at + length w.octets) c.send_ahead.ensures.waiting ∙ (level ∙ c.rounds.invariant.level)
 
-pub returns-in_err-take_in_hand-clause-refused : goal.returns-in_err-take_in_hand-clause-refused
-returns-in_err-take_in_hand-clause-refused g c =
+pub returns-in_err-ahead-clause-refused : goal.returns-in_err-ahead-clause-refused
+returns-in_err-ahead-clause-refused g c =
     let at = c.args.reception.now in
     let r : Receiving = receiving at.head.now [] at.graph.now at.link at.moment in
     let p = err_from_is_err_and c.from_residual.result c.from_residual.ensures.1 in
     rw (p.1, p.2) (λ origin read sent in_hand whole u.
-    answered_no_memory c.args.live.now.cell.first.store (behind r origin) read origin c.batches.pass c.batches.progress refl (c.batches.invariant.on origin read sent in_hand whole u))
+    answered_no_memory c.args.live.now.cell.first.store (behind r origin) read origin c.rounds.pass c.rounds.progress refl (c.rounds.invariant.on origin read sent in_hand whole u))
 
-pub returns-in_err-send_in_hand-clause-refused : goal.returns-in_err-send_in_hand-clause-refused
-returns-in_err-send_in_hand-clause-refused g c =
+pub returns-in_err-send_ahead-clause-refused : goal.returns-in_err-send_ahead-clause-refused
+returns-in_err-send_ahead-clause-refused g c =
     let at = c.args.reception.now in
     let r : Receiving = receiving at.head.now [] at.graph.now at.link at.moment in
-    let hand = c.batches.invariant.in_hand in
-    let t = c.in_ok-take_in_hand.ensures.taken in
-    let q = c.take_in_hand.new.self in
-    let same = c.take_in_hand.ensures.counts in
-    let p = err_from_is_err_and c.from_residual-in_err-send_in_hand.result c.from_residual-in_err-send_in_hand.ensures.1 in
-    rw (p.1, p.2) (λ origin read sent in_hand whole u.
-    let was = c.batches.invariant.on origin read sent in_hand whole u in
-    let now = underway_taken (behind r origin) read was.0 was.1 origin c.batches.pass c.batches.progress q was.3 t same.0 same.1 same.2 in
-    c.in_err-send_in_hand.ensures.refused origin read was.0 (was.1 ++ t.packets) was.2 (λ few. absurd (let count = now.taken.count in omega (arith, few, count, c.if-progress-lt-BATCH.false))) now)
+    let batches = c.in_ok-ahead.ahead.items in
+    let q = c.take_ahead.new.self in
+    let same = c.take_ahead.ensures.counts in
+    let p = err_from_is_err_and c.from_residual-in_err-send_ahead.result c.from_residual-in_err-send_ahead.ensures.1 in
+    rw (p.1, p.2) (λ origin read sent in_hand whole u. (
+    let was = c.rounds.invariant.on origin read sent in_hand whole u in
+    let taken = c.in_ok-ahead.ensures.ahead was.1 was.3.taken in
+    let now = underway_ahead (behind r origin) read was.0 was.1 origin c.rounds.pass batches c.rounds.progress q was.3 taken same.0 same.1 same.2 in
+    c.in_err-send_ahead.ensures.refused origin read was.0 taken.groups taken.in_hand was.2 taken.ahead now))

@@ -5,8 +5,8 @@ use Rattle.load_jobs.specs.Underway.{IsInHand, IsWithinLimit}
 use Rattle.load_jobs.proofs.Underway.{GoesOnTo}
 use Rattle.load_jobs.proofs.sending.send_waiting.Given as goal
 
-abbrev pub invariant-batches : goal.invariant-batches
-invariant-batches g l = record {
+abbrev pub invariant-rounds : goal.invariant-rounds
+invariant-rounds g l = record {
   free : IsFree l.live.cell l.pass;
   in_hand : IsInHand (receiving l.reception.head.now [] l.reception.graph.now l.reception.link l.reception.moment) l.progress.taken;
   within : IsWithinLimit l.progress;
@@ -14,5 +14,5 @@ invariant-batches g l = record {
   on : GoesOnTo (receiving l.reception.head.now [] l.reception.graph.now l.reception.link l.reception.moment) l.fn.pass l.pass l.fn.progress l.progress;
 }
 
-abbrev pub decreases-batches : goal.decreases-batches
-decreases-batches g l = length l.progress.splitter.octets + l.progress.taken.packets
+abbrev pub decreases-rounds : goal.decreases-rounds
+decreases-rounds g l = length l.progress.splitter.octets + l.progress.taken.packets
