@@ -34,6 +34,8 @@ pub enum Call {
     Fill(Task, Outcome),
     /// Each flight ends.
     Settle,
+    /// The last publication is noted.
+    Close,
     /// A reopen that succeeds.
     Reopen,
     /// A reopen that is refused.
@@ -265,6 +267,7 @@ fn is_answered<D: Disk>(alloc: Global, store: &mut Store<D>, call: &Call) -> boo
             store.settle();
             true
         }
+        Call::Close => store.note_closed().is_ok(),
         Call::Reopen => is_reopened(store),
         Call::NoReopen => !is_reopened(store),
         Call::Late(interval, late) => store.is_late(Interval(*interval)) == *late,

@@ -116,7 +116,7 @@ const OTHER_PACKETS: &[Step] = &[
 ];
 
 /// The least late interval that is free begins; one with packets of the second table alone isn't late. Others stay in flight while one ends, and are free
-/// once all flights end.
+/// once all flights end. The last publication changes none of it.
 const FLIGHTS: &[Step] = &[Step::Calls(&[
     Call::Late(0, false),
     Call::Begin(None),
@@ -139,6 +139,8 @@ const FLIGHTS: &[Step] = &[Step::Calls(&[
     Call::Late(1, false),
     Call::Late(2, true),
     Call::Begin(Some((0, 5, &[0, 1]))),
+    Call::Close,
+    Call::Late(0, true),
     Call::Fill((2, 5, &[9]), Ok(Installed::Done)),
     Call::Begin(None),
     Call::Settle,

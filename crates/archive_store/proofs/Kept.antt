@@ -9,7 +9,7 @@ use Rattle.arch_types.specs.declared.row.Row.{Row}
 use Rattle.history_items.specs.declared.fills.Addition.{Addition}
 use Rattle.history_items.specs.declared.fills.Addition.TheVariants as additions
 use Rattle.history_items.specs.declared.fills.Fill.{Fill}
-use Rattle.history_items.specs.declared.fills.Fill.TheVariants.{Begun, Done, Freed, Fault}
+use Rattle.history_items.specs.declared.fills.Fill.TheVariants.{Begun, Done, Freed, Fault, Closed}
 use Rattle.history_items.specs.declared.items.Item.{Item}
 use Rattle.history_items.specs.Items.{items_of}
 use Rattle.history_items.specs.Fills.{rows_of_faults, pending_fault_of, unacknowledged_in, above}
@@ -54,6 +54,7 @@ hand-append [] more healed = refl
 hand-append (Begun i b ∷ fills) more healed = hand-append fills more healed
 hand-append (Done i b ∷ fills) more healed = hand-append fills more healed
 hand-append (Freed i ∷ fills) more healed = hand-append fills more healed
+hand-append (Closed ∷ fills) more healed = hand-append fills more healed
 hand-append (Fault count true unacknowledged ∷ fills) more healed = absurd cc
 hand-append (Fault count false unacknowledged ∷ fills) more healed = hand-append fills more healed
 
@@ -62,6 +63,7 @@ none_unacknowledged [] healed = refl
 none_unacknowledged (Begun i b ∷ fills) healed = none_unacknowledged fills healed
 none_unacknowledged (Done i b ∷ fills) healed = none_unacknowledged fills healed
 none_unacknowledged (Freed i ∷ fills) healed = none_unacknowledged fills healed
+none_unacknowledged (Closed ∷ fills) healed = none_unacknowledged fills healed
 none_unacknowledged (Fault count true unacknowledged ∷ fills) healed = absurd cc
 none_unacknowledged (Fault count false unacknowledged ∷ fills) healed = none_unacknowledged fills healed
 
@@ -73,6 +75,7 @@ unacknowledged_in_faults [] rows is = absurd cc
 unacknowledged_in_faults (Begun i b ∷ fills) rows is = unacknowledged_in_faults fills rows is
 unacknowledged_in_faults (Done i b ∷ fills) rows is = unacknowledged_in_faults fills rows is
 unacknowledged_in_faults (Freed i ∷ fills) rows is = unacknowledged_in_faults fills rows is
+unacknowledged_in_faults (Closed ∷ fills) rows is = unacknowledged_in_faults fills rows is
 unacknowledged_in_faults (Fault count true additions.Nothing ∷ fills) rows is = absurd cc
 unacknowledged_in_faults (Fault count true (additions.Rows held) ∷ fills) rows is = let same : held ≡ rows = cc (is) in (0, omega arith, ap items_of same)
 unacknowledged_in_faults (Fault count true (additions.Fill interval base) ∷ fills) rows is = absurd cc

@@ -1,8 +1,9 @@
 //! Late intervals and their fills.
 
-ghost use Rattle.std.specs.Prelude.{◌≡◌, ◌↔◌, ◌<◌, ◌≤◌, [], length, IfOk, IfErr, IfSome, OnOk, IsTrue};
+ghost use Rattle.std.specs.Prelude.{◌≡◌, ◌↔◌, ◌<◌, ◌≤◌, [], ◌∷◌, ◌++◌, length, IfOk, IfErr, IfSome, OnErr, OnOk, IsTrue};
 ghost use Rattle.std.specs.Arc.{arc_value};
 ghost use Rattle.history_items.specs.Late.{IsLate};
+ghost use Rattle.history_items.specs.declared.fills.Fill.TheVariants as noted;
 ghost use Rattle.interval_fills.specs.Intervals.{rows_of_interval};
 ghost use Rattle.intervals.specs.Interval.{interval_end, interval_start, HasClockTime};
 ghost use Rattle.interval_fills.specs.Steps.{all_freed, freed};
@@ -143,6 +144,18 @@ impl<D: Disk> Store<D> {
         ensures grows { OnlyAppends self.old self.new }
     {
         self.tracker.settle();
+    }
+
+    /// Notes that what is published of the archive was published for the last time. Refused for want of memory, it leaves
+    /// the store as it was.
+    pub fn note_closed(&mut self) -> Result<(), AllocError>
+        ensures noted { OnOk result (self.new ≡ record self.old { fills = self.old.fills ++ noted.Closed ∷ [] }) }
+        ensures refused { OnErr result (self.new ≡ self.old) }
+        ensures grows { OnlyAppends self.old self.new }
+    {
+        self.tracker.reserve()?;
+        self.tracker.note_closed();
+        Ok(())
     }
 
     /// The length of the fill list. Takes no memory.

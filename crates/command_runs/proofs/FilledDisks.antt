@@ -10,7 +10,7 @@ use Rattle.arch_disk.specs.Disk.{Device, LeavesOnly, raised, NoFault}
 use Rattle.intervals.specs.declared.interval.Interval.{Interval}
 use Rattle.history_items.specs.declared.fills.Addition.TheVariants as additions
 use Rattle.history_items.specs.declared.fills.Fill.{Fill}
-use Rattle.history_items.specs.declared.fills.Fill.TheVariants.{Begun, Done, Fault, Freed}
+use Rattle.history_items.specs.declared.fills.Fill.TheVariants.{Begun, Done, Freed, Fault, Closed}
 use Rattle.history_items.specs.Fills.{Rising, above, base_in, flight_after, in_flight, is_same, pending_fault_of, rows_of_faults, unacknowledged_in}
 use Rattle.history_items.specs.Late.{IsLate, last_in}
 use Rattle.interval_walks.specs.Counts.{intervals_in, late_intervals}
@@ -61,6 +61,7 @@ idle_from j (Done i b ∷ fills) all o none = idle_from j fills all.1 (if is_sam
     go true = refl
     go false = none
 idle_from j (Freed i ∷ fills) all o none = absurd all.0
+idle_from j (Closed ∷ fills) all o none = absurd all.0
 idle_from j (Fault count wrote unacknowledged ∷ fills) all o none = absurd all.0
 
 -- has no flight
@@ -73,6 +74,7 @@ faults_idle j [] o none = none
 faults_idle j (Begun i b ∷ fills) o none = faults_idle j fills o none
 faults_idle j (Done i b ∷ fills) o none = faults_idle j fills o none
 faults_idle j (Freed i ∷ fills) o none = faults_idle j fills o none
+faults_idle j (Closed ∷ fills) o none = faults_idle j fills o none
 faults_idle j (Fault count wrote unacknowledged ∷ fills) o none = faults_idle j fills o none
 
 behind_from : (j : Interval) (fills more : List Fill) → AllByRecursion IsDone fills → (o : Option ℕ) → o ≡ None → fold (flight_after j) o (fills ++ faults_in more) ≡ None
@@ -84,6 +86,7 @@ behind_from j (Done i b ∷ fills) more all o none = behind_from j fills more al
     go true = refl
     go false = none
 behind_from j (Freed i ∷ fills) more all o none = absurd all.0
+behind_from j (Closed ∷ fills) more all o none = absurd all.0
 behind_from j (Fault count wrote unacknowledged ∷ fills) more all o none = absurd all.0
 
 pub idle_behind : (fills more : List Fill) → AllByRecursion IsDone fills → (j : Interval) → in_flight j (fills ++ faults_in more) ≡ None

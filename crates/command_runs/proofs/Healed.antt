@@ -5,7 +5,7 @@ use Rattle.arch_disk.specs.Disk.{Device, raised}
 use Rattle.refusals.specs.declared.refusal.Refusal.{Refusal}
 use Rattle.history_items.specs.declared.fills.Addition.{Addition}
 use Rattle.history_items.specs.declared.fills.Fill.{Fill}
-use Rattle.history_items.specs.declared.fills.Fill.TheVariants.{Begun, Done, Fault, Freed}
+use Rattle.history_items.specs.declared.fills.Fill.TheVariants.{Begun, Done, Freed, Fault, Closed}
 use Rattle.history_items.specs.Fills.{Rising, above, pending_fault_of, reopened}
 use Rattle.store_fills.specs.Faults.{faults_in}
 use Rattle.store_fills.proofs.Faults.{Rising-in, faults_in-reopened}
@@ -20,6 +20,7 @@ reopened_same [] none = refl
 reopened_same (Begun i b ∷ fills) none = ap (λ (l : List Fill). Begun i b ∷ l) (reopened_same fills none)
 reopened_same (Done i b ∷ fills) none = ap (λ (l : List Fill). Done i b ∷ l) (reopened_same fills none)
 reopened_same (Freed i ∷ fills) none = ap (λ (l : List Fill). Freed i ∷ l) (reopened_same fills none)
+reopened_same (Closed ∷ fills) none = ap (λ (l : List Fill). Closed ∷ l) (reopened_same fills none)
 reopened_same (Fault count true unacknowledged ∷ fills) none = absurd cc
 reopened_same (Fault count false unacknowledged ∷ fills) none = ap (λ (l : List Fill). Fault count false unacknowledged ∷ l) (reopened_same fills none)
 

@@ -13,7 +13,7 @@ use Rattle.arch_types.specs.declared.row.Row.{Row}
 use Rattle.intervals.specs.Interval.{interval_of}
 use Rattle.history_items.specs.declared.fills.Addition.{Addition}
 use Rattle.history_items.specs.declared.fills.Fill.{Fill}
-use Rattle.history_items.specs.declared.fills.Fill.TheVariants.{Begun, Done, Freed, Fault}
+use Rattle.history_items.specs.declared.fills.Fill.TheVariants.{Begun, Done, Freed, Fault, Closed}
 use Rattle.history_items.specs.declared.items.Item.{Item}
 use Rattle.history_items.specs.Items.{database_item, is_of_interval, items_of, row_item}
 use Rattle.history_items.specs.Fills.{is_same, base_in, base_after, in_flight, flight_after, reopened, cleared as fill_cleared}
@@ -226,6 +226,12 @@ pub faulted : (e : ℕ) (history : List Item) (fills : List Fill) (marks : Marks
 faulted e history fills marks count wrote unacknowledged are = record {
   each = λ j. rw (base_after_item j fills (Fault count wrote unacknowledged), flight_after_item j fills (Fault count wrote unacknowledged)) (are.each j);
   known = λ j none. (base_after_item j fills (Fault count wrote unacknowledged) ∙ (are.known j none).0, flight_after_item j fills (Fault count wrote unacknowledged) ∙ (are.known j none).1);
+}
+
+pub closed : (e : ℕ) (history : List Item) (fills : List Fill) (marks : Marks) → AreMarksOf e history fills marks → AreMarksOf e history (fills ++ Closed ∷ []) marks
+closed e history fills marks are = record {
+  each = λ j. rw (base_after_item j fills Closed, flight_after_item j fills Closed) (are.each j);
+  known = λ j none. (base_after_item j fills Closed ∙ (are.known j none).0, flight_after_item j fills Closed ∙ (are.known j none).1);
 }
 
 pub cleared : (e : ℕ) (history : List Item) (fills : List Fill) (marks : Marks) → AreMarksOf e history fills marks → AreMarksOf e history (reopened fills) marks

@@ -209,6 +209,15 @@ impl FillTracker {
         });
     }
 
+    /// Notes that what is published of the archive was published for the last time. Takes no memory.
+    pub fn note_closed(&mut self)
+        requires room { 1 ≤ self.old.room }
+        ensures fills { self.new.fills ≡ self.old.fills ++ noted.Closed ∷ [] }
+        ensures marks { KeepsMarks self.old self.new }
+    {
+        self.items.push_reserved(Fill::Closed);
+    }
+
     /// Notes that a reopen succeeded. Takes no memory.
     pub fn clear_failed_writes(&mut self)
         ensures fills { self.new.fills ≡ reopened self.old.fills }

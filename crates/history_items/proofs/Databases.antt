@@ -1,5 +1,5 @@
 -- The database in force and the packet names, as a history grows.
-use Rattle.std.proofs.Common.{◌≡◌, ℕ, suc, ◌+◌, List, [], ◌∷◌, ◌++◌, length, map, Bool, true, false, true≢false, Option, Some, None, refl, sym, ap, ◌∙◌, append-nil, append_assoc}
+use Rattle.std.proofs.Common.{◌≡◌, ℕ, suc, List, [], ◌∷◌, ◌++◌, length, Bool, true, false, true≢false, Option, Some, None, refl, sym, ap, ◌∙◌, append-nil, append_assoc}
 use Rattle.std.specs.Prelude.{fold, if◌then◌else◌, ◌||◌}
 use Rattle.std.specs.List.{AllByRecursion, cons_option, filter_map, list_any}
 use Rattle.std.specs.Str.{bytes_eq}

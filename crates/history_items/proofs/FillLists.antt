@@ -7,7 +7,7 @@ use Rattle.std.proofs.lemmas.List.Elements.{filter_map-append}
 use Rattle.std.proofs.lemmas.List.Sums.{fold-append}
 use Rattle.intervals.specs.declared.interval.Interval.{Interval}
 use Rattle.history_items.specs.declared.fills.Fill.{Fill}
-use Rattle.history_items.specs.declared.fills.Fill.TheVariants.{Begun, Done, Freed, Fault}
+use Rattle.history_items.specs.declared.fills.Fill.TheVariants.{Begun, Done, Freed, Fault, Closed}
 use Rattle.history_items.specs.Fills.{is_same, base_in, base_after, in_flight, flight_after, noted_faults, rows_of_faults, first_pending, pending_fault_of, cleared, reopened, above, CountsRise, Rising}
 use Rattle.history_items.specs.Noted.{IntervalFill, Noted, NotedFault, NotedFlight, fault_of_fill, items_of_fault, noted_of}
 
@@ -82,6 +82,7 @@ pub noted_cleared : (item : Fill) → noted_of (cleared item) ≡ with_fault_cle
 noted_cleared (Begun i b) = refl
 noted_cleared (Done i b) = refl
 noted_cleared (Freed i) = refl
+noted_cleared Closed = refl
 noted_cleared (Fault count wrote unacknowledged) = refl
 
 noted_faults-reopened : (fills : List Fill) → noted_faults (reopened fills) ≡ map fault_cleared (noted_faults fills)

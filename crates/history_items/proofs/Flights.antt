@@ -7,7 +7,7 @@ use Rattle.std.proofs.lemmas.List.Folds.{list_any-append}
 use Rattle.std.proofs.lemmas.Bool.Decides.{Decides-int_eq}
 use Rattle.intervals.specs.declared.interval.Interval.{Interval}
 use Rattle.history_items.specs.declared.fills.Fill.{Fill}
-use Rattle.history_items.specs.declared.fills.Fill.TheVariants.{Begun, Done, Freed, Fault}
+use Rattle.history_items.specs.declared.fills.Fill.TheVariants.{Begun, Done, Freed, Fault, Closed}
 use Rattle.history_items.specs.FillList.{flights_without, flights_after, flights_of}
 use Rattle.history_items.specs.Fills.{is_same, in_flight, flight_after}
 
@@ -60,6 +60,7 @@ in_flight_step i (Begun j b) fl o e = list_any-append (is_same i) fl (j ∷ []) 
 in_flight_step i (Done j b) fl o e = ended i j fl o e
 in_flight_step i (Freed j) fl o e = ended i j fl o e
 in_flight_step i (Fault count wrote unacknowledged) fl o e = e
+in_flight_step i Closed fl o e = e
 
 in_flight_fold : (i : Interval) (fills : List Fill) (fl : List Interval) (o : Option ℕ) → list_any (is_same i) fl ≡ is_some o → list_any (is_same i) (fold flights_after fl fills) ≡ is_some (fold (flight_after i) o fills)
 in_flight_fold i [] fl o e = e

@@ -6,7 +6,7 @@ use Rattle.std.proofs.lemmas.Bool.{cases_lt}
 use Rattle.std.proofs.lemmas.Bool.Decides.{Decides-int_eq}
 use Rattle.intervals.specs.declared.interval.Interval.{Interval}
 use Rattle.history_items.specs.declared.fills.Fill.{Fill}
-use Rattle.history_items.specs.declared.fills.Fill.TheVariants.{Begun, Done, Freed, Fault}
+use Rattle.history_items.specs.declared.fills.Fill.TheVariants.{Begun, Done, Freed, Fault, Closed}
 use Rattle.history_items.specs.Fills.{is_same, base_in, base_after, in_flight, flight_after, IsLastDone, EndsFlight, IsBegunLast}
 
 -- what an item says, if it says anything, else what was said before
@@ -116,12 +116,14 @@ module _ (interval : Interval) where
   base_said (Done i b) = where_same (is_same interval i) (Some b)
   base_said (Freed i) = None
   base_said (Fault count wrote unacknowledged) = None
+  base_said Closed = None
 
   base_is_said : (before : Option ℕ) (item : Fill) → base_after interval before item ≡ said (base_said item) before
   base_is_said before (Begun i b) = refl
   base_is_said before (Done i b) = said_where (is_same interval i) (Some b) before
   base_is_said before (Freed i) = refl
   base_is_said before (Fault count wrote unacknowledged) = refl
+  base_is_said before Closed = refl
 
   done_says : (item : Fill) (base : ℕ) → item ≡ Done interval base → base_said item ≡ Some (Some base)
   done_says item base e = ap base_said e ∙ ap (λ (b : Bool). where_same b (Some base)) (same_self interval interval refl)
@@ -134,6 +136,7 @@ module _ (interval : Interval) where
       (b, sym both.1, ap (λ (i : Interval). Done i b) (same_is interval i both.0))
   says_done (Freed i) what e = absurd cc
   says_done (Fault count wrote unacknowledged) what e = absurd cc
+  says_done Closed what e = absurd cc
 
   -- one that is none says nothing
   not_done : (item : Fill) → ((base : ℕ) → item ≡ Done interval base → ⊥) → base_said item ≡ None
@@ -141,6 +144,7 @@ module _ (interval : Interval) where
   not_done (Done i b) none = where_none (is_same interval i) (Some b) (λ same. none b (ap (λ (i : Interval). Done i b) (same_is interval i same)))
   not_done (Freed i) none = refl
   not_done (Fault count wrote unacknowledged) none = refl
+  not_done Closed none = refl
 
   last_done : (base : ℕ) (fills : List Fill) → (base_in interval fills ≡ Some base) ↔ IsLastDone interval base fills
   last_done base fills = (λ e. there e (decided base_said (base_after interval) base_is_said fills None), back)
@@ -185,12 +189,14 @@ module _ (interval : Interval) where
   flight_said (Done i b) = where_same (is_same interval i) None
   flight_said (Freed i) = where_same (is_same interval i) None
   flight_said (Fault count wrote unacknowledged) = None
+  flight_said Closed = None
 
   flight_is_said : (before : Option ℕ) (item : Fill) → flight_after interval before item ≡ said (flight_said item) before
   flight_is_said before (Begun i b) = said_where (is_same interval i) (Some b) before
   flight_is_said before (Done i b) = said_where (is_same interval i) None before
   flight_is_said before (Freed i) = said_where (is_same interval i) None before
   flight_is_said before (Fault count wrote unacknowledged) = refl
+  flight_is_said before Closed = refl
 
   -- an item that says that the interval is in flight is a Begun of it
   says_begun : (item : Fill) (base : ℕ) → flight_said item ≡ Some (Some base) → item ≡ Begun interval base
@@ -201,6 +207,7 @@ module _ (interval : Interval) where
   says_begun (Done i b) base e = let both = where_some (is_same interval i) None (Some base) e in absurd (cc (both.1))
   says_begun (Freed i) base e = let both = where_some (is_same interval i) None (Some base) e in absurd (cc (both.1))
   says_begun (Fault count wrote unacknowledged) base e = absurd cc
+  says_begun Closed base e = absurd cc
 
   -- one that says nothing neither begins nor ends a flight of the interval
   silent_ends : (item : Fill) → flight_said item ≡ None → EndsFlight interval item → ⊥
@@ -208,12 +215,14 @@ module _ (interval : Interval) where
   silent_ends (Done i b) e ends = where_not (is_same interval i) None e (same_self interval i ends)
   silent_ends (Freed i) e ends = where_not (is_same interval i) None e (same_self interval i ends)
   silent_ends (Fault count wrote unacknowledged) e ends = ends
+  silent_ends Closed e ends = ends
 
   ends_silent : (item : Fill) → (EndsFlight interval item → ⊥) → flight_said item ≡ None
   ends_silent (Begun i b) none = where_none (is_same interval i) (Some b) (λ same. none (same_is interval i same))
   ends_silent (Done i b) none = where_none (is_same interval i) None (λ same. none (same_is interval i same))
   ends_silent (Freed i) none = where_none (is_same interval i) None (λ same. none (same_is interval i same))
   ends_silent (Fault count wrote unacknowledged) none = refl
+  ends_silent Closed none = refl
 
   begun_last : (base : ℕ) (fills : List Fill) → (in_flight interval fills ≡ Some base) ↔ IsBegunLast interval base fills
   begun_last base fills = (λ e. there e (decided flight_said (flight_after interval) flight_is_said fills None), back)

@@ -4,7 +4,7 @@ use Rattle.intervals.specs.declared.interval.Interval.{Interval}
 use Rattle.history_items.specs.declared.fills.Addition.{Addition}
 use Rattle.history_items.specs.declared.fills.Addition.TheVariants as additions
 use Rattle.history_items.specs.declared.fills.Fill.{Fill}
-use Rattle.history_items.specs.declared.fills.Fill.TheVariants.{Begun, Done, Freed, Fault}
+use Rattle.history_items.specs.declared.fills.Fill.TheVariants.{Begun, Done, Freed, Fault, Closed}
 use Rattle.history_items.specs.declared.items.Item.{Item}
 use Rattle.history_items.specs.Items.{items_of}
 
@@ -53,6 +53,7 @@ noted_of (Begun i b) = record { done = None; flight = Some (noted_flight i (Some
 noted_of (Done i b) = record { done = Some (interval_fill i b); flight = Some (noted_flight i None); fault = None }
 noted_of (Freed i) = record { done = None; flight = Some (noted_flight i None); fault = None }
 noted_of (Fault count wrote addition) = record { done = None; flight = None; fault = Some (noted_fault count wrote addition) }
+noted_of Closed = record { done = None; flight = None; fault = None }
 
 -- what an addition adds
 abbrev pub added_of : Addition → Added

@@ -41,7 +41,8 @@ impl FillList {
         }
     }
 
-    /// Takes memory for one fault beside the ends of the flights. Refused, all but room is as it was.
+    /// Takes memory for one item that is no flight's, beside the ends of the flights: a fault, or the closing. Refused, all
+    /// but room is as it was.
     pub fn reserve_fault(&mut self) -> Result<(), AllocError>
         ensures room { OnOk result (0 < self.new.room) }
         ensures items { self.new.items ≡ self.old.items }
@@ -59,6 +60,14 @@ impl FillList {
             wrote,
             unacknowledged,
         });
+    }
+
+    /// Notes that what is published of the archive was published for the last time. Takes no memory.
+    pub fn note_closed(&mut self)
+        requires room { 0 < self.old.room }
+        ensures items { self.new.items ≡ self.old.items ++ fills.Closed ∷ [] }
+    {
+        self.items.push_reserved(Fill::Closed);
     }
 
     /// Notes that a reopen succeeded. Takes no memory.

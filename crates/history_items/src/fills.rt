@@ -43,6 +43,8 @@ pub enum Fill {
         /// What the call would have added.
         unacknowledged: Addition,
     },
+    /// What is published of the archive for readers that take no turns was published for the last time.
+    Closed,
 }
 
 /// Notes in an item that a reopen succeeded.
@@ -51,7 +53,7 @@ fn clear_failed_write(fill: &mut Fill)
 {
     match fill {
         Fill::Fault { wrote, .. } => *wrote = false,
-        Fill::Begun { .. } | Fill::Done { .. } | Fill::Freed { .. } => {}
+        Fill::Begun { .. } | Fill::Done { .. } | Fill::Freed { .. } | Fill::Closed => {}
     }
 }
 

@@ -25,6 +25,8 @@ enum Deed {
     Fault,
     /// A reopen succeeds.
     Reopen,
+    /// The archive is published for the last time.
+    Close,
 }
 
 /// What is seen behind it.
@@ -189,10 +191,38 @@ fn cleared() -> &'static [Seen] {
     CLEARED
 }
 
+/// The last publication beside an interval in flight and a late one, the flight's end, and a row behind both.
+const CLOSING: &[Step] = &[
+    (Deed::Rows(&[(0, 5_000_000), (0, 1500)], 0), Some(0)),
+    (Deed::Begin(2), Some(1)),
+    (Deed::Close, Some(1)),
+    (Deed::Finish(0, 2), Some(1)),
+    (Deed::Rows(&[(0, 1600)], 2), Some(0)),
+];
+
+fn closing() -> &'static [Step] {
+    CLOSING
+}
+
+const CLOSING_SEEN: &[Seen] = &[
+    Seen::State(0, Some(2), true, Some(0)),
+    Seen::State(1, Some(0), true, Some(1)),
+    Seen::Late(2),
+    Seen::Fills(&[
+        ("begun", 0, 2, false),
+        ("closed", 0, 0, false),
+        ("done", 0, 2, false),
+    ]),
+];
+
+fn closing_seen() -> &'static [Seen] {
+    CLOSING_SEEN
+}
+
 /// A name, what is noted, and what is seen then.
 type Case = (&'static str, &'static [Step], &'static [Seen]);
 
-fn cases() -> [Case; 6] {
+fn cases() -> [Case; 7] {
     [
         ("a row comes to a flight", course(), course_seen()),
         ("rows of two tables come at once", mixed(), mixed_seen()),
@@ -204,6 +234,7 @@ fn cases() -> [Case; 6] {
         ),
         ("a fault is noted", fault(), noted()),
         ("a fault is cleared", reopen(), cleared()),
+        ("the last publication", closing(), closing_seen()),
     ]
 }
 
@@ -243,6 +274,13 @@ fn fail(tracker: &mut FillTracker) -> Result<(), AllocError> {
     Ok(())
 }
 
+/// Notes the last publication.
+fn close(tracker: &mut FillTracker) -> Result<(), AllocError> {
+    tracker.reserve()?;
+    tracker.note_closed();
+    Ok(())
+}
+
 fn play(alloc: Global, tracker: &mut FillTracker, deed: &Deed) -> Result<(), AllocError> {
     match deed {
         Deed::Rows(rows, position) => return touch(alloc, tracker, rows, *position),
@@ -250,6 +288,7 @@ fn play(alloc: Global, tracker: &mut FillTracker, deed: &Deed) -> Result<(), All
         Deed::Begin(base) => return begin(tracker, *base),
         Deed::Finish(interval, base) => return finish(tracker, Interval(*interval), *base),
         Deed::Fault => return fail(tracker),
+        Deed::Close => return close(tracker),
         Deed::Free(interval) => tracker.free(Interval(*interval)),
         Deed::Settle => tracker.settle(),
         Deed::Reopen => tracker.clear_failed_writes(),

@@ -1,4 +1,4 @@
-//! A reopen over each kind of item, and a fault in a fill list.
+//! A reopen over each kind of item, and a fault and the last publication in a fill list.
 
 use crate::parts::{are_told, none_other};
 use arch_types::row::Rows;
@@ -26,13 +26,14 @@ fn item(alloc: Global, place: u8) -> Fill {
         2 => fault(alloc, 3, false),
         3 => fault(alloc, 4, true),
         4 => Fill::Done { interval, base: 1 },
-        _ => Fill::Freed { interval },
+        5 => Fill::Freed { interval },
+        _ => Fill::Closed,
     }
 }
 
 fn each_kind(alloc: Global) -> Result<Vec<Fill>, AllocError> {
     let mut fills = Vec::new(alloc);
-    for place in 0..6 {
+    for place in 0..7 {
         fills.push(item(alloc, place))?;
     }
     Ok(fills)
@@ -50,6 +51,7 @@ fn are_cleared(fills: &mut [Fill]) -> bool {
             ("fault with rows", 0, 4, false),
             ("done", 0, 1, false),
             ("freed", 0, 0, false),
+            ("closed", 0, 0, false),
         ],
     )
 }
@@ -63,10 +65,25 @@ fn notes(list: &mut FillList) -> bool {
     are_told(list.as_slice(), &[("fault", 0, 7, true)])
 }
 
-/// Whether a reopen clears it.
+/// Whether the last publication is noted behind it.
+fn closes(list: &mut FillList) -> bool {
+    if list.reserve_fault().is_err() {
+        return false;
+    }
+    list.note_closed();
+    are_told(
+        list.as_slice(),
+        &[("fault", 0, 7, true), ("closed", 0, 0, false)],
+    )
+}
+
+/// Whether a reopen clears the fault and leaves what is behind it.
 fn clears(list: &mut FillList) -> bool {
     list.clear_failed_writes();
-    are_told(list.as_slice(), &[("fault", 0, 7, false)])
+    are_told(
+        list.as_slice(),
+        &[("fault", 0, 7, false), ("closed", 0, 0, false)],
+    )
 }
 
 fn other(fills: &mut [Fill], list: &mut FillList) -> Option<(&'static str, usize)> {
@@ -74,6 +91,8 @@ fn other(fills: &mut [Fill], list: &mut FillList) -> Option<(&'static str, usize
         Some(("a reopen", 0))
     } else if !notes(list) {
         Some(("a fault noted", 0))
+    } else if !closes(list) {
+        Some(("the last publication noted", 0))
     } else if !clears(list) {
         Some(("a fault cleared", 0))
     } else {
@@ -82,7 +101,7 @@ fn other(fills: &mut [Fill], list: &mut FillList) -> Option<(&'static str, usize
 }
 
 #[test]
-fn faults_are_noted_and_cleared(rt: HostRuntime) -> Result<(), Fail> {
+fn items_are_noted_and_cleared(rt: HostRuntime) -> Result<(), Fail> {
     let mut fills = each_kind(rt.alloc())?;
     let mut list = FillList::new(rt.alloc());
     none_other(other(fills.as_mut_slice(), &mut list))

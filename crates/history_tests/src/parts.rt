@@ -79,6 +79,7 @@ fn told(fill: &Fill) -> Told {
             unacknowledged: Addition::Nothing,
         } => ("fault", 0, *count, *wrote),
         Fill::Fault { count, wrote, .. } => ("fault with rows", 0, *count, *wrote),
+        Fill::Closed => ("closed", 0, 0, false),
     }
 }
 

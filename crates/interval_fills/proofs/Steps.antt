@@ -11,7 +11,7 @@ use Rattle.arch_types.specs.declared.row.Row.{Row}
 use Rattle.arch_types.specs.History.{IsHistory}
 use Rattle.history_items.specs.declared.fills.Addition.{Addition}
 use Rattle.history_items.specs.declared.fills.Fill.{Fill}
-use Rattle.history_items.specs.declared.fills.Fill.TheVariants.{Begun, Done, Freed, Fault}
+use Rattle.history_items.specs.declared.fills.Fill.TheVariants.{Begun, Done, Freed, Fault, Closed}
 use Rattle.history_items.specs.declared.items.Item.{Item}
 use Rattle.history_items.specs.Items.{items_of, rows_in}
 use Rattle.history_items.specs.Outcomes.{fresh_of}
@@ -34,6 +34,7 @@ abbrev MayCome : ℕ → Fill → List Item → Type 0
 MayCome e (Begun i base) history = IsFillBase e i base history
 MayCome e (Done i base) history = IsStoredBase e i base history
 MayCome e (Freed i) history = Unit {0}
+MayCome e Closed history = Unit {0}
 MayCome e (Fault count wrote unacknowledged) history = Unit {0}
 
 pub same_interval : (a b : Interval) → is_same a b ≡ true → a ≡ b
@@ -63,12 +64,14 @@ base_came e history (Begun i base) j b before may old it = old it
 base_came e history (Done i base) j b before may old it = chosen (λ k n. IsStoredBase e k n history) i j base b before may old it
 base_came e history (Freed i) j b before may old it = old it
 base_came e history (Fault count wrote unacknowledged) j b before may old it = old it
+base_came e history Closed j b before may old it = old it
 
 flight_came : (e : ℕ) (history : List Item) (item : Fill) (j : Interval) (b : ℕ) (before : Option ℕ) → MayCome e item history → (before ≡ Some b → IsFillBase e j b history) → flight_after j before item ≡ Some b → IsFillBase e j b history
 flight_came e history (Begun i base) j b before may old it = chosen (λ k n. IsFillBase e k n history) i j base b before may old it
 flight_came e history (Done i base) j b before may old it = left e history i j b before old it
 flight_came e history (Freed i) j b before may old it = left e history i j b before old it
 flight_came e history (Fault count wrote unacknowledged) j b before may old it = old it
+flight_came e history Closed j b before may old it = old it
 
 pub keeps_item : (e : ℕ) (history : List Item) (fills : List Fill) (item : Fill) → MachineInvariant e (state_of history fills) → MayCome e item history → MachineInvariant e (state_of history (fills ++ item ∷ []))
 keeps_item e history fills item s may = record {

@@ -1,5 +1,5 @@
 -- What each call adds.
-use Rattle.std.proofs.Common.{◌≡◌, ℕ, ◌+◌, ◌-◌, Bool, true, false, List, [], ◌∷◌, ◌++◌, length, Option, Some, None, Result, Ok, Err, if◌then◌else◌, refl, sym, ap, ◌∙◌, subst, arith, append_assoc, append-nil, length-append}
+use Rattle.std.proofs.Common.{◌≡◌, ◌⊎◌, inl, inr, ℕ, ◌+◌, ◌-◌, Bool, true, false, List, [], ◌∷◌, ◌++◌, length, Option, Some, None, Result, Ok, Err, if◌then◌else◌, refl, sym, ap, ◌∙◌, subst, arith, append_assoc, append-nil, length-append}
 use Rattle.std.specs.List.{range_with_len}
 use Rattle.std.specs.Option.{is_some}
 use mathlib.Core.List.{IsPrefix}
@@ -12,7 +12,7 @@ use Rattle.refusals.specs.declared.refusal.Refusal.{Refusal}
 use Rattle.refusals.specs.declared.refusal.Refusal.TheVariants as refused
 use Rattle.history_items.specs.declared.fills.Addition.TheVariants as additions
 use Rattle.history_items.specs.declared.fills.Fill.{Fill}
-use Rattle.history_items.specs.declared.fills.Fill.TheVariants.{Freed, Fault}
+use Rattle.history_items.specs.declared.fills.Fill.TheVariants.{Freed, Fault, Closed}
 use Rattle.history_items.specs.declared.items.Item.{Item}
 use Rattle.history_items.specs.Fills.{flight_after, in_flight}
 use Rattle.history_items.specs.Outcomes.{fresh_of}
@@ -30,8 +30,10 @@ use Rattle.archive_store.specs.Calls.{IsIngestRefusal}
 use Rattle.archive_store.specs.Installs.{IsAbandoned, IsInstallRefusal, IsStoreInstalled}
 use Rattle.archive_store.specs.Tasks.{IsFillBegun}
 use Rattle.archive_store.proofs.UnreadRows.{refusal_same}
-use Rattle.live_archive.specs.Added.{Adds, AddsTo, AbandonsAdd, AsksAddNothing, BeginsAdd, IngestNotes, IngestsAdd, InstallNotes, InstallsAdd, begin_notes, flight_begun, flight_ended, items_put}
+use Rattle.live_archive.specs.Added.{Adds, AddsTo, AbandonsAdd, AsksAddNothing, BeginsAdd, ClosesAdd, IngestNotes, IngestsAdd, InstallNotes, InstallsAdd, begin_notes, flight_begun, flight_ended, items_put}
 use Rattle.live_archive.specs.Answers.{SaysBegun, SaysIngested, SaysInstalled}
+use Rattle.live_archive.specs.Closings.{HasNotClosed}
+use Rattle.live_archive.specs.Shelving.{MayClose}
 use Rattle.live_archive.specs.Turns.{Turned}
 
 adds_list : {I : Type 0} (old : SeenList I) (found put left : List I) → IsPrefix old.seen found → left ≡ found ++ put → Adds old (left_seen (found_seen old found) left) found put
@@ -133,6 +135,11 @@ module _ {D T : Type 0} (device : Device D) (first before after : StoreView D) (
       )
   fill_refused t done _ i = absurd i
 
+  -- ---- the last publication
+  closed : Turned device first before after old new → MayClose first before after → (HasNotClosed first before.fills × AddsTo before old new [] (Closed ∷ [])) ⊎ AddsTo before old new [] []
+  closed t (inl (unclosed, is)) = inl (unclosed, notes t (Closed ∷ []) (ap (λ (s : StoreView D). s.history) is) (ap (λ (s : StoreView D). s.fills) is))
+  closed t (inr is) = inr (nothing t is)
+
   filled : Turned device first before after old new → (done : BuiltFill) (answer : Result Installed Refusal) → SaysInstalled device done answer before after → Filled done answer
   filled t done (Ok installed) i = fill_installed t done installed i
   filled t done (Err e) i = fill_refused t done e i
@@ -149,6 +156,9 @@ module _ {D : Type 0} (T : Type 0) (device : Device D) where
 
   pub abandons_add : AbandonsAdd T device
   abandons_add first before after old new interval t said = ended device first before after old new t interval said
+
+  pub closes_add : ClosesAdd T device
+  closes_add first before after old new t may = closed device first before after old new t may
 
   pub asks_add_nothing : AsksAddNothing T device
   asks_add_nothing first before after old new t said = nothing device first before after old new t said

@@ -16,7 +16,7 @@ use Rattle.arch_types.specs.declared.row.Row.{Row}
 use Rattle.history_items.specs.declared.fills.Addition.{Addition}
 use Rattle.history_items.specs.declared.fills.Addition.TheVariants as additions
 use Rattle.history_items.specs.declared.fills.Fill.{Fill}
-use Rattle.history_items.specs.declared.fills.Fill.TheVariants.{Done, Freed, Fault}
+use Rattle.history_items.specs.declared.fills.Fill.TheVariants.{Done, Freed, Fault, Closed}
 use Rattle.mdb_items.specs.Database.{Database}
 use Rattle.history_items.specs.declared.items.Item.{Item}
 use Rattle.history_items.specs.Items.{databases_in, items_of}
@@ -50,6 +50,7 @@ use Rattle.history_items.proofs.FillLists.{pending_fault_of-append}
 use Rattle.live_archive.proofs.Places.{at_behind, at_later}
 use Rattle.live_archive.proofs.Images.{batch_came, batch_failed, fill_tried, same_pending, without_disk}
 use Rattle.live_archive.specs.Images.{LeavesBetween}
+use Rattle.live_archive.specs.Shelving.{with_closing}
 use Rattle.live_archive.specs.GoesOn.{AreNewTo, GoesOn, HasFillOrNew, HasNewFill, NoneFailed, OneFailed, SameDatabase, done_of_fill, dones}
 
 prefix_self : {A : Type 0} (xs : List A) → IsPrefix xs xs
@@ -266,6 +267,14 @@ module _ {D : Type 0} (device : Device D) where
 
   pub goes_settled : (a : StoreView D) → GoesOn device a (record a { fills = all_freed a.fills })
   goes_settled a = goes_noted a (all_freed a.fills) (all_freed_is (flights_of a.fills) a.fills)
+
+  -- the closing came
+  pub goes_closed : (a : StoreView D) → GoesOn device a (with_closing a)
+  goes_closed a = goes_noted a (a.fills ++ Closed ∷ []) (
+    let h = dones-append a.fills (Closed ∷ []) in omega (arith, h),
+    faults_in-append a.fills (Closed ∷ []) ∙ append-nil (faults_in a.fills),
+    (Closed ∷ [], refl),
+  )
 
   pub settled_is : (a b c : StoreView D) → a ≡ record b { fills = all_freed b.fills } → b ≡ c → a ≡ record c { fills = all_freed c.fills }
   settled_is a b c settled is = subst (λ (s : StoreView D). a ≡ record s { fills = all_freed s.fills }) is settled

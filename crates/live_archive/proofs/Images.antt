@@ -8,7 +8,7 @@ use Rattle.arch_types.specs.declared.row.Row.{Row}
 use Rattle.history_items.specs.declared.fills.Addition.{Addition}
 use Rattle.history_items.specs.declared.fills.Addition.TheVariants.{Rows}
 use Rattle.history_items.specs.declared.fills.Fill.{Fill}
-use Rattle.history_items.specs.declared.fills.Fill.TheVariants.{Begun, Done, Freed, Fault}
+use Rattle.history_items.specs.declared.fills.Fill.TheVariants.{Begun, Done, Freed, Fault, Closed}
 use Rattle.history_items.specs.declared.items.Item.{Item}
 use Rattle.history_items.specs.Fills.{pending_fault_of, unacknowledged_in}
 use Rattle.history_items.specs.Items.{after_rows, items_of}
@@ -46,6 +46,7 @@ none_unacknowledged [] addition none some = absurd (cc some)
 none_unacknowledged (Begun i b ∷ fills) addition none some = none_unacknowledged fills addition none some
 none_unacknowledged (Done i b ∷ fills) addition none some = none_unacknowledged fills addition none some
 none_unacknowledged (Freed i ∷ fills) addition none some = none_unacknowledged fills addition none some
+none_unacknowledged (Closed ∷ fills) addition none some = none_unacknowledged fills addition none some
 none_unacknowledged (Fault count true unacknowledged ∷ fills) addition none some = absurd (cc none)
 none_unacknowledged (Fault count false unacknowledged ∷ fills) addition none some = none_unacknowledged fills addition none some
 
@@ -55,6 +56,7 @@ pending_last [] count addition none = refl
 pending_last (Begun i b ∷ fills) count addition none = pending_last fills count addition none
 pending_last (Done i b ∷ fills) count addition none = pending_last fills count addition none
 pending_last (Freed i ∷ fills) count addition none = pending_last fills count addition none
+pending_last (Closed ∷ fills) count addition none = pending_last fills count addition none
 pending_last (Fault c true unacknowledged ∷ fills) count addition none = absurd (cc none)
 pending_last (Fault c false unacknowledged ∷ fills) count addition none = pending_last fills count addition none
 

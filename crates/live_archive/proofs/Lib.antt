@@ -1,6 +1,7 @@
 pub mod Places
 pub mod Images
 pub mod Going
+pub mod Closings
 pub mod Shelving
 pub mod Turning
 pub mod Later

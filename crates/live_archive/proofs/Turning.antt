@@ -1,5 +1,5 @@
 -- A turn, from its beginning and its end.
-use Rattle.std.proofs.Common.{◌≡◌, ℕ, ◌-◌, ◌≤◌, List, [], ◌∷◌, ◌++◌, length, take, Option, Result, Ok, Err, IfOk, IfErr, MatchResult, refl, sym, ap, ◌∙◌, subst}
+use Rattle.std.proofs.Common.{◌≡◌, ◌⊎◌, ℕ, ◌-◌, ◌≤◌, Bool, List, [], ◌∷◌, ◌++◌, length, take, Option, Result, Ok, Err, IfOk, IfErr, MatchResult, refl, sym, ap, ◌∙◌, subst}
 use Rattle.std.specs.Prelude.{IsErrAnd}
 use Rattle.std.specs.List.{range_with_len}
 use mathlib.Core.List.{IsPrefix}
@@ -14,10 +14,11 @@ use Rattle.store_shelf.specs.declared.kept.Kept.{Kept}
 use Rattle.live_archive.specs.declared.held.HeldStore.{HeldStore}
 use Rattle.live_archive.specs.GoesOn.{GoesOn}
 use Rattle.live_archive.specs.Laws.{TellsTurn}
-use Rattle.live_archive.specs.Shelving.{HeldGoesOn, KeepsShelf}
+use Rattle.live_archive.specs.Closings.{closings}
+use Rattle.live_archive.specs.Shelving.{HeldGoesOn, KeepsShelf, LastIsClosing, TakesClosing, TakesNoClosing}
 use Rattle.live_archive.specs.Turns.{TookTurn, Turned}
-use Rattle.live_archive.proofs.Going.{goes_trans, prefix_length, prefix_trans}
-use Rattle.live_archive.proofs.Shelving.{held_on, held_published}
+use Rattle.live_archive.proofs.Going.{goes_same, goes_trans, prefix_length, prefix_trans}
+use Rattle.live_archive.proofs.Shelving.{goes_last, held_last, held_on, held_published}
 
 -- what is said of either answer
 pub matched : {X E : Type 0} (r : Result X E) (P : X → Type 0) (Q : E → Type 0) → IfOk r P → IfErr r Q → MatchResult r P Q
@@ -50,26 +51,40 @@ pub record Leaving {D T : Type 0} (device : Device D) (first after : HeldStore D
 
 module _ {D T : Type 0} (device : Device D) where
   -- a store that goes on from the one that the turn found may be left, with its shelf as it was
-  pub leaving : (first before : HeldStore D) (after : StoreView D) (old mid : PassView Item Fill T) → HeldGoesOn device first before → GoesOn device before.store after
+  pub leaving : (first before : HeldStore D) (after : StoreView D) (old mid : PassView Item Fill T) → HeldGoesOn device first before → GoesOn device before.store after → closings after.fills ≡ closings before.store.fills
       → Found old mid before.store.history before.store.fills → Leaving device first (record before { store = after }) mid
-  leaving first before after old mid found goes entered =
-      subst (Leaving device first (record before { store = after })) (sym entered) (record { begins = goes.appends.history; fills_begin = goes.appends.fills; value = held_on device first before after found goes })
+  leaving first before after old mid found goes none entered =
+      subst (Leaving device first (record before { store = after })) (sym entered) (record { begins = goes.appends.history; fills_begin = goes.appends.fills; value = held_on device first before after found goes none })
 
-  -- said of both as they are left
-  pub leaving_kept : (first before next : HeldStore D) (old mid : PassView Item Fill T) → HeldGoesOn device first before → GoesOn device before.store next.store
-      → next.shelf ≡ before.shelf → Found old mid before.store.history before.store.fills → Leaving device first next mid
-  leaving_kept first before next old mid found goes kept entered =
-      subst (λ (s : Option (ShelfView (Kept D))). Leaving device first (record next { shelf = s }) mid) (sym kept) (leaving first before next.store old mid found goes entered)
+  -- said of all as it is left
+  pub leaving_kept : (first before next : HeldStore D) (old mid : PassView Item Fill T) → HeldGoesOn device first before → next.store ≡ before.store
+      → next.shelf ≡ before.shelf → next.has_closing ≡ before.has_closing → Found old mid before.store.history before.store.fills → Leaving device first next mid
+  leaving_kept first before next old mid found same shelf closing entered =
+      let kept = leaving first before next.store old mid found (goes_same device before.store next.store same) (ap (λ (s : StoreView D). closings s.fills) same) entered in
+      subst (λ (b : Bool). Leaving device first (record next { has_closing = b }) mid) (sym closing)
+      (subst (λ (s : Option (ShelfView (Kept D))). Leaving device first (record before { store = next.store; shelf = s }) mid) (sym shelf) kept)
 
   -- or with one that went on
-  pub leaving_published : (first before next : HeldStore D) (after : StoreView D) (old mid : PassView Item Fill T) → HeldGoesOn device first before → GoesOn device before.store after
-      → next.store ≡ after → KeepsShelf before.shelf next.shelf after
+  pub leaving_published : (first before next : HeldStore D) (after : StoreView D) (old mid : PassView Item Fill T) → HeldGoesOn device first before → GoesOn device before.store after → closings after.fills ≡ closings before.store.fills
+      → TakesNoClosing (record before { store = after }) next → KeepsShelf before.shelf next.shelf after → LastIsClosing next
       → Found old mid before.store.history before.store.fills → Leaving device first next mid
-  leaving_published first before next after old mid found goes is keeps entered =
+  leaving_published first before next after old mid found goes none takes keeps last entered =
       subst (Leaving device first next) (sym entered) (record {
-        begins = subst (λ (s : StoreView D). IsPrefix before.store.history s.history) (sym is) goes.appends.history;
-        fills_begin = subst (λ (s : StoreView D). IsPrefix before.store.fills s.fills) (sym is) goes.appends.fills;
-        value = held_published device first before next after found goes is keeps;
+        begins = subst (λ (s : StoreView D). IsPrefix before.store.history s.history) (sym takes.store) goes.appends.history;
+        fills_begin = subst (λ (s : StoreView D). IsPrefix before.store.fills s.fills) (sym takes.store) goes.appends.fills;
+        value = held_published device first before next after found goes none takes keeps last;
+      })
+
+  -- or with the last publication
+  pub leaving_last : (first before next : HeldStore D) (old mid : PassView Item Fill T) → HeldGoesOn device first before → TakesClosing before next ⊎ TakesNoClosing before next
+      → KeepsShelf before.shelf next.shelf next.store → LastIsClosing next
+      → Found old mid before.store.history before.store.fills → Leaving device first next mid
+  leaving_last first before next old mid found takes keeps last entered =
+      let goes = goes_last device first before next found takes in
+      subst (Leaving device first next) (sym entered) (record {
+        begins = goes.appends.history;
+        fills_begin = goes.appends.fills;
+        value = held_last device first before next found takes keeps last;
       })
 
   -- lists that were left are those of the store

@@ -1,5 +1,5 @@
 -- What each call adds to what its pass has seen.
-use Rattle.std.specs.Prelude.{◌≡◌, ℕ, ◌+◌, List, [], ◌∷◌, ◌++◌, length, Option, Some, None, Result, Ok, Err, true, if◌then◌else◌}
+use Rattle.std.specs.Prelude.{◌≡◌, ◌⊎◌, ℕ, ◌+◌, List, [], ◌∷◌, ◌++◌, length, Option, Some, None, Result, Ok, Err, true, if◌then◌else◌}
 use Rattle.std.specs.List.{range_with_len}
 use Rattle.std.specs.Option.{is_some}
 use mathlib.Core.List.{IsPrefix}
@@ -13,7 +13,7 @@ use Rattle.refusals.specs.declared.refusal.Refusal.TheVariants.{DiskFault}
 use Rattle.history_items.specs.declared.fills.Addition.{Addition}
 use Rattle.history_items.specs.declared.fills.Addition.TheVariants as additions
 use Rattle.history_items.specs.declared.fills.Fill.{Fill}
-use Rattle.history_items.specs.declared.fills.Fill.TheVariants.{Begun, Done, Freed, Fault}
+use Rattle.history_items.specs.declared.fills.Fill.TheVariants.{Begun, Done, Freed, Fault, Closed}
 use Rattle.history_items.specs.declared.items.Item.{Item}
 use Rattle.history_items.specs.Fills.{in_flight}
 use Rattle.history_items.specs.Items.{items_of}
@@ -26,6 +26,8 @@ use Rattle.turn_cell.specs.Pass.{PassView}
 use Rattle.archive_store.specs.declared.batch.Ingested.{Ingested}
 use Rattle.archive_store.specs.StoreView.{StoreView}
 use Rattle.live_archive.specs.Answers.{SaysBegun, SaysIngested, SaysInstalled}
+use Rattle.live_archive.specs.Closings.{HasNotClosed}
+use Rattle.live_archive.specs.Shelving.{MayClose}
 use Rattle.live_archive.specs.Turns.{Turned}
 
 -- ---- what a turn adds
@@ -115,6 +117,12 @@ module _ {D : Type 0} (T : Type 0) (device : Device D) where
   AbandonsAdd = (first before after : StoreView D) (old new : PassView Item Fill T) (interval : Interval) →
       Turned device first before after old new → after ≡ record before { fills = freed interval before.fills } →
       AddsTo before old new [] (flight_ended interval before.fills)
+
+  -- the last publication: the closing, where it hadn't come, or nothing
+  abbrev pub ClosesAdd : Type 0
+  ClosesAdd = (first before after : StoreView D) (old new : PassView Item Fill T) →
+      Turned device first before after old new → MayClose first before after →
+      (HasNotClosed first before.fills × AddsTo before old new [] (Closed ∷ [])) ⊎ AddsTo before old new [] []
 
   -- a call that leaves the store as it found it
   abbrev pub AsksAddNothing : Type 0

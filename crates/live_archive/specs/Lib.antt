@@ -4,5 +4,6 @@ pub mod Turns
 pub mod Answers
 pub mod Retrievals
 pub mod Laws
+pub mod Closings
 pub mod Added
 pub mod Shelving

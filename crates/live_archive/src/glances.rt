@@ -77,9 +77,7 @@ impl<D: Disk> LiveOver<HeldStore<D>> {
         ensures back { IfErr result (λ refused. refused.0 ≡ store) }
     {
         let (shelved, glances) = shelved_with(rt, alloc, store, readers)?;
-        let (store, shelf) = shelved.into_parts();
-        let shelf = Some(shelf);
-        match TurnCell::new(alloc, HeldStore { store, shelf }) {
+        match TurnCell::new(alloc, HeldStore::of(shelved, false)) {
             Ok((cell, pass)) => Ok((LiveOver { cell }, pass, glances)),
             Err((held, error)) => Err((held.into_unpublished(rt), error)),
         }

@@ -1,9 +1,9 @@
 //! The store as the value of a cell, beside the shelf on which it is published.
 
-ghost use Rattle.std.specs.Prelude.{◌≡◌, IfOk, None, false, true};
+ghost use Rattle.std.specs.Prelude.{◌≡◌, ◌⊎◌, IfOk, None, Some, OnErr, OnOk, false, true};
 ghost use Rattle.interval_fills.specs.Steps.{all_freed};
 ghost use Rattle.store_shelf.specs.Renewing.{CameBy};
-ghost use Rattle.live_archive.specs.Shelving.{IsBeside, IsPublished, KeepsShelf};
+ghost use Rattle.live_archive.specs.Shelving.{IsBeside, IsPublished, KeepsShelf, LastIsClosing, TakesClosing, TakesNoClosing, closed_once};
 
 use arch_disk::Disk;
 use archive_store::{Arrival, Store};
@@ -19,6 +19,8 @@ pub struct HeldStore<D: Disk> {
     pub store: Store<D>,
     /// Where readers see what is published of it. None where each caller takes turns.
     pub shelf: Option<StoreShelf<D>>,
+    /// The closing of these turns stands in the fill list.
+    pub has_closing: bool,
 }
 
 impl<D: Disk> Growing for HeldStore<D> {
@@ -44,6 +46,21 @@ impl<D: Disk> Growing for HeldStore<D> {
 }
 
 impl<D: Disk> HeldStore<D> {
+    /// A store with its shelf.
+    pub(crate) fn of(shelved: ShelvedStore<D>, has_closing: bool) -> HeldStore<D>
+        ensures store { result.store ≡ shelved.store }
+        ensures shelf { result.shelf ≡ Some shelved.shelf }
+        ensures closing { result.has_closing ≡ has_closing }
+        ensures beside { IsBeside result.shelf result.store }
+    {
+        let (store, shelf) = shelved.into_parts();
+        HeldStore {
+            store,
+            shelf: Some(shelf),
+            has_closing,
+        }
+    }
+
     /// Publishes what is missing, and gives a note of what is shown. Refused for want of memory, or where it has no shelf;
     /// the next call publishes what is missing still.
     pub(crate) fn published<R: Wait>(
@@ -52,8 +69,10 @@ impl<D: Disk> HeldStore<D> {
         alloc: Global,
     ) -> (HeldStore<D>, Result<StoreNote<D>, AllocError>)
         requires beside { IsBeside self.shelf self.store }
-        ensures store { result.0.store ≡ self.store }
+        requires last { LastIsClosing self }
+        ensures closing { TakesNoClosing self result.0 }
         ensures shelf { KeepsShelf self.shelf result.0.shelf self.store }
+        ensures last { LastIsClosing result.0 }
         ensures note { IfOk result.1 (IsPublished false self result.0.shelf) }
     {
         let front = self.store.front();
@@ -69,43 +88,79 @@ impl<D: Disk> HeldStore<D> {
         arrivals: &[Arrival],
     ) -> (HeldStore<D>, Result<StoreNote<D>, AllocError>)
         requires beside { IsBeside self.shelf self.store }
+        requires last { LastIsClosing self }
         requires came { CameBy self.store front arrivals.now }
-        ensures store { result.0.store ≡ self.store }
+        ensures closing { TakesNoClosing self result.0 }
         ensures shelf { KeepsShelf self.shelf result.0.shelf self.store }
+        ensures last { LastIsClosing result.0 }
         ensures note { IfOk result.1 (IsPublished false self result.0.shelf) }
     {
-        let HeldStore { store, shelf } = self;
+        let HeldStore {
+            store,
+            shelf,
+            has_closing,
+        } = self;
         let Some(shelf) = shelf else {
-            return (HeldStore { store, shelf: None }, Err(AllocError));
+            let shelf = None;
+            return (
+                HeldStore {
+                    store,
+                    shelf,
+                    has_closing,
+                },
+                Err(AllocError),
+            );
         };
         let (shelved, note) = ShelvedStore::beside(store, shelf).publish_since(
             rt, alloc, front, arrivals,
         );
-        let (store, shelf) = shelved.into_parts();
-        let shelf = Some(shelf);
-        (HeldStore { store, shelf }, note)
+        (HeldStore::of(shelved, has_closing), note)
     }
 
-    /// Publishes what is missing for the last time, and gives a note of that; asked again, the same. Refused for want of
-    /// memory, or where it has no shelf.
+    /// Publishes what is missing for the last time, with the closing behind the fill list, which comes once, and gives
+    /// a note of that. Refused for want of memory, the closing may have come all the same; without a shelf it doesn't.
     pub(crate) fn published_last<R: Wait>(
         self,
         rt: &R,
         alloc: Global,
     ) -> (HeldStore<D>, Result<StoreNote<D>, AllocError>)
         requires beside { IsBeside self.shelf self.store }
-        ensures store { result.0.store ≡ self.store }
-        ensures shelf { KeepsShelf self.shelf result.0.shelf self.store }
-        ensures note { IfOk result.1 (IsPublished true self result.0.shelf) }
+        requires last { LastIsClosing self }
+        ensures closed { OnOk result.1 (TakesClosing self result.0) }
+        ensures refused { OnErr result.1 (TakesClosing self result.0 ⊎ TakesNoClosing self result.0) }
+        ensures shelf { KeepsShelf self.shelf result.0.shelf result.0.store }
+        ensures last { LastIsClosing result.0 }
+        ensures note { IfOk result.1 (IsPublished true (record self { store = result.0.store }) result.0.shelf) }
     {
-        let HeldStore { store, shelf } = self;
+        let HeldStore {
+            mut store,
+            shelf,
+            has_closing,
+        } = self;
         let Some(shelf) = shelf else {
-            return (HeldStore { store, shelf: None }, Err(AllocError));
+            let shelf = None;
+            return (
+                HeldStore {
+                    store,
+                    shelf,
+                    has_closing,
+                },
+                Err(AllocError),
+            );
         };
+        if let Err(error) = take_closing(&mut store, has_closing) {
+            let shelf = Some(shelf);
+            return (
+                HeldStore {
+                    store,
+                    shelf,
+                    has_closing,
+                },
+                Err(error),
+            );
+        }
         let (shelved, note) = ShelvedStore::beside(store, shelf).publish_last(rt, alloc);
-        let (store, shelf) = shelved.into_parts();
-        let shelf = Some(shelf);
-        (HeldStore { store, shelf }, note)
+        (HeldStore::of(shelved, true), note)
     }
 
     /// The store alone. What is shown is taken away from the readers, which waits until none reads.
@@ -113,7 +168,11 @@ impl<D: Disk> HeldStore<D> {
         requires beside { IsBeside self.shelf self.store }
         ensures { result ≡ self.store }
     {
-        let HeldStore { store, shelf } = self;
+        let HeldStore {
+            store,
+            shelf,
+            has_closing: _,
+        } = self;
         match shelf {
             None => store,
             Some(shelf) => ShelvedStore::beside(store, shelf).into_store(rt),
@@ -125,10 +184,26 @@ impl<D: Disk> HeldStore<D> {
         requires alone { self.shelf ≡ None }
         ensures { result ≡ self.store }
     {
-        let HeldStore { store, shelf } = self;
+        let HeldStore {
+            store,
+            shelf,
+            has_closing: _,
+        } = self;
         let None = shelf else { unreachable!() };
         store
     }
+}
+
+/// Puts the closing of these turns behind the fill list, unless it stands there. Refused for want of memory, it leaves
+/// the store as it was.
+fn take_closing<D: Disk>(store: &mut Store<D>, has_closing: bool) -> Result<(), AllocError>
+    ensures noted { OnOk result (store.new ≡ closed_once has_closing store.old) }
+    ensures refused { OnErr result (store.new ≡ store.old) }
+{
+    if has_closing {
+        return Ok(());
+    }
+    store.note_closed()
 }
 
 /// A store, with each flight ended without a fill.

@@ -1,6 +1,6 @@
 //! Laws of the definitions and types, carried by functions that do nothing.
 
-ghost use Rattle.live_archive.specs.Added.{AbandonsAdd, AsksAddNothing, BeginsAdd, IngestsAdd, InstallsAdd};
+ghost use Rattle.live_archive.specs.Added.{AbandonsAdd, AsksAddNothing, BeginsAdd, ClosesAdd, IngestsAdd, InstallsAdd};
 ghost use Rattle.live_archive.specs.Laws.{BuiltIsRight, RightStays, TurnsAreTold};
 
 use crate::held::HeldStore;
@@ -23,6 +23,7 @@ pub fn calls_add<D: Disk, T>()
     ensures begins { BeginsAdd T D.device }
     ensures installs { InstallsAdd T D.device }
     ensures abandons { AbandonsAdd T D.device }
+    ensures closes { ClosesAdd T D.device }
     ensures asks { AsksAddNothing T D.device }
 {}
 

@@ -9,11 +9,14 @@
 // of a load (load_jobs, live_fills).
 //
 // The value of the cell is the store, beside the shelf on which it is published where there are readers that take no
-// turns (src/held.rt, src/glances.rt). A batch and an install publish in their turn, and a pass may have a note of what it
-// has seen (src/publishing.rt). The one idea of the proof: each call of a store goes on from what there was, whatever it
-// answers (`GoesOn` in specs/GoesOn.antt, proofs/Going.antt), what goes on from what goes on, goes on, and so does what was
-// published last (specs/Shelving.antt). `front`, `split`, `join` and `close` take no turn and wait for nobody; a retrieval is
-// planned in its turn, and answered behind it.
+// turns (src/held.rt, src/glances.rt). A batch and an install publish in their turn, and a pass may have a note of what
+// it has seen (src/publishing.rt). With the last publication the fill list has one closing more than the store that the
+// turns began with (specs/Closings.antt), so a pass knows which note may be of that.
+//
+// The one idea of the proof: each call of a store goes on from what there was, whatever it answers (`GoesOn` in
+// specs/GoesOn.antt, proofs/Going.antt), what goes on from what goes on, goes on, and so does what was published last
+// (specs/Shelving.antt). `front`, `split`, `join` and `close` take no turn and wait for nobody; a retrieval is planned
+// in its turn, and answered behind it.
 // To be changed together: a call of the store that adds to a list, `GoesOn` and its lemma in proofs/Going.antt, and
 // what it adds (specs/Added.antt).
 #![tactic(auto)]

@@ -42,7 +42,12 @@ impl<D: Disk> LiveOver<HeldStore<D>> {
         ensures share { IfOk result (λ made. (made.1.share ≡ 2 ^ 63) × (made.1.turns ≡ 0)) }
         ensures back { IfErr result (λ refused. refused.0 ≡ store) }
     {
-        match TurnCell::new(alloc, HeldStore { store, shelf: None }) {
+        let held = HeldStore {
+            store,
+            shelf: None,
+            has_closing: false,
+        };
+        match TurnCell::new(alloc, held) {
             Ok((cell, pass)) => Ok((LiveOver { cell }, pass)),
             Err((held, fault)) => Err((held.into_alone(), fault)),
         }

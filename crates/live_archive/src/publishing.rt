@@ -1,8 +1,8 @@
 //! What readers that take no turns may be told.
 
-ghost use Rattle.std.specs.Prelude.{◌≡◌, IfOk, false, true};
+ghost use Rattle.std.specs.Prelude.{◌≡◌, IfOk, MatchResult, false, true};
 ghost use Rattle.turn_cell.specs.Pass.{IsFree};
-ghost use Rattle.live_archive.specs.Shelving.{IsNoteIn, IsNoteOf, IsOfLog};
+ghost use Rattle.live_archive.specs.Shelving.{IsClosingNote, IsNoteIn, IsNoteOf, IsOfLog, MayClose};
 ghost use Rattle.live_archive.specs.Turns.{TookTurn};
 
 use crate::held::HeldStore;
@@ -26,7 +26,7 @@ impl<D: Disk> LiveOver<HeldStore<D>> {
         ensures turn { TookTurn D.device self.now.cell.first.store pass.old pass.new (λ before after.
             (after ≡ before) × IfOk result (IsNoteIn false self.now.cell.first before)) }
         ensures log { IfOk result (IsOfLog self.now.cell.first) }
-        ensures note { IfOk result (IsNoteOf pass.new) }
+        ensures note { IfOk result (IsNoteOf self.now.cell.first.store pass.new) }
     {
         let held = self.cell.enter(rt, pass);
         let (held, note) = held.published(rt, alloc);
@@ -34,8 +34,9 @@ impl<D: Disk> LiveOver<HeldStore<D>> {
         note
     }
 
-    /// Publishes what is missing for the last time, and gives a note of that. Asked again it publishes nothing, and gives
-    /// the same. Refused for want of memory, or where the archive has no readers without turns, it is to be asked again.
+    /// Publishes what is missing for the last time, with the closing behind the fill list, and gives a note of that.
+    /// Asked again it publishes and adds nothing, and gives the same. Refused for want of memory, or where the archive
+    /// has no readers without turns, it is to be asked again.
     pub fn close_glances<R: Wait>(
         &self,
         rt: &R,
@@ -45,10 +46,11 @@ impl<D: Disk> LiveOver<HeldStore<D>> {
         requires free { IsFree self.now.cell pass.old }
         ensures free { IsFree self.now.cell pass.new }
         ensures turn { TookTurn D.device self.now.cell.first.store pass.old pass.new (λ before after.
-            (after ≡ before) × IfOk result (IsNoteIn true self.now.cell.first before)) }
+            MatchResult result (IsClosingNote self.now.cell.first before after)
+            (λ _. MayClose self.now.cell.first.store before after)) }
         ensures log { IfOk result (IsOfLog self.now.cell.first) }
         ensures last { IfOk result (λ note. note.closed ≡ true) }
-        ensures note { IfOk result (IsNoteOf pass.new) }
+        ensures note { IfOk result (IsNoteOf self.now.cell.first.store pass.new) }
     {
         let held = self.cell.enter(rt, pass);
         let (held, note) = held.published_last(rt, alloc);

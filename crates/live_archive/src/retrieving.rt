@@ -32,6 +32,7 @@ impl<D: Disk> HeldStore<D> {
         ensures refused { IfErr result (IsNotAnswered D.device self.old.store self.new.store request) }
         ensures same { IsLeftByAnswer D.device self.old.store self.new.store result }
         ensures shelf { self.new.shelf ≡ self.old.shelf }
+        ensures closing { self.new.has_closing ≡ self.old.has_closing }
     {
         self.store.is_kept();
         let found = self.store.find(request)?;

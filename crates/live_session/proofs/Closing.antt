@@ -6,7 +6,7 @@ use Rattle.outer_traits.specs.States.{SourceState}
 use Rattle.intervals.specs.declared.interval.Interval.{Interval}
 use Rattle.history_items.specs.declared.fills.Fill.{Fill}
 use Rattle.history_items.specs.declared.items.Item.{Item}
-use Rattle.history_items.specs.declared.fills.Fill.TheVariants.{Begun, Done, Freed, Fault}
+use Rattle.history_items.specs.declared.fills.Fill.TheVariants.{Begun, Done, Freed, Fault, Closed}
 use Rattle.history_items.specs.Fills.{flight_after, in_flight, is_same}
 use Rattle.interval_fills.specs.Steps.{all_freed}
 use Rattle.std.specs.List.{AllByRecursion}
@@ -99,6 +99,7 @@ idle_from j (Done i b ∷ fills) all o none = idle_from j fills all.1 (if is_sam
     go true = refl
     go false = none
 idle_from j (Freed i ∷ fills) all o none = absurd all.0
+idle_from j (Closed ∷ fills) all o none = absurd all.0
 idle_from j (Fault count wrote unacknowledged ∷ fills) all o none = absurd all.0
 
 idle_done : (fills : List Fill) → AllByRecursion IsDone fills → (j : Interval) → in_flight j fills ≡ None

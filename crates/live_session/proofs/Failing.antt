@@ -6,7 +6,7 @@ use mathlib.Core.List.{IsPrefix}
 use Rattle.arch_disk.specs.Disk.{Device}
 use Rattle.history_items.specs.declared.fills.Addition.{Addition}
 use Rattle.history_items.specs.declared.fills.Fill.{Fill}
-use Rattle.history_items.specs.declared.fills.Fill.TheVariants.{Begun, Done, Freed, Fault}
+use Rattle.history_items.specs.declared.fills.Fill.TheVariants.{Begun, Done, Freed, Fault, Closed}
 use Rattle.history_items.specs.FillList.{flights_of}
 use Rattle.history_items.specs.Fills.{pending_fault_of}
 use Rattle.history_items.proofs.FillLists.{pending_fault_of-append}
@@ -26,6 +26,7 @@ find_fault [] count wrote addition one = absurd (cc one)
 find_fault (Begun i b ∷ fills) count wrote addition one = let p = find_fault fills count wrote addition one in (suc p.0, p.1)
 find_fault (Done i b ∷ fills) count wrote addition one = let p = find_fault fills count wrote addition one in (suc p.0, p.1)
 find_fault (Freed i ∷ fills) count wrote addition one = let p = find_fault fills count wrote addition one in (suc p.0, p.1)
+find_fault (Closed ∷ fills) count wrote addition one = let p = find_fault fills count wrote addition one in (suc p.0, p.1)
 find_fault (Fault c w a ∷ fills) count wrote addition one = let same : Fault c w a ≡ Fault count wrote addition = cc one in (zero, ap Some same)
 
 -- a failed write of a list that begins another is pending in both

@@ -190,7 +190,7 @@ pub(crate) fn request(alloc: Global) -> Option<Request> {
 
 /// How many values an answer has, and over how many items.
 fn counts(answer: &Answer) -> (u64, usize) {
-    (answer.front, answer.cells.as_slice().len())
+    (answer.front, answer.cells.len())
 }
 
 /// The front of an answer to that request, and how many values it has, with the steps of a ledger.

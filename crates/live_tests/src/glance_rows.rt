@@ -13,6 +13,7 @@ use crate::parts::with_glances;
 use arch_disk::{Disk, MemDisk};
 use arch_types::inserted::{Inserted, Installed};
 use archive_store::Store;
+use history_items::fills::Fill;
 use live_archive::{Live, LiveGlances, LivePass};
 use std::alloc::Global;
 use std::sync::Wait;
@@ -227,6 +228,29 @@ fn is_over<D: Disk>(alloc: Global, glance: &mut LiveGlance<D>) -> bool {
     tells(alloc, glance, &Told::Nothing) && glance.learn(&note).is_err()
 }
 
+/// How many of a fill list are closings.
+fn closings(fills: &[Fill]) -> u64 {
+    let mut count = 0u64;
+    for fill in fills {
+        if let Fill::Closed = fill {
+            count = count.saturating_add(1);
+        }
+    }
+    count
+}
+
+/// Whether an archive of a store that has a closing puts one of its own behind that.
+fn closes_again<D: Disk, R: Wait>(rt: &R, alloc: Global, store: Store<D>) -> (bool, Store<D>) {
+    match Live::with_glances(rt, alloc, store, 1) {
+        Ok((live, mut pass, _glances)) => {
+            let has_closed = closes(rt, alloc, &live, &mut pass);
+            let store = live.close_with_glances(rt, pass);
+            (has_closed && closings(store.fills()) == 2, store)
+        }
+        Err((store, _)) => (false, store),
+    }
+}
+
 /// What goes otherwise with so many glances beside the first, to the end of the archive.
 fn other_of<D: Disk, R: Wait>(
     rt: &R,
@@ -256,7 +280,13 @@ fn other_of<D: Disk, R: Wait>(
     if !is_over(alloc, &mut glance) {
         return (Some("the end"), store);
     }
-    (None, store)
+    if closings(store.fills()) != 1 {
+        return (Some("the closing"), store);
+    }
+    match closes_again(rt, alloc, store) {
+        (true, store) => (None, store),
+        (false, store) => (Some("another closing"), store),
+    }
 }
 
 /// The same of a new archive.

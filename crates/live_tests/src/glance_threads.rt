@@ -10,11 +10,11 @@ use crate::ends::none_other;
 use crate::looks::LiveGlance;
 use crate::parts::{packet_octets, with_glances};
 use arch_disk::{Disk, MemDisk};
-use arch_types::cell::Cell;
 use archive_store::Store;
 use asks::{Answer, Request};
 use jobs::Job;
 use live_archive::{Live, LiveGlances, LivePass};
+use packed_cells::PackedCells;
 use refusals::Refusal;
 use std::alloc::Global;
 use std::sync::Wait;
@@ -53,9 +53,9 @@ fn ingest_and_fill<D: Disk, R: Wait>(
 }
 
 /// Whether cells are those of the first packets, in their order.
-fn are_first(cells: &[Cell]) -> bool {
+fn are_first(cells: &PackedCells) -> bool {
     let mut octet = 0u8;
-    for cell in cells {
+    for cell in cells.iter() {
         if cell.raw != octet as i128 {
             return false;
         }
@@ -66,8 +66,7 @@ fn are_first(cells: &[Cell]) -> bool {
 
 /// Whether an answer is that of its front.
 fn is_of_front(answer: &Answer) -> bool {
-    let cells = answer.cells.as_slice();
-    cells.len() as u64 == answer.front.min(ASKED) && are_first(cells)
+    answer.cells.len() as u64 == answer.front.min(ASKED) && are_first(&answer.cells)
 }
 
 /// What a glance's next answer shows.

@@ -4,10 +4,10 @@ ghost use Rattle.glance_log.specs.Sightings.{IsFollowedBy};
 
 use crate::calls::request;
 use arch_disk::Disk;
-use arch_types::cell::Cell;
 use asks::Answer;
 use glance::Glance;
 use live_archive::LiveGlances;
+use packed_cells::PackedCells;
 use refusals::Refusal;
 use std::alloc::Global;
 use store_shelf::Kept;
@@ -26,7 +26,7 @@ pub(crate) enum Told {
 }
 
 /// Whether cells have these raw values.
-fn are_values(cells: &[Cell], values: &[i128]) -> bool {
+fn are_values(cells: &PackedCells, values: &[i128]) -> bool {
     for (cell, value) in cells.iter().zip(values) {
         if cell.raw != *value {
             return false;
@@ -36,7 +36,7 @@ fn are_values(cells: &[Cell], values: &[i128]) -> bool {
 }
 
 fn is_answer(answer: &Answer, front: u64, values: &[i128]) -> bool {
-    answer.front == front && are_values(answer.cells.as_slice(), values)
+    answer.front == front && are_values(&answer.cells, values)
 }
 
 fn is_told(answer: Result<Answer, Refusal>, told: &Told) -> bool {

@@ -1,4 +1,4 @@
-//! A disk that holds the first write until a reader has come so far, and a gate that holds the reader until then.
+//! A disk that holds the first write until a reader has come so far, and a gate that holds readers until then.
 
 ghost use Rattle.std.specs.Prelude.{[], false};
 ghost use Rattle.arch_disk.specs.Laws.{from_opaque};
@@ -13,6 +13,8 @@ use std::thread;
 #[derive(Drop)]
 pub(crate) struct Meeting {
     has_written: AtomicU64,
+    /// The first reader has come to its first call, behind that.
+    has_come: AtomicU64,
     has_read: AtomicU64,
     gave_up: AtomicU64,
 }
@@ -21,14 +23,16 @@ impl Meeting {
     pub(crate) fn new() -> Meeting {
         Meeting {
             has_written: AtomicU64::new(0),
+            has_come: AtomicU64::new(0),
             has_read: AtomicU64::new(0),
             gave_up: AtomicU64::new(0),
         }
     }
 
-    /// Whether both were held, and each went on since the other had come so far.
+    /// Whether all were held, and each went on since the other had come so far.
     pub(crate) fn have_met(&self) -> bool {
         self.has_written.load(Ordering::SeqCst) == 1
+            && self.has_come.load(Ordering::SeqCst) == 1
             && self.has_read.load(Ordering::SeqCst) == 1
             && self.gave_up.load(Ordering::SeqCst) == 0
     }
@@ -49,22 +53,32 @@ impl Meeting {
     }
 }
 
-/// A gate at which a reader is held before its first call until a write has begun. Its third call lets that go on.
+/// A gate at which a first reader is held before its first call until a write has begun, and another, or the same,
+/// until the first one has come. The third call of that one lets the write go on.
 #[derive(Drop)]
 pub(crate) struct ReadersGate<'a> {
     pub(crate) meeting: &'a Meeting,
-    /// The reader's number among the jobs.
+    /// The numbers of both among the jobs.
+    pub(crate) first: u32,
     pub(crate) reader: u32,
+}
+
+impl<'a> ReadersGate<'a> {
+    fn first_comes(&self) {
+        self.meeting.hold_until(&self.meeting.has_written);
+        self.meeting.has_come.store(1, Ordering::SeqCst);
+    }
 }
 
 impl<'a> Gate for ReadersGate<'a> {
     fn pass(&self, job: u32, turn: u64) {
-        if job != self.reader {
-            return;
+        if job == self.first && turn == 1 {
+            self.first_comes();
         }
-        if turn == 1 {
-            self.meeting.hold_until(&self.meeting.has_written);
-        } else if turn >= 3 {
+        if job == self.reader && turn == 1 {
+            self.meeting.hold_until(&self.meeting.has_come);
+        }
+        if job == self.reader && turn >= 3 {
             self.meeting.has_read.store(1, Ordering::SeqCst);
         }
     }

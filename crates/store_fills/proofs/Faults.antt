@@ -3,7 +3,7 @@ use Rattle.std.proofs.Common.{◌≡◌, ℕ, List, [], ◌∷◌, ◌++◌, Boo
 use Rattle.std.specs.List.{AllByRecursion, cons_option, filter_map}
 use Rattle.std.proofs.lemmas.List.Elements.{filter-append}
 use Rattle.history_items.specs.declared.fills.Fill.{Fill}
-use Rattle.history_items.specs.declared.fills.Fill.TheVariants.{Begun, Done, Freed, Fault}
+use Rattle.history_items.specs.declared.fills.Fill.TheVariants.{Begun, Done, Freed, Fault, Closed}
 use Rattle.history_items.specs.Fills.{CountsRise, Rising, cleared, first_pending, noted_faults, pending_fault_of, reopened, rows_of_faults, unacknowledged_in}
 use Rattle.history_items.specs.Noted.{Noted, NotedFault, fault_of_fill, items_of_fault}
 use Rattle.history_items.proofs.FillLists.{noted_cleared}
@@ -35,6 +35,7 @@ no_fault : (item : Fill) → IsDone item → fault_of_fill item ≡ None
 no_fault (Begun i b) is = absurd is
 no_fault (Done i b) is = refl
 no_fault (Freed i) is = absurd is
+no_fault Closed is = absurd is
 no_fault (Fault count wrote unacknowledged) is = absurd is
 
 pub faults_in-done : (fills : List Fill) → AllByRecursion IsDone fills → faults_in fills ≡ []

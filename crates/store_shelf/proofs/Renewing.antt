@@ -16,7 +16,7 @@ use Rattle.intervals.specs.Interval.{interval_of}
 use Rattle.arch_disk.specs.Disk.{Device}
 use Rattle.arch_types.specs.declared.row.Row.{Row}
 use Rattle.history_items.specs.declared.fills.Fill.{Fill}
-use Rattle.history_items.specs.declared.fills.Fill.TheVariants.{Begun, Done, Freed, Fault}
+use Rattle.history_items.specs.declared.fills.Fill.TheVariants.{Begun, Done, Freed, Fault, Closed}
 use Rattle.history_items.specs.declared.items.Item.{Item}
 use Rattle.history_items.specs.declared.items.Item.TheVariants as items
 use Rattle.history_items.specs.Fills.{base_after, base_in, is_same}
@@ -271,6 +271,7 @@ base_stays i (Done j b ∷ later) base none =
     let parts = or_parts (is_same i j) (list_any (is_same i) (filled_intervals later)) none in
     ap (λ (o : Option ℕ). fold (base_after i) o later) (ap (λ (t : Bool). if t then Some b else base) parts.0) ∙ base_stays i later base parts.1
 base_stays i (Freed j ∷ later) base none = base_stays i later base none
+base_stays i (Closed ∷ later) base none = base_stays i later base none
 base_stays i (Fault count wrote addition ∷ later) base none = base_stays i later base none
 
 -- ---- the marks of the publication before, over longer lists

@@ -143,7 +143,7 @@ fn renew_fill<D: Disk>(
 {
     match fill {
         Fill::Done { interval, .. } => renew(alloc, store, marks, *interval),
-        Fill::Begun { .. } | Fill::Freed { .. } | Fill::Fault { .. } => Ok(()),
+        Fill::Begun { .. } | Fill::Freed { .. } | Fill::Fault { .. } | Fill::Closed => Ok(()),
     }
 }
 

@@ -1,4 +1,4 @@
-use Rattle.live_archive.proofs.Added.{abandons_add, asks_add_nothing, begins_add, ingests_add, installs_add}
+use Rattle.live_archive.proofs.Added.{abandons_add, asks_add_nothing, begins_add, closes_add, ingests_add, installs_add}
 use Rattle.live_archive.proofs.laws.calls_add.Goals as goal
 
 pub returns : goal.returns
@@ -9,5 +9,6 @@ returns g c =
       begins = begins_add _ device;
       installs = installs_add _ device;
       abandons = abandons_add _ device;
+      closes = closes_add _ device;
       asks = asks_add_nothing _ device;
     }

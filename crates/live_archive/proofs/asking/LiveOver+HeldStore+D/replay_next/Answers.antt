@@ -1,5 +1,6 @@
 use Rattle.archive_store.proofs.UnreadRows.{unread_same}
 use Rattle.live_archive.proofs.Asked.{rows_as_seen}
+use Rattle.live_archive.proofs.Closings.{none_same}
 use Rattle.live_archive.proofs.Going.{goes_same}
 use Rattle.live_archive.proofs.Turning.{leaving, took}
 use Rattle.live_archive.proofs.asking.LiveOver+HeldStore+D.replay_next.Goals as goal
@@ -8,7 +9,9 @@ pub leave-requires : goal.leave-requires
 leave-requires g c =
     let go = goes_same g.D.Disk.device c.enter-held.result.store c.replay_step-result.new.self
     (unread_same g.D.Disk.device c.enter-held.result.store c.replay_step-result.new.self c.replay_step-result.result c.replay_step-result.ensures.same) in
-    let left = leaving g.D.Disk.device _ c.enter-held.result c.replay_step-result.new.self c.args.pass.now c.enter-held.new.pass c.enter-held.ensures.value go c.enter-held.ensures.found in
+    let none = none_same c.enter-held.result.store c.replay_step-result.new.self
+    (unread_same g.D.Disk.device c.enter-held.result.store c.replay_step-result.new.self c.replay_step-result.result c.replay_step-result.ensures.same) in
+    let left = leaving g.D.Disk.device _ c.enter-held.result c.replay_step-result.new.self c.args.pass.now c.enter-held.new.pass c.enter-held.ensures.value go none c.enter-held.ensures.found in
     record { turn = c.enter-held.ensures.turn; begins = left.begins; fills_begin = left.fills_begin; value = left.value }
 
 pub returns-clause-turn : goal.returns-clause-turn

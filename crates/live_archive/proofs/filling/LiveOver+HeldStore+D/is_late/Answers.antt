@@ -6,7 +6,7 @@ use Rattle.live_archive.proofs.filling.LiveOver+HeldStore+D.is_late.Goals as goa
 pub leave-requires : goal.leave-requires
 leave-requires g c =
     let go = goes_start g.D.Disk.device c.enter-held.result.store in
-    let left = leaving g.D.Disk.device _ c.enter-held.result c.enter-held.result.store c.args.pass.now c.enter-held.new.pass c.enter-held.ensures.value go c.enter-held.ensures.found in
+    let left = leaving g.D.Disk.device _ c.enter-held.result c.enter-held.result.store c.args.pass.now c.enter-held.new.pass c.enter-held.ensures.value go refl c.enter-held.ensures.found in
     record { turn = c.enter-held.ensures.turn; begins = left.begins; fills_begin = left.fills_begin; value = left.value }
 
 pub returns-clause-turn : goal.returns-clause-turn
