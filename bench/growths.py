@@ -13,7 +13,7 @@ import subprocess
 import sys
 import tempfile
 
-from kills import ASKS, BATCH, EXAMPLES, PROGRAM, SHEETS, base_of, dump_of, fresh, packets
+from kills import ASKS, BATCH, EXAMPLES, PROGRAM, SHEETS, Archive, base_of, dump_of, fresh, packets
 
 HERE = os.path.dirname(os.path.abspath(__file__))
 
@@ -76,6 +76,11 @@ def main():
         empty, _ = base_of(top, "empty")
         loaded, _ = base_of(top, "loaded", link)
 
+        script = os.path.join(EXAMPLES, "tables.sql")
+        tables = Archive(os.path.join(top, "tables"))
+        assert tables.run("create", *SHEETS, script)[0] == 0
+        route = ["load", "--route", os.path.join(EXAMPLES, "route.sql"), os.path.join(EXAMPLES, "link-1.dump")]
+
         def not_made(archive):
             assert archive.rows() in (None, 0)
             assert archive.run("create", *SHEETS)[0] in (0, 1)
@@ -84,6 +89,10 @@ def main():
             rows = archive.rows()
             assert rows == 150 or rows % BATCH == 0, rows
             assert archive.run("load", dump)[1].endswith(" rows 150")
+
+        def routed(archive):
+            archive.rows()
+            assert archive.run(*route)[1].endswith(" rows 481")
 
         def links_whole(archive):
             archive.rows()
@@ -101,9 +110,12 @@ def main():
             (["scan", link], None, lambda archive: None),
             (["values", *SHEETS, link, "temp"], None, lambda archive: None),
             (["create", *SHEETS], None, not_made),
+            (["create", *SHEETS, script], None, not_made),
             (["load", dump], empty.folder, whole_batches),
             (["load", "--ask", ASKS, dump], empty.folder, whole_batches),
             (["load", "--fillers", "2", *links], empty.folder, links_whole),
+            (["load", "--ask", ASKS, "--fillers", "2", *links], empty.folder, links_whole),
+            (route, tables.folder, routed),
             (["query", "--ask", ASKS], loaded.folder, as_before),
             (["query", "--sql", os.path.join(EXAMPLES, "pass.sql")], loaded.folder, as_before),
             (["recover"], loaded.folder, as_before),
