@@ -21,3 +21,5 @@ mod refusals_tests;
 mod shared_items_tests;
 #[cfg(test)]
 mod time_text_tests;
+#[cfg(test)]
+mod varints_tests;

@@ -17,7 +17,7 @@ use Rattle.octet_fields.proofs.Numbers.{exact8, exact_i128}
 use Rattle.varints.proofs.Varints.{short_varint_exact}
 use Rattle.packed_cells.specs.declared.reading.Before.{Before}
 use Rattle.packed_cells.specs.Kept.{AreKept, IsSizedCell, IsSizedEng}
-use Rattle.packed_cells.specs.Packed.{after, behind, cell_at, cell_octets, cells_in, cells_octets, eng_kind, eng_octets, eng_of_kind, fields_at, fixed_after, is_near, is_of_128, is_of_32, is_of_64, kind_of, origin, raw_at, raw_octets, step, zigzag}
+use Rattle.packed_cells.specs.Packed.{packed_after, packed_behind, packed_cell_at, cell_octets, cells_in, cells_octets, eng_kind, eng_octets, eng_of_kind, packed_fields_at, fixed_after, is_raw_near, is_of_128, is_of_32, is_of_64, packed_kind_of, origin, packed_raw_at, raw_octets, step, zigzag}
 use Rattle.packed_cells.proofs.Numbers.{step_again}
 
 -- what stands before a cell is of its widths
@@ -60,25 +60,25 @@ kind_few Undef = omega arith
 kind_few (Fixed millionths) = omega arith
 kind_few (Label row) = omega arith
 
-kind_small : (before : Before) (cell : Cell) → kind_of before cell < 2 ^ 8
-kind_small before cell = elim (cases_Bool (is_near before.raw cell.raw)) [
+kind_small : (before : Before) (cell : Cell) → packed_kind_of before cell < 2 ^ 8
+kind_small before cell = elim (cases_Bool (is_raw_near before.raw cell.raw)) [
   | inl near ↦ rw near (omega (arith, kind_few cell.eng))
   | inr far ↦ rw far (omega (arith, kind_few cell.eng))
 ]
 
-kind_of_raw : (before : Before) (cell : Cell) → nat_lt (kind_of before cell) 4 ≡ is_near before.raw cell.raw
-kind_of_raw before cell = elim (cases_Bool (is_near before.raw cell.raw)) [
+kind_of_raw : (before : Before) (cell : Cell) → nat_lt (packed_kind_of before cell) 4 ≡ is_raw_near before.raw cell.raw
+kind_of_raw before cell = elim (cases_Bool (is_raw_near before.raw cell.raw)) [
   | inl near ↦ rw near (lt-ltb _ _ (omega (arith, kind_few cell.eng)))
   | inr far ↦ rw far (le-ltb _ _ (omega arith))
 ]
 
-kind_of_eng : (before : Before) (cell : Cell) → kind_of before cell % 4 ≡ eng_kind cell.eng
-kind_of_eng before cell = elim (cases_Bool (is_near before.raw cell.raw)) [
+kind_of_eng : (before : Before) (cell : Cell) → packed_kind_of before cell % 4 ≡ eng_kind cell.eng
+kind_of_eng before cell = elim (cases_Bool (is_raw_near before.raw cell.raw)) [
   | inl near ↦ rw near (omega (arith, kind_few cell.eng))
   | inr far ↦ rw far (omega (arith, kind_few cell.eng))
 ]
 
-pub short_near : (before raw : ℤ) → is_near before raw ≡ true → is_short (zigzag (raw -ℤ before)) ≡ true
+pub short_near : (before raw : ℤ) → is_raw_near before raw ≡ true → is_short (zigzag (raw -ℤ before)) ≡ true
 unfolding is_short
 short_near before raw near =
     let least : neg_ℤ (pos (2 ^ 97)) ≤ℤ (raw -ℤ before) = grind (arith, ints, near) in
@@ -86,8 +86,8 @@ short_near before raw near =
     lt-ltb _ _ (short_by (raw -ℤ before) least most)
 
 -- the raw number
-raw_again : (before raw : ℤ) (kind : ℕ) (rest : List ℕ) → FitsSigned w128 raw → nat_lt kind 4 ≡ is_near before raw → raw_at before kind (raw_octets before raw ++ rest) ≡ Some (raw, rest)
-raw_again before raw kind rest fits is = elim (cases_Bool (is_near before raw)) [
+raw_again : (before raw : ℤ) (kind : ℕ) (rest : List ℕ) → FitsSigned w128 raw → nat_lt kind 4 ≡ is_raw_near before raw → packed_raw_at before kind (raw_octets before raw ++ rest) ≡ Some (raw, rest)
+raw_again before raw kind rest fits is = elim (cases_Bool (is_raw_near before raw)) [
   | inl near ↦ rw (is, near) (step_again is_of_128 before raw rest (of_128 raw fits) (short_near before raw near))
   | inr far ↦ rw (is, far) (exact_i128.again raw rest tt fits)
 ]
@@ -113,30 +113,30 @@ bound : {A B : Type 0} (r : Option A) (x : A) (f : A → Option B) → r ≡ Som
 bound r x f is = rw is refl
 
 fields_again : (before : Before) (cell : Cell) (rest : List ℕ) → IsSizedBefore before → IsSizedCell cell
-    → fields_at before (kind_of before cell) (step before.time cell.key.time ++ (step (pos before.seq) (pos cell.key.seq) ++ (raw_octets before.raw cell.raw ++ (eng_octets before.fixed cell.eng ++ rest)))) ≡ Some (cell, rest)
+    → packed_fields_at before (packed_kind_of before cell) (step before.time cell.key.time ++ (step (pos before.seq) (pos cell.key.seq) ++ (raw_octets before.raw cell.raw ++ (eng_octets before.fixed cell.eng ++ rest)))) ≡ Some (cell, rest)
 fields_again before cell rest low sized =
     let engs : List ℕ = eng_octets before.fixed cell.eng ++ rest in
     let raws : List ℕ = raw_octets before.raw cell.raw ++ engs in
     let seqs : List ℕ = step (pos before.seq) (pos cell.key.seq) ++ raws in
     let time = step_again is_of_64 before.time cell.key.time seqs (of_64 cell.key.time sized.time) (short_of_64 before.time cell.key.time low.time sized.time) in
     let seq = step_again is_of_32 (pos before.seq) (pos cell.key.seq) raws (of_32 cell.key.seq sized.seq) (short_of_32 before.seq cell.key.seq low.seq sized.seq) in
-    let raw = raw_again before.raw cell.raw (kind_of before cell) engs sized.raw (kind_of_raw before cell) in
+    let raw = raw_again before.raw cell.raw (packed_kind_of before cell) engs sized.raw (kind_of_raw before cell) in
     let eng = eng_again before.fixed cell.eng rest low.fixed sized.eng in
     rw (time, seq, raw, kind_of_eng before cell, eng) refl
 
-pub cell_again : (before : Before) (cell : Cell) (rest : List ℕ) → IsSizedBefore before → IsSizedCell cell → cell_at before (cell_octets before cell ++ rest) ≡ Some (cell, rest)
-unfolding cell_at cell_octets
+pub cell_again : (before : Before) (cell : Cell) (rest : List ℕ) → IsSizedBefore before → IsSizedCell cell → packed_cell_at before (cell_octets before cell ++ rest) ≡ Some (cell, rest)
+unfolding packed_cell_at cell_octets
 cell_again before cell rest low sized =
     let e : List ℕ = eng_octets before.fixed cell.eng in
     let d : List ℕ = raw_octets before.raw cell.raw in
     let c : List ℕ = step (pos before.seq) (pos cell.key.seq) in
     let b : List ℕ = step before.time cell.key.time in
-    let a : List ℕ = number w8 (kind_of before cell) in
+    let a : List ℕ = number w8 (packed_kind_of before cell) in
     let flat : ((a ++ (b ++ c)) ++ (d ++ e)) ++ rest ≡ a ++ (b ++ (c ++ (d ++ (e ++ rest)))) =
     append_assoc (a ++ (b ++ c)) (d ++ e) rest ∙ ap (λ (w : List ℕ). (a ++ (b ++ c)) ++ w) (append_assoc d e rest)
     ∙ append_assoc a (b ++ c) (d ++ (e ++ rest)) ∙ ap (λ (w : List ℕ). a ++ w) (append_assoc b c (d ++ (e ++ rest))) in
-    let kind = exact8.again (kind_of before cell) (b ++ (c ++ (d ++ (e ++ rest)))) tt (kind_small before cell) in
-    ap (cell_at before) flat ∙ bound (number_at w8 (a ++ (b ++ (c ++ (d ++ (e ++ rest)))))) (kind_of before cell, b ++ (c ++ (d ++ (e ++ rest)))) (λ kind. fields_at before kind.0 kind.1) kind ∙ fields_again before cell rest low sized
+    let kind = exact8.again (packed_kind_of before cell) (b ++ (c ++ (d ++ (e ++ rest)))) tt (kind_small before cell) in
+    ap (packed_cell_at before) flat ∙ bound (number_at w8 (a ++ (b ++ (c ++ (d ++ (e ++ rest)))))) (packed_kind_of before cell, b ++ (c ++ (d ++ (e ++ rest)))) (λ kind. packed_fields_at before kind.0 kind.1) kind ∙ fields_again before cell rest low sized
 
 -- ---- cells one after the other
 
@@ -153,14 +153,14 @@ sized_fixed before Undef low sized = low
 sized_fixed before (Fixed millionths) low sized = sized
 sized_fixed before (Label row) low sized = low
 
-pub sized_after : (before : Before) (cell : Cell) → IsSizedBefore before → IsSizedCell cell → IsSizedBefore (after before cell)
+pub sized_after : (before : Before) (cell : Cell) → IsSizedBefore before → IsSizedCell cell → IsSizedBefore (packed_after before cell)
 sized_after before cell low sized = record { time = sized.time; seq = sized.seq; fixed = sized_fixed before.fixed cell.eng low.fixed sized.eng }
 
 cells_again : (before : Before) (cells : List Cell) → IsSizedBefore before → AllByRecursion IsSizedCell cells → cells_in (length cells) before (cells_octets before cells) ≡ cells
 cells_again before [] low sized = refl
 cells_again before (cell ∷ cells) low sized =
-    rw (cell_again before cell (cells_octets (after before cell) cells) low sized.0)
-    (ap (λ (cs : List Cell). cell ∷ cs) (cells_again (after before cell) cells (sized_after before cell low sized.0) sized.1))
+    rw (cell_again before cell (cells_octets (packed_after before cell) cells) low sized.0)
+    (ap (λ (cs : List Cell). cell ∷ cs) (cells_again (packed_after before cell) cells (sized_after before cell low sized.0) sized.1))
 
 -- what is kept is what is seen
 pub kept_cells : (count : ℕ) (octets : List ℕ) (last : Before) (kept : AreKept count octets last) → cells_in count origin octets ≡ kept.cells
@@ -168,22 +168,22 @@ kept_cells count octets last kept =
     ap (λ (n : ℕ). cells_in n origin octets) (sym kept.all) ∙ ap (cells_in (length kept.cells) origin) kept.spelled
     ∙ cells_again origin kept.cells sized_origin kept.sized
 
-octets_more : (before : Before) (cells : List Cell) (cell : Cell) → cells_octets before (cells ++ cell ∷ []) ≡ cells_octets before cells ++ cell_octets (behind before cells) cell
+octets_more : (before : Before) (cells : List Cell) (cell : Cell) → cells_octets before (cells ++ cell ∷ []) ≡ cells_octets before cells ++ cell_octets (packed_behind before cells) cell
 octets_more before [] cell = append-nil (cell_octets before cell)
 octets_more before (first ∷ cells) cell =
-    ap (λ (w : List ℕ). cell_octets before first ++ w) (octets_more (after before first) cells cell)
-    ∙ sym (append_assoc (cell_octets before first) (cells_octets (after before first) cells) (cell_octets (behind (after before first) cells) cell))
+    ap (λ (w : List ℕ). cell_octets before first ++ w) (octets_more (packed_after before first) cells cell)
+    ∙ sym (append_assoc (cell_octets before first) (cells_octets (packed_after before first) cells) (cell_octets (packed_behind (packed_after before first) cells) cell))
 
-behind_more : (before : Before) (cells : List Cell) (cell : Cell) → behind before (cells ++ cell ∷ []) ≡ after (behind before cells) cell
+behind_more : (before : Before) (cells : List Cell) (cell : Cell) → packed_behind before (cells ++ cell ∷ []) ≡ packed_after (packed_behind before cells) cell
 behind_more before [] cell = refl
-behind_more before (first ∷ cells) cell = behind_more (after before first) cells cell
+behind_more before (first ∷ cells) cell = behind_more (packed_after before first) cells cell
 
 all_more : (cells : List Cell) (cell : Cell) → AllByRecursion IsSizedCell cells → IsSizedCell cell → AllByRecursion IsSizedCell (cells ++ cell ∷ [])
 all_more [] cell all sized = (sized, tt)
 all_more (first ∷ cells) cell all sized = (all.0, all_more cells cell all.1 sized)
 
 -- one more is kept
-pub kept_more : (count : ℕ) (octets more : List ℕ) (last : Before) (cell : Cell) → AreKept count octets last → IsSizedCell cell → more ≡ octets ++ cell_octets last cell → AreKept (count + 1) more (after last cell)
+pub kept_more : (count : ℕ) (octets more : List ℕ) (last : Before) (cell : Cell) → AreKept count octets last → IsSizedCell cell → more ≡ octets ++ cell_octets last cell → AreKept (count + 1) more (packed_after last cell)
 kept_more count octets more last cell kept sized is = record {
   cells = kept.cells ++ cell ∷ [];
   all = length-append kept.cells (cell ∷ []) ∙ ap (λ (n : ℕ). n + 1) kept.all;
@@ -192,11 +192,11 @@ kept_more count octets more last cell kept sized is = record {
       is ∙ ap (λ (w : List ℕ). w ++ cell_octets last cell) kept.spelled
       ∙ ap (λ (b : Before). cells_octets origin kept.cells ++ cell_octets b cell) kept.next
       ∙ sym (octets_more origin kept.cells cell);
-  next = ap (λ (b : Before). after b cell) kept.next ∙ sym (behind_more origin kept.cells cell);
+  next = ap (λ (b : Before). packed_after b cell) kept.next ∙ sym (behind_more origin kept.cells cell);
 }
 
 pub cells_more : (count : ℕ) (octets more : List ℕ) (last : Before) (cell : Cell) → AreKept count octets last → IsSizedCell cell → more ≡ octets ++ cell_octets last cell → cells_in (count + 1) origin more ≡ cells_in count origin octets ++ cell ∷ []
 unfolding kept_more
 cells_more count octets more last cell kept sized is =
-    kept_cells (count + 1) more (after last cell) (kept_more count octets more last cell kept sized is)
+    kept_cells (count + 1) more (packed_after last cell) (kept_more count octets more last cell kept sized is)
     ∙ ap (λ (cells : List Cell). cells ++ cell ∷ []) (sym (kept_cells count octets last kept))

@@ -13,7 +13,7 @@ use Rattle.varints.specs.Varint.{is_short, varint}
 use Rattle.varints.proofs.Varints.{varint-large, varint-small}
 use Rattle.packed_cells.specs.declared.reading.Before.{Before}
 use Rattle.packed_cells.specs.Kept.{AreKept, IsSizedCell, IsSizedEng}
-use Rattle.packed_cells.specs.Packed.{after, behind, cell_octets, eng_octets, is_near, kind_of, origin, raw_octets, zigzag}
+use Rattle.packed_cells.specs.Packed.{packed_after, packed_behind, cell_octets, eng_octets, is_raw_near, packed_kind_of, origin, raw_octets, zigzag}
 use Rattle.packed_cells.proofs.Again.{IsSizedBefore, short_near, short_of_32, short_of_64, short_row, sized_after, sized_origin}
 
 -- ---- varints
@@ -69,7 +69,7 @@ unfolding number signed
 signed_room z = refl
 
 raw_room : (before raw : ℤ) → length (raw_octets before raw) ≤ 16
-raw_room before raw = elim (cases_Bool (is_near before raw)) [
+raw_room before raw = elim (cases_Bool (is_raw_near before raw)) [
   | inl near ↦ rw near (omega (arith, short_room (zigzag (raw -ℤ before)) (short_near before raw near)))
   | inr far ↦ rw far (omega (arith, signed_room raw))
 ]
@@ -83,7 +83,7 @@ eng_room before (Label row) low sized = short_room row (short_row row sized)
 pub cell_room : (before : Before) (cell : Cell) → IsSizedBefore before → IsSizedCell cell → length (cell_octets before cell) ≤ 64
 unfolding cell_octets
 cell_room before cell low sized =
-    let kind = number_room (kind_of before cell) in
+    let kind = number_room (packed_kind_of before cell) in
     let time = short_room (zigzag (cell.key.time -ℤ before.time)) (short_of_64 before.time cell.key.time low.time sized.time) in
     let seq = short_room (zigzag (pos cell.key.seq -ℤ pos before.seq)) (short_of_32 before.seq cell.key.seq low.seq sized.seq) in
     let raw = raw_room before.raw cell.raw in
@@ -91,9 +91,9 @@ cell_room before cell low sized =
     simp length-append (omega (arith, kind, time, seq, raw, eng))
 
 -- what stands before the next of cells is of its widths
-sized_behind : (before : Before) (cells : List Cell) → IsSizedBefore before → AllByRecursion IsSizedCell cells → IsSizedBefore (behind before cells)
+sized_behind : (before : Before) (cells : List Cell) → IsSizedBefore before → AllByRecursion IsSizedCell cells → IsSizedBefore (packed_behind before cells)
 sized_behind before [] low sized = low
-sized_behind before (cell ∷ cells) low sized = sized_behind (after before cell) cells (sized_after before cell low sized.0) sized.1
+sized_behind before (cell ∷ cells) low sized = sized_behind (packed_after before cell) cells (sized_after before cell low sized.0) sized.1
 
 pub sized_last : (count : ℕ) (octets : List ℕ) (last : Before) → AreKept count octets last → IsSizedBefore last
 sized_last count octets last kept = subst IsSizedBefore (sym kept.next) (sized_behind origin kept.cells sized_origin kept.sized)

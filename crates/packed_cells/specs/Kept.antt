@@ -1,5 +1,5 @@
 -- Cells that are kept.
-use Rattle.std.specs.Prelude.{◌≡◌, ℕ, ◌+◌, ◌<◌, ◌≤◌, ◌^◌, List, length, vec_capacity}
+use Rattle.std.specs.Prelude.{◌≡◌, ℕ, ◌+◌, ◌<◌, ◌≤◌, ◌^◌, ◌++◌, List, length, take, vec_capacity}
 use Rattle.std.specs.Global.{Vec}
 use Rattle.std.specs.List.{AllByRecursion}
 use Rattle.std.specs.Int.{w64, w128}
@@ -8,7 +8,7 @@ use Rattle.arch_types.specs.declared.cell.Cell.{Cell}
 use Rattle.arch_types.specs.declared.cell.Eng.{Eng}
 use Rattle.arch_types.specs.declared.cell.Eng.TheVariants.{Fixed, Label}
 use Rattle.packed_cells.specs.declared.reading.Before.{Before}
-use Rattle.packed_cells.specs.Packed.{behind, cells_octets, origin}
+use Rattle.packed_cells.specs.Packed.{packed_behind, cells_octets, origin}
 
 -- an engineering value of its widths
 abbrev pub IsSizedEng : Eng → Type 0
@@ -29,8 +29,14 @@ pub record AreKept (count : ℕ) (octets : List ℕ) (last : Before) : Type 0 wh
   pub all : length cells ≡ count
   pub sized : AllByRecursion IsSizedCell cells
   pub spelled : octets ≡ cells_octets origin cells
-  pub next : last ≡ behind origin cells
+  pub next : last ≡ packed_behind origin cells
 
 -- a buffer has room for octets behind its own
 abbrev pub HasRoomFor : List ℕ → Vec ℕ → Type 0
 HasRoomFor octets out = length out.items + length octets ≤ vec_capacity out
+
+-- behind what was there stand the first of the cells that were to be added, and no others
+pub record IsPartAdded (old cells new : List Cell) : Type 0 where
+  pub added : ℕ
+  pub some : added ≤ length cells
+  pub kept : new ≡ old ++ take added cells

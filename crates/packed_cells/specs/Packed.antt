@@ -44,8 +44,8 @@ fixed_after before (Fixed millionths) = millionths
 fixed_after before other = before
 
 -- before the next
-abbrev pub after : Before → Cell → Before
-after before cell = record {
+abbrev pub packed_after : Before → Cell → Before
+packed_after before cell = record {
   time = cell.key.time;
   seq = cell.key.seq;
   raw = cell.raw;
@@ -63,12 +63,12 @@ abbrev pub is_small : ℤ → Bool
 is_small x = int_le (neg_ℤ (pos (2 ^ 96))) x && int_lt x (pos (2 ^ 96))
 
 -- whether a raw number is spelled by its difference to the one before
-abbrev pub is_near : ℤ → ℤ → Bool
-is_near before raw = is_small before && is_small raw
+abbrev pub is_raw_near : ℤ → ℤ → Bool
+is_raw_near before raw = is_small before && is_small raw
 
 -- a raw number, by its difference to the one before, or whole
 abbrev pub raw_octets : ℤ → ℤ → List ℕ
-raw_octets before raw = if is_near before raw then step before raw else signed w128 raw
+raw_octets before raw = if is_raw_near before raw then step before raw else signed w128 raw
 
 -- the kind of an engineering value
 abbrev pub eng_kind : Eng → ℕ
@@ -85,13 +85,13 @@ eng_octets before (Fixed millionths) = step before millionths
 eng_octets before (Label row) = varint row
 
 -- the kind of a cell: that of its engineering value, and whether its raw number is whole
-abbrev pub kind_of : Before → Cell → ℕ
-kind_of before cell = eng_kind cell.eng + (if is_near before.raw cell.raw then 0 else 4)
+abbrev pub packed_kind_of : Before → Cell → ℕ
+packed_kind_of before cell = eng_kind cell.eng + (if is_raw_near before.raw cell.raw then 0 else 4)
 
 -- the kind and the key of a cell, behind what stands before it
 abbrev pub key_octets : Before → Cell → List ℕ
 key_octets before cell =
-    number w8 (kind_of before cell) ++ (step before.time cell.key.time ++ step (pos before.seq) (pos cell.key.seq))
+    number w8 (packed_kind_of before cell) ++ (step before.time cell.key.time ++ step (pos before.seq) (pos cell.key.seq))
 
 -- its values
 abbrev pub value_octets : Before → Cell → List ℕ
@@ -104,12 +104,12 @@ cell_octets before cell = key_octets before cell ++ value_octets before cell
 -- cells, one after the other
 abbrev pub cells_octets : Before → List Cell → List ℕ
 cells_octets before [] = []
-cells_octets before (cell ∷ cells) = cell_octets before cell ++ cells_octets (after before cell) cells
+cells_octets before (cell ∷ cells) = cell_octets before cell ++ cells_octets (packed_after before cell) cells
 
 -- what stands before the next of them
-abbrev pub behind : Before → List Cell → Before
-behind before [] = before
-behind before (cell ∷ cells) = behind (after before cell) cells
+abbrev pub packed_behind : Before → List Cell → Before
+packed_behind before [] = before
+packed_behind before (cell ∷ cells) = packed_behind (packed_after before cell) cells
 
 -- ---- the reader
 
@@ -122,8 +122,8 @@ abbrev pub step_at : (ℤ → Bool) → ℤ → Reader ℤ
 step_at fits before = tested_at fits (sum_at before)
 
 -- reads a raw number
-abbrev pub raw_at : ℤ → ℕ → Reader ℤ
-raw_at before kind = if nat_lt kind 4 then step_at is_of_128 before else signed_at w128
+abbrev pub packed_raw_at : ℤ → ℕ → Reader ℤ
+packed_raw_at before kind = if nat_lt kind 4 then step_at is_of_128 before else signed_at w128
 
 -- reads an engineering value
 abbrev pub eng_of_kind : ℤ → ℕ → Reader Eng
@@ -139,26 +139,26 @@ key_at before = both_at (step_at is_of_64 before.time) (λ _. step_at is_of_32 (
 
 -- reads the values of a cell of a kind
 abbrev pub value_at : Before → ℕ → Reader (ℤ × Eng)
-value_at before kind = both_at (raw_at before.raw kind) (λ _. eng_of_kind before.fixed (kind % 4))
+value_at before kind = both_at (packed_raw_at before.raw kind) (λ _. eng_of_kind before.fixed (kind % 4))
 
 -- the cell of a key and values
-abbrev pub cell_of : (ℤ × ℤ) × (ℤ × Eng) → Cell
-cell_of p = record { key = record { time = p.0.0; seq = nat_abs p.0.1 }; raw = p.1.0; eng = p.1.1 }
+abbrev pub packed_cell_of : (ℤ × ℤ) × (ℤ × Eng) → Cell
+packed_cell_of p = record { key = record { time = p.0.0; seq = nat_abs p.0.1 }; raw = p.1.0; eng = p.1.1 }
 
 -- reads what stands behind the kind of a cell
-abbrev pub fields_at : Before → ℕ → Reader Cell
-fields_at before kind = mapped_at cell_of (both_at (key_at before) (λ _. value_at before kind))
+abbrev pub packed_fields_at : Before → ℕ → Reader Cell
+packed_fields_at before kind = mapped_at packed_cell_of (both_at (key_at before) (λ _. value_at before kind))
 
 -- reads a cell
-unfoldable pub cell_at : Before → Reader Cell
-cell_at before = kind_at (fields_at before)
+unfoldable pub packed_cell_at : Before → Reader Cell
+packed_cell_at before = kind_at (packed_fields_at before)
 
 -- what was read, with what reads the others
 abbrev pub read_on : (Before → List ℕ → List Cell) → Before → Option (Cell × List ℕ) → List Cell
 read_on more before None = []
-read_on more before (Some x) = x.0 ∷ more (after before x.0) x.1
+read_on more before (Some x) = x.0 ∷ more (packed_after before x.0) x.1
 
 -- so many cells, or those up to where none is read
 abbrev pub cells_in : ℕ → Before → List ℕ → List Cell
 cells_in zero before octets = []
-cells_in (suc count) before octets = read_on (cells_in count) before (cell_at before octets)
+cells_in (suc count) before octets = read_on (cells_in count) before (packed_cell_at before octets)

@@ -3,6 +3,7 @@
 ghost use Rattle.std.specs.Prelude.{◌≡◌, ◌++◌, ◌∷◌, [], length, OnErr, OnOk};
 ghost use Rattle.std.specs.Iterator.{at_most};
 ghost use Rattle.std.specs.Map.Iter.{TakesFirst};
+ghost use Rattle.packed_cells.specs.Kept.{IsPartAdded};
 ghost use Rattle.packed_cells.specs.Packed.{cells_in};
 
 use crate::reading::{Before, cell_at};
@@ -67,9 +68,10 @@ impl PackedCells {
         Ok(())
     }
 
-    /// Adds some at the end. The one error is want of memory, for which those that have room are added.
+    /// Adds some at the end. The one error is want of memory, for which the first of them are added, as many as have room.
     pub fn extend_from_slice(&mut self, cells: &[Cell]) -> Result<(), AllocError>
-        ensures { OnOk result (self.new ≡ self.old ++ cells.now) }
+        ensures added { OnOk result (self.new ≡ self.old ++ cells.now) }
+        ensures refused { OnErr result (IsPartAdded self.old cells.now self.new) }
     {
         for cell in cells {
             self.push(*cell)?;

@@ -2,7 +2,7 @@
 
 ghost use Rattle.std.specs.Prelude.{◌≡◌, IfOk, pos, Some};
 ghost use Rattle.octet_fields.specs.Answers.{Answers};
-ghost use Rattle.packed_cells.specs.Packed.{after, cell_at, eng_of_kind, is_of_32, is_of_64, is_of_128, key_at, origin, raw_at, step_at, sum_at, value_at};
+ghost use Rattle.packed_cells.specs.Packed.{packed_after, packed_cell_at, eng_of_kind, is_of_32, is_of_64, is_of_128, key_at, origin, packed_raw_at, step_at, sum_at, value_at};
 
 use crate::zigzag::{unzigzag, unzigzag_word};
 use arch_types::cell::{Cell, Eng};
@@ -35,7 +35,7 @@ impl Before {
 
     /// Before the next of a cell.
     pub(crate) fn after(&self, cell: &Cell) -> Before
-        ensures { result ≡ after self.now cell.now }
+        ensures { result ≡ packed_after self.now cell.now }
     {
         let fixed = match cell.eng {
             Eng::Fixed(millionths) => millionths,
@@ -75,6 +75,7 @@ fn wide_sum_at(octets: &[u8], before: i128) -> Result<(i128, &[u8]), Short>
 }
 
 /// A number of 64 bits by its difference to one before.
+#[inline(always)]
 fn i64_step_at(octets: &[u8], before: i64) -> Result<(i64, &[u8]), Short>
     ensures { Answers (λ x. (x.0, x.1.now)) result (step_at is_of_64 before octets.now) }
 {
@@ -113,7 +114,7 @@ fn i128_step_at(octets: &[u8], before: i128) -> Result<(i128, &[u8]), Short>
 
 /// A raw number of a cell of a kind.
 fn raw_at<'a>(octets: &'a [u8], before: &Before, kind: u8) -> Result<(i128, &'a [u8]), Short>
-    ensures { Answers (λ x. (x.0, x.1.now)) result (raw_at before.now.raw kind octets.now) }
+    ensures { Answers (λ x. (x.0, x.1.now)) result (packed_raw_at before.now.raw kind octets.now) }
 {
     if kind >= 4 {
         i128_at(octets)
@@ -166,9 +167,9 @@ fn value_at<'a>(
 }
 
 /// The cell at the front, behind what stands before it, and the octets after it.
-#[tactic(auto, unfolding(crate::specs::Packed::cell_at))]
+#[tactic(auto, unfolding(crate::specs::Packed::packed_cell_at))]
 pub(crate) fn cell_at<'a>(octets: &'a [u8], before: &Before) -> Result<(Cell, &'a [u8]), Short>
-    ensures { Answers (λ x. (x.0, x.1.now)) result (cell_at before.now octets.now) }
+    ensures { Answers (λ x. (x.0, x.1.now)) result (packed_cell_at before.now octets.now) }
 {
     let (kind, rest) = u8_at(octets)?;
     let (key, rest) = key_at(rest, before)?;

@@ -4,7 +4,7 @@ ghost use Rattle.std.specs.Prelude.{◌≡◌, ◌<◌, ◌^◌, ◌++◌, ◌-�
 ghost use Rattle.std.specs.Int.{w8, w64, w128};
 ghost use Rattle.std.specs.Int.RustNames.{FitsSigned};
 ghost use Rattle.packed_cells.specs.Kept.{HasRoomFor, IsSizedCell, IsSizedEng};
-ghost use Rattle.packed_cells.specs.Packed.{cell_octets, eng_kind, eng_octets, is_near, is_small, key_octets, kind_of, raw_octets, step, value_octets, zigzag};
+ghost use Rattle.packed_cells.specs.Packed.{cell_octets, eng_kind, eng_octets, is_raw_near, is_small, key_octets, packed_kind_of, raw_octets, step, value_octets, zigzag};
 ghost use Rattle.octet_fields.specs.Spelling.{number, signed};
 ghost use Rattle.varints.specs.Varint.{varint};
 
@@ -96,7 +96,7 @@ fn is_small(n: i128) -> bool
 
 /// Whether a raw number is spelled by its difference to the one before.
 fn is_near(before: i128, raw: i128) -> bool
-    ensures { result ≡ is_near before raw }
+    ensures { result ≡ is_raw_near before raw }
 {
     is_small(before) && is_small(raw)
 }
@@ -105,7 +105,7 @@ fn is_near(before: i128, raw: i128) -> bool
 #[inline(always)]
 fn near_raw(before: i128, raw: i128) -> Option<u64>
     ensures step { IfSome result (λ n. n ≡ zigzag (raw -ℤ before)) }
-    ensures near { IfSome result (λ _. is_near before raw ≡ true) }
+    ensures near { IfSome result (λ _. is_raw_near before raw ≡ true) }
 {
     match (i64::try_from(before), i64::try_from(raw)) {
         (Ok(before), Ok(raw)) => near_step(before, raw),
@@ -178,7 +178,7 @@ fn put_eng(out: &mut Vec<u8>, before: i64, eng: Eng)
 
 /// The kind of a cell.
 fn kind_of(before: &Before, cell: &Cell) -> u8
-    ensures { result ≡ kind_of before.now cell.now }
+    ensures { result ≡ packed_kind_of before.now cell.now }
 {
     let whole = if is_near(before.raw, cell.raw) { 0 } else { 4 };
     eng_kind(cell.eng) + whole

@@ -1,1 +1,2 @@
 pub mod Varints
+pub mod Words

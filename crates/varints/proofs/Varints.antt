@@ -121,13 +121,6 @@ weight_le i weight e lt = let le : i ≤ 13 = omega arith in rw e (pow-le-pow_ri
 pub digit_fits : (octet weight : ℕ) → octet < 128 → weight ≤ 2 ^ 91 → octet * weight ≤ 127 * 2 ^ 91
 digit_fits octet weight lt le = mul-le octet weight 127 (2 ^ 91) (omega arith) le
 
--- the same where at most eight octets are read
-pub word_weight_le : (i weight : ℕ) → weight ≡ 128 ^ i → i < 8 → weight ≤ 2 ^ 49
-word_weight_le i weight e lt = let le : i ≤ 7 = omega arith in rw e (pow-le-pow_right {n = 128} (omega arith) {i = i} {j = 7} le)
-
-pub word_digit_fits : (octet weight : ℕ) → octet < 128 → weight ≤ 2 ^ 49 → octet * weight ≤ 127 * 2 ^ 49
-word_digit_fits octet weight lt le = mul-le octet weight 127 (2 ^ 49) (omega arith) le
-
 pub behind_last : (value weight octet : ℕ) (after : List ℕ) → 0 < octet → octet < 128 → behind value weight (varint_at (octet ∷ after)) ≡ Some (value + octet * weight, after)
 behind_last value weight octet after pos lt = rw (lt-ltb octet 128 lt, lt-ltb 0 octet pos) (ap (λ (n : ℕ). Some (n, after)) (omega arith))
 

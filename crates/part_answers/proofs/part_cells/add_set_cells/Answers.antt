@@ -18,4 +18,4 @@ returns c =
     let range = c.range_left-range.ensures in
     let here = in_direction c.args.direction (filter (is_cell_in_range request.from request.to) (set_cells db c.args.number rows)) in
     let found = c.in_ok-found.ensures ∙ range_asks db c.args.number c.range_left-range.result request.from request.to c.args.direction (limit_left request.limit cells) rows range.from range.to range.direction range.limit in
-    c.in_ok-extend_from_slice.ensures ∙ ap (λ (l : List Cell). cells ++ l) (c.as_slice.ensures ∙ found) ∙ within_room request.limit cells here c.requires.within
+    c.in_ok-extend_from_slice.ensures.added ∙ ap (λ (l : List Cell). cells ++ l) (c.as_slice.ensures ∙ found) ∙ within_room request.limit cells here c.requires.within

@@ -1,6 +1,11 @@
-use Rattle.std.proofs.Common.{ℕ, ◌+◌, ◌*◌, ◌<◌, List, ap, drop, get_or, ◌∙◌, arith}
+use Rattle.std.proofs.Common.{◌≡◌, ◌<◌, ℕ, suc, ◌+◌, ◌*◌, ◌%◌, ◌^◌, refl, ap, sym, drop, get_or, ◌∙◌, add-one, arith}
+use Rattle.std.specs.Int.Count.{count_trailing_zeros}
+use Rattle.std.proofs.Math.Nat.{mod-le}
+use Rattle.std.proofs.lemmas.Nat.{pow_pos}
 use Rattle.varints.specs.Varint.{varint_at}
-use Rattle.varints.proofs.Varints.{behind, behind-more, behind_last, octet_next, short_of, word_weight_le, word_digit_fits, first_small, weight_more, low_more}
+use Rattle.varints.specs.Words.{joined, little_endian}
+use Rattle.varints.proofs.Varints.{octet_next, short_of, first_small}
+use Rattle.varints.proofs.Words.{joined_of, last_in, last_weight, little_endian_front, word_reads}
 use Rattle.varints.proofs.varint.word_at.Goals as goal
 
 pub returns-then-first-lt128 : goal.returns-then-first-lt128
@@ -9,54 +14,32 @@ returns-then-first-lt128 c =
     let first = get_or octets 0 0 in
     rw (c.from.ensures, c.split_at.ensures.back) (short_of octets first _ (ap varint_at (octet_next octets 0 (omega arith)) ∙ first_small first _ c.if-first-lt128.true) (omega arith))
 
-pub overflow_mul-result : goal.overflow_mul-result
-overflow_mul-result c =
-    let le = word_weight_le c.loop-i.i c.loop-i.weight c.loop-i.invariant.weight c.loop-i-test.true in
-    omega (arith, word_digit_fits c.from-then-octet-lt128.result c.loop-i.weight (omega arith) le)
+pub bounds-octets-last : goal.bounds-octets-last
+bounds-octets-last c =
+    let place = last_in c.args.octets.now c.ends-found.result c.ends-found.ensures (omega arith) (omega arith) in
+    omega (arith, place.0)
 
-pub overflow_add-result : goal.overflow_add-result
-overflow_add-result c =
-    let le = word_weight_le c.loop-i.i c.loop-i.weight c.loop-i.invariant.weight c.loop-i-test.true in
-    let low = c.loop-i.invariant.low in
-    omega (arith, word_digit_fits c.from-then-octet-lt128.result c.loop-i.weight (omega arith) le)
+pub overflow_shl-result : goal.overflow_shl-result
+overflow_shl-result c =
+    let place = last_in c.args.octets.now c.ends-found.result c.ends-found.ensures (omega arith) (omega arith) in
+    omega (arith, place.0)
 
-pub returns-then-octet-lt128 : goal.returns-then-octet-lt128
-returns-then-octet-lt128 c =
+pub nonzero_rem-result : goal.nonzero_rem-result
+nonzero_rem-result c =
+    let place = last_in c.args.octets.now c.ends-found.result c.ends-found.ensures (omega arith) (omega arith) in
+    let last = count_trailing_zeros 64 c.ends-found.result in
+    rw (last_weight last place.0) (pow_pos (7 * suc last))
+
+pub returns : goal.returns
+returns c =
     let octets = c.args.octets.now in
-    let i = c.loop-i.i in
-    let le = word_weight_le i c.loop-i.weight c.loop-i.invariant.weight c.loop-i-test.true in
-    let low = c.loop-i.invariant.low in
-    let o = get_or octets i 0 in
-    rw (c.from-then-octet-lt128.ensures, c.split_at-then-octet-lt128.ensures.back) (short_of octets (c.loop-i.value + o * c.loop-i.weight) (drop (i + 1) octets)
-    (c.loop-i.invariant.read ∙ ap (λ (r : List ℕ). behind c.loop-i.value c.loop-i.weight (varint_at r)) (octet_next octets i (omega arith)) ∙ behind_last c.loop-i.value c.loop-i.weight o (drop (i + 1) octets) (omega arith) c.if-octet-lt128.true)
-    (omega (arith, word_digit_fits o c.loop-i.weight c.if-octet-lt128.true le)))
-
-pub overflow_mul-value : goal.overflow_mul-value
-overflow_mul-value c =
-    let le = word_weight_le c.loop-i.i c.loop-i.weight c.loop-i.invariant.weight c.loop-i-test.true in
-    let octet : get_or c.args.octets.now c.loop-i.i 0 < 256 = omega (arith, c.type_inv.octets c.loop-i.i) in
-    omega (arith, word_digit_fits c.from-in-loop-i.result c.loop-i.weight (omega arith) le)
-
-pub overflow_add-value : goal.overflow_add-value
-overflow_add-value c =
-    let le = word_weight_le c.loop-i.i c.loop-i.weight c.loop-i.invariant.weight c.loop-i-test.true in
-    let octet : get_or c.args.octets.now c.loop-i.i 0 < 256 = omega (arith, c.type_inv.octets c.loop-i.i) in
-    let low = c.loop-i.invariant.low in
-    omega (arith, word_digit_fits c.from-in-loop-i.result c.loop-i.weight (omega arith) le)
-
-pub overflow_mul-weight : goal.overflow_mul-weight
-overflow_mul-weight c =
-    let le = word_weight_le c.loop-i.i c.loop-i.weight c.loop-i.invariant.weight c.loop-i-test.true in
-    omega arith
-
-pub loop-i-preserved : goal.loop-i-preserved
-loop-i-preserved c =
-    let octets = c.args.octets.now in
-    let i = c.loop-i.i in
-    let o = get_or octets i 0 in
-    let octet : o < 256 = omega (arith, c.type_inv.octets i) in
-    record {
-      low = low_more c.loop-i.value c.from-in-loop-i.result c.loop-i.weight c.loop-i.invariant.low (omega arith);
-      weight = weight_more i c.loop-i.weight c.loop-i.invariant.weight;
-      read = rw c.from-in-loop-i.ensures (c.loop-i.invariant.read ∙ ap (λ (r : List ℕ). behind c.loop-i.value c.loop-i.weight (varint_at r)) (octet_next octets i (omega arith)) ∙ behind-more c.loop-i.value c.loop-i.weight o (drop (i + 1) octets) c.if-octet-lt128.false);
-    }
+    let last = count_trailing_zeros 64 c.ends-found.result in
+    let place = last_in octets c.ends-found.result c.ends-found.ensures (omega arith) (omega arith) in
+    let word = little_endian 8 octets in
+    let reads = word_reads 8 last octets (λ i. omega (arith, c.type_inv.octets i)) place.0 (omega arith) place.1 (omega arith) in
+    let whole : c.joined.result ≡ joined 8 word = c.joined.ensures ∙ ap (joined 8) (c.word_of.ensures ∙ little_endian_front 8 octets) in
+    let weight = 1 * 2 ^ (7 * (last + 1)) % 2 ^ 64 in
+    let value : c.joined.result % weight ≡ joined (suc last) word = ap (λ (n : ℕ). n % weight) whole ∙ joined_of last word place.0 in
+    let below : c.joined.result % weight < 2 ^ 98 = omega (arith, mod-le c.joined.result weight) in
+    rw c.split_at-2.ensures.back (short_of octets (c.joined.result % weight) (drop (last + 1) octets)
+    (reads.0 ∙ rw (sym value, add-one) refl) below)

@@ -1,7 +1,7 @@
 use Rattle.std.proofs.Common.{◌≡◌, ◌∙◌, ◌+◌, ◌++◌, ◌∷◌, ℕ, List, [], arith, sym, ap, subst}
 use Rattle.arch_types.specs.declared.cell.Cell.{Cell}
 use Rattle.packed_cells.specs.Kept.{AreKept}
-use Rattle.packed_cells.specs.Packed.{after, cell_octets, cells_in, origin}
+use Rattle.packed_cells.specs.Packed.{packed_after, cell_octets, cells_in, origin}
 use Rattle.packed_cells.specs.declared.reading.Before.{Before}
 use Rattle.packed_cells.proofs.Again.{cells_more, kept_more}
 use Rattle.packed_cells.proofs.Room.{cell_room, sized_last}
@@ -18,7 +18,7 @@ more c = c.put_cell.ensures ∙ ap (λ (w : List ℕ). w ++ cell_octets c.self.i
 count : (c : goal.After-self-2-1) → c.in-Some.count ≡ c.self.inside.count + 1
 count c = omega (arith, c.in-Some.ensures)
 
-kept : (c : goal.After-self-2-1) → AreKept (c.self.inside.count + 1) c.put_cell.new.out.items (after c.self.inside.last c.args.cell)
+kept : (c : goal.After-self-2-1) → AreKept (c.self.inside.count + 1) c.put_cell.new.out.items (packed_after c.self.inside.last c.args.cell)
 kept c = kept_more c.self.inside.count c.self.inside.octets.items c.put_cell.new.out.items c.self.inside.last c.args.cell c.self.invariant c.is_sized.ensures (more c)
 
 pub invariant_of-self-2 : goal.invariant_of-self-2
