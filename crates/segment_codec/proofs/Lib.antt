@@ -9,6 +9,7 @@ pub mod Distinct
 pub mod Segments
 pub mod Looping
 pub mod RangeSteps
+pub mod PassedKeys
 pub mod Written
 pub mod Ranges
 pub mod Skipped

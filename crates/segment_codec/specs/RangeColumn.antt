@@ -1,10 +1,12 @@
 -- What a segment has of a parameter in a range of times.
-use Rattle.std.specs.Prelude.{◌≡◌, ◌-◌, ℕ, ℤ, Bool, not, ◌&&◌, int_lt, List, length, take, drop, filter, min, Option, None, Some, option_map}
+use Rattle.std.specs.Prelude.{◌≡◌, ◌<ℤ◌, ◌+ℤ◌, ◌*ℤ◌, ◌-◌, ◌^◌, ℕ, ℤ, pos, Bool, not, ◌&&◌, int_lt, List, ◌++◌, length, take, drop, filter, min, Option, None, Some, option_map}
+use Rattle.std.specs.List.{AllByRecursion}
+use Rattle.octet_fields.specs.Reading.{◌>>=◌}
 use Rattle.arch_types.specs.Directions.{in_direction, truncated}
 use Rattle.arch_types.specs.declared.direction.Direction.{Direction}
 use Rattle.arch_types.specs.declared.direction.Direction.TheVariants.{Ascending, Descending}
 use Rattle.arch_types.specs.declared.key.Key.{Key}
-use Rattle.segment_codec.specs.KeyColumn.{keys_after_at}
+use Rattle.segment_codec.specs.KeyColumn.{key_number, keys_after_at}
 use Rattle.segment_codec.specs.OneColumn.{column_in, column_of_parts}
 use Rattle.segment_codec.specs.declared.one_column.ParameterColumn.{ParameterColumn}
 use Rattle.segment_codec.specs.declared.range_column.KeysInRange.{KeysInRange}
@@ -46,6 +48,15 @@ asked_column parameter low high direction limit s = option_map (asked_rows low h
 pub record IsSpanOf (low high : ℤ) (keys : List Key) (span : KeysInRange) : Type 0 where
   pub before : span.before ≡ keys_before low keys
   pub inside : span.keys ≡ filter (is_key_in_range low high) keys
+
+-- a time begins so far behind a key
+abbrev pub IsGapTo : ℤ → Key → ℕ → Type 0
+IsGapTo time key gap = key_number key +ℤ pos gap ≡ time *ℤ pos (2 ^ 32)
+
+-- of the keys that are read, the first so many are before a time, and the others are read behind them
+abbrev pub ArePassed : ℤ → ℕ → Option (List Key × List ℕ) → Option (List Key × List ℕ) → Type 0
+ArePassed time count all others = (front : List Key) × (length front ≡ count)
+    × AllByRecursion (λ key. key.time <ℤ time) front × (all ≡ (others >>= λ read. Some (front ++ read.0, read.1)))
 
 -- of so many rows, how many are asked
 abbrev pub count_in : Option ℕ → ℕ → ℕ

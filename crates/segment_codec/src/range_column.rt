@@ -1,11 +1,11 @@
-//! Reads what a segment has of a parameter in a range of times. Its keys are walked to the range's end, those behind it
-//! are passed over, and no value of a row outside, or behind the limit, is unpacked.
+//! Reads what a segment has of a parameter in a range of times. Of its keys those in the range are made, those before it
+//! and behind it are passed over, and no value of a row outside, or behind the limit, is unpacked.
 
-ghost use Rattle.std.specs.Prelude.{◌≡◌, ◌+◌, ◌<◌, ◌≤◌, ◌++◌, ◌∷◌, [], List, ℕ, length, option_map, take, drop, Option, Some, IfOk, OnOk};
+ghost use Rattle.std.specs.Prelude.{◌≡◌, ◌+◌, ◌-◌, ◌^◌, ◌<◌, ◌≤◌, ◌++◌, ◌∷◌, [], List, ℕ, length, option_map, take, drop, Option, Some, IfOk, IfSome, OnOk};
 ghost use Rattle.arch_types.specs.declared.key.Key.{Key as AKey};
-ghost use Rattle.segment_codec.specs.KeyColumn.{keys_at};
+ghost use Rattle.segment_codec.specs.KeyColumn.{keys_after_at, keys_at};
 ghost use Rattle.segment_codec.specs.OneColumn.{column_at_place, column_of};
-ghost use Rattle.segment_codec.specs.RangeColumn.{AreKeysUpTo, IsSpanOf, asked_column, asked_rows, count_in, start_in};
+ghost use Rattle.segment_codec.specs.RangeColumn.{AreKeysUpTo, ArePassed, IsGapTo, IsSpanOf, asked_column, asked_rows, count_in, start_in};
 ghost use Rattle.segment_codec.specs.Segment.{HasSegmentAt, most_rows};
 ghost use Rattle.segment_codec.specs.declared.one_column.ParameterColumn.{ParameterColumn as AColumn};
 ghost use Rattle.segment_codec.specs.declared.segment.Segment.{Segment};
@@ -21,6 +21,7 @@ use arch_types::direction::Direction;
 use arch_types::key::Key;
 use octet_fields::{DecodeError, Short};
 use std::alloc::{AllocError, Global};
+use varints::word_at;
 
 /// Which rows of a segment are asked: those with `from <= time < to`, in milliseconds.
 #[derive(Clone, Copy, Debug)]
@@ -59,6 +60,68 @@ impl KeysInRange {
     }
 }
 
+/// Keys that were passed over.
+#[derive(Clone, Copy, Debug)]
+struct PassedKeys<'a> {
+    /// How many they are.
+    count: u16,
+    /// The last of them; where there's none, the key that they were to stand behind.
+    last: Key,
+    /// The octets behind its gap.
+    rest: &'a [u8],
+}
+
+/// How far behind a key a time begins, where it's found in 64 bits: up to seven weeks behind it.
+fn gap_to(from: i64, key: Key) -> Option<u64>
+    ensures gap { IfSome result (λ gap. IsGapTo from key gap) }
+    ensures near { IfSome result (λ gap. key.seq + gap < 2 ^ 64) }
+{
+    let apart = from.abs_diff(key.time);
+    if from <= key.time || apart >= 0x1_0000_0000 {
+        return None;
+    }
+    Some(apart * 0x1_0000_0000 - u64::from(key.seq))
+}
+
+/// Passes over keys before a time, among so many that stand behind one: their gaps are summed, and none of them is made.
+/// It ends before the first key whose gap isn't found in 64 bits.
+fn passed_keys(count: u16, first: Key, from: i64, octets: &[u8]) -> PassedKeys
+    ensures few { result.count ≤ count }
+    ensures passed { ArePassed from result.count (keys_after_at count first octets.now)
+        (keys_after_at (count - result.count) result.last result.rest.now) }
+{
+    let Some(far) = gap_to(from, first) else {
+        return PassedKeys {
+            count: 0,
+            last: first,
+            rest: octets,
+        };
+    };
+    let mut left = far;
+    let mut passed = 0;
+    let mut rest = octets;
+    while passed < count {
+        let Ok((gap, after)) = word_at(rest) else {
+            break;
+        };
+        // without a gap there's no key, and one as far as the time begins isn't before it
+        if gap == 0 || gap >= left {
+            break;
+        }
+        left -= gap;
+        passed += 1;
+        rest = after;
+    }
+    let sum = u64::from(first.seq) + (far - left);
+    let time = first.time + (sum / 0x1_0000_0000) as i64;
+    let seq = (sum % 0x1_0000_0000) as u32;
+    PassedKeys {
+        count: passed,
+        last: Key { time, seq },
+        rest,
+    }
+}
+
 /// The keys of a range among so many that stand at the front; how many behind its end were not read; and the octets
 /// where these stand.
 fn walked_keys(
@@ -81,9 +144,11 @@ fn walked_keys(
         keys: KeyList::new(alloc),
     };
     span.take(from, to, first)?;
-    let mut last = first;
-    let mut rest = after_first;
-    for read in 1..count {
+    let passed = passed_keys(count - 1, first, from, after_first);
+    span.before += passed.count;
+    let mut last = passed.last;
+    let mut rest = passed.rest;
+    for read in 1 + passed.count..count {
         // keys rise, so none behind is in the range, and none is before it
         if last.time >= from && last.time >= to {
             return Ok((span, count - read, rest));

@@ -4,16 +4,29 @@ use Rattle.std.specs.Int.{w64}
 use Rattle.std.proofs.lemmas.Int.{to_z-of_z}
 use Rattle.segment_codec.specs.RangeColumn.{IsSpanOf}
 use Rattle.segment_codec.proofs.Looping.{keys_more, keys_start}
-use Rattle.segment_codec.proofs.RangeSteps.{no_keys, span_within, walk_ends}
+use Rattle.segment_codec.proofs.PassedKeys.{span_passed, walk_begins}
+use Rattle.segment_codec.proofs.RangeSteps.{no_keys, span_within, walk_ends, walk_leaves}
 use Rattle.segment_codec.proofs.range_column.walked_keys.Goals as goal
 
+pub overflow_add-span : goal.overflow_add-span
+overflow_add-span c =
+    let begun = c.in_ok-take.ensures [] (no_keys _ _ _ refl c.new.ensures) in
+    let w = span_within _ _ (c.in_ok-first.first ∷ []) c.take.new.self begun in
+    let few = c.passed_keys-passed.ensures.few in
+    omega arith
+
 pub loop-read-init : goal.loop-read-init
-loop-read-init c = (
-  c.in_ok-first.first ∷ [],
-  refl,
-  c.in_ok-take.ensures [] (no_keys _ _ _ refl c.new.ensures),
-  keys_start c.args.count c.args.octets.now c.in_ok-first.first c.in_ok-first.after_first.now c.requires c.in_ok-first.ensures,
-)
+loop-read-init c =
+    let begun = c.in_ok-take.ensures [] (no_keys _ _ _ refl c.new.ensures) in
+    let passed = c.passed_keys-passed.result in
+    let p = c.passed_keys-passed.ensures.passed in
+    let first = c.in_ok-first.first in
+    let rest = c.in_ok-first.after_first.now in (
+      first ∷ [] ++ p.0,
+      omega (arith, p.1),
+      span_passed _ _ (first ∷ []) p.0 c.take.new.self _ p.2 (ap (λ (n : ℕ). c.take.new.self.before + n) (sym p.1)) refl begun,
+      walk_begins c.args.count passed.count (first ∷ []) p.0 first passed.last rest passed.rest.now _ (keys_start c.args.count c.args.octets.now first rest c.requires c.in_ok-first.ensures) p.3,
+    )
 
 pub returns-then-last-to-clause-within : goal.returns-then-last-to-clause-within
 returns-then-last-to-clause-within c =
@@ -30,6 +43,11 @@ returns-then-last-to-clause-span c = λ keys after e.
     let from : c.args.from ≤ℤ c.loop-read.last.time = search rules in
     let to : c.args.to ≤ℤ c.loop-read.last.time = search rules in
     walk_ends c.args.from c.args.to (c.args.count - c.loop-read.read) c.loop-read.last i.0 keys c.loop-read.rest.now after c.loop-read.span from to is (sym i.3 ∙ e)
+
+pub returns-then-last-to-clause-unread : goal.returns-then-last-to-clause-unread
+returns-then-last-to-clause-unread c = λ keys after e.
+    let i = c.loop-read.invariant in
+    walk_leaves (c.args.count - c.loop-read.read) c.loop-read.last i.0 keys c.loop-read.rest.now after (sym i.3 ∙ e)
 
 pub take-requires-in-loop-read : goal.take-requires-in-loop-read
 take-requires-in-loop-read c =
