@@ -58,6 +58,7 @@ pub record IsWithinLimitWith (ahead : ℕ) (p : Progress) : Type 0 where
   pub routed : p.routed ≤ 16 * p.packets
   pub octets : p.splitter.at + length p.splitter.octets ≤ limit_of DumpOctets
 
+-- the counts are those of packets within the limit of a dump, where none were taken ahead
 abbrev pub IsWithinLimit : Progress → Type 0
 IsWithinLimit p = IsWithinLimitWith 0 p
 

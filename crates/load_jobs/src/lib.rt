@@ -3,7 +3,7 @@
 //! Stands for: what came of a link, said of its own dump and of its own pass alone (`IsLinkRun`), so that it holds
 //! whatever the others did. A link (`Link`) reads its dump in pieces, sends its packets in batches of 64, each in a
 //! turn, and wakes a filler after each that was acknowledged, by a send that never waits. Of what it has read it takes
-//! up to eight batches ahead, and sends these in turns one behind the other. Where it stops reading it sends what is in
+//! up to 32 batches ahead, and sends these in turns one behind the other. Where it stops reading it sends what is in
 //! hand, so that the packets before a failed read, a bad packet or the limit are ingested. For sessions of several jobs.
 //!
 //! The idea of the proofs: what was read is the packets that were sent, those taken ahead, those in hand, and what waits

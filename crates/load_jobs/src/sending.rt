@@ -32,7 +32,7 @@ use stream_graph::graph::Graph;
 
 /// How many whole batches a link takes, at most, before it sends them in turns one behind the other: a turn that goes
 /// from one link to another takes the archive's octets from processor to processor.
-const AHEAD: usize = 8;
+const AHEAD: usize = 32;
 
 /// How packets are received.
 #[derive(Clone, Copy)]
@@ -139,7 +139,7 @@ impl Progress {
         requires route { IsRouteOver reception.now.head.now reception.now.graph.now }
         ensures ahead { IfOk result (λ ahead. TakesAhead (receiving reception.now.head.now [] reception.now.graph.now
             reception.now.link reception.now.moment) self.old self.new ahead.items) }
-        ensures last { IfOk result (λ ahead. vec_len ahead < 8 → BeginsWithNoPacket self.new.splitter.octets) }
+        ensures last { IfOk result (λ ahead. vec_len ahead < 32 → BeginsWithNoPacket self.new.splitter.octets) }
         ensures counts { CountsStay self.old self.new }
     {
         let mut ahead = Vec::new(alloc);

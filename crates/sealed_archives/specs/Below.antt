@@ -24,10 +24,11 @@ use Rattle.sealed_archives.specs.SealFiles.{HasSeals, HaveParts, Part, StoredFil
 
 -- ---- rows
 
--- the rows of the runs of a part, and of all parts
+-- the rows of the runs of a part
 abbrev pub rows_of_part : Part → List Placed
 rows_of_part part = flat_map (λ run. run) part.runs
 
+-- those of all parts, one part behind the other
 abbrev pub rows_of_parts : List Part → List Placed
 rows_of_parts parts = flat_map rows_of_part parts
 

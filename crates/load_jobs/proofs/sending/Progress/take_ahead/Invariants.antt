@@ -11,4 +11,4 @@ invariant-batches l = record {
 }
 
 abbrev pub decreases-batches : goal.decreases-batches
-decreases-batches l = 8 - vec_len l.ahead
+decreases-batches l = 32 - vec_len l.ahead
