@@ -40,6 +40,7 @@ use Rattle.command_laws.proofs.Ways.{due_in_turn, each_in_turn}
 -- all but what is due
 record IsLeft {D : Type 0} (device : Device D) (e : Call D) (files : Files) (words : CreateWords) : Type 0 where
   made : Succeeded e → (head : Head) × GivesHead files words (Ok head) × IsMadeOf device e head × Prints e (create_line head)
+  there : e.report.opened ≡ true → (head : Head) × GivesHead files words (Ok head) × IsMadeOf device e head
   printed : (head : Head) → GivesHead files words (Ok head) → PrintsSome e (create_line head)
   kept : BeginsOpen (device.reads e.disk 0) → LeavesDisk device e × Prints e []
   quiet : (refusal : Refusal) → IsFirstUnread files (create_files words) refusal → Prints e []
@@ -75,6 +76,7 @@ module _ {D : Type 0} (device : Device D) (e : Call D) (files : Files) (words : 
       → IsLeft device e files words
   left_unmade refusal report silent kept images in_order = record {
     made = λ none. none_or_some e.report.refusal refusal (ap (λ (r : Report). r.refusal) report) none;
+    there = λ opened. opened_once e.report.opened opened (ap (λ (r : Report). r.opened) report);
     printed = λ head gives. none_is_some e (create_line head) silent;
     kept = λ open_gate. (untouched device e (kept open_gate), silent);
     quiet = λ refused first. silent;
@@ -117,11 +119,15 @@ module _ {D : Type 0} (device : Device D) (e : Call D) (files : Files) (words : 
         (λ none. weakens device e.disk e.disk' (IsCreateImage (device.images e.disk) head) (IsNoneOrHead files words)
         (failed.images (none (device.reads e.disk) (device.reads_as_image e.disk known))) (none_or_head none)) failed.closed
 
+    made_as : IsMade device e.disk e.disk' head → IsMadeOf device e head
+    made_as made = record { none = made.none; reads = made.stands; images = λ c now. (made.now c now, made.sound c now) }
+
     -- it was made, and its line printed, or not to its end
     left_made : (refusal : Option Refusal) → e.report ≡ read_only refusal 0 → PrintsSome e (create_line head) → (Succeeded e → Prints e (create_line head)) → IsMade device e.disk e.disk' head
         → IsLeft device e files words
     left_made refusal report some all made = let is : e.report.refusal ≡ refusal = ap (λ (r : Report). r.refusal) report in let is_made : e.report.opened ≡ true = ap (λ (r : Report). r.opened) report in record {
-      made = λ none. (head, gives, record { none = made.none; reads = made.stands; images = λ c now. (made.now c now, made.sound c now) }, all none);
+      made = λ none. (head, gives, made_as made, all none);
+      there = λ opened. (head, gives, made_as made);
       printed = λ other other_gives. subst (λ (h : Head). PrintsSome e (create_line h)) (same_head head other (one_head files words (Ok head) (Ok other) gives other_gives)) some;
       kept = λ open_gate. absurd (one-not-none (device.reads e.disk 0) open_gate.0 open_gate.1 made.none);
       quiet = λ refused first. absurd (all_read refused first);
@@ -277,6 +283,7 @@ module _ {D : Type 0} (device : Device D) (e : Call D) (files : Files) (clock : 
   pub created : IsCreated device e files words
   created = record {
     made = left.made;
+    there = left.there;
     printed = left.printed;
     kept = λ open_gate. (left.kept open_gate).0;
     exists = λ head gives open_gate. (

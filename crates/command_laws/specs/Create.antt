@@ -1,5 +1,5 @@
 -- The clause of `create`.
-use Rattle.std.specs.Prelude.{◌≡◌, ◌⊎◌, ℕ, ℤ, List, [], ◌∷◌, false, Option, Some, Result, Ok, Err}
+use Rattle.std.specs.Prelude.{◌≡◌, ◌⊎◌, ℕ, ℤ, List, [], ◌∷◌, true, false, Option, Some, Result, Ok, Err}
 use Rattle.arch_disk.specs.Image.{Image}
 use Rattle.arch_disk.specs.Disk.{Device, LeavesOnly}
 use Rattle.disk_journal.specs.Calls.{BeginsOpen}
@@ -53,16 +53,18 @@ abbrev pub IsNoneOrHead : Files → CreateWords → Image → Type 0
 IsNoneOrHead files words image =
     HoldsNone (image 0) ⊎ ((head : Head) × GivesHead files words (Ok head) × IsHeadAlone head image)
 
--- At status 0 the disk that is handed back stands for the head without rows. One that held an archive stays as it was,
--- and the refusal says so. Where every image of the disk handed in stands for nothing, every image of a moment during
--- the call stands for nothing or for that head. Where none was made, and the disk failed at most once, a crash leaves
--- none, or what it could have left before. The first of the sheets and the script that isn't there or is too long is
--- refused so, and no other is; what is wrong in them is told; those that give a head make its archive where there is
--- none, but for want of memory and calls that fail.
+-- At status 0 the disk that is handed back stands for the head without rows, and so it does where the archive was made
+-- and its line couldn't be printed. One that held an archive stays as it was, and the refusal says so. Where every
+-- image of the disk handed in stands for nothing, every image of a moment during the call stands for nothing or for
+-- that head. Where none was made, and the disk failed at most once, a crash leaves none, or what it could have left
+-- before. The first of the sheets and the script that isn't there or is too long is refused so, and no other is; what
+-- is wrong in them is told; those that give a head make its archive where there is none, but for want of memory and
+-- calls that fail.
 pub record IsCreated {D : Type 0} (device : Device D) (e : Call D) (files : Files)
     (words : CreateWords) : Type 0 where
   pub made : Succeeded e → (head : Head) × GivesHead files words (Ok head) × IsMadeOf device e head
       × Prints e (create_line head)
+  pub there : e.report.opened ≡ true → (head : Head) × GivesHead files words (Ok head) × IsMadeOf device e head
   pub printed : (head : Head) → GivesHead files words (Ok head) → PrintsSome e (create_line head)
   pub kept : BeginsOpen (device.reads e.disk 0) → LeavesDisk device e
   pub exists : (head : Head) → GivesHead files words (Ok head) → BeginsOpen (device.reads e.disk 0)
