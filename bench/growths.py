@@ -73,6 +73,7 @@ def main():
         dump = dump_of(top, "first.dump", packets(150, 1_000_000_000))
         links = [dump, dump_of(top, "other.dump", packets(150, 1_100_000_000))]
         link = os.path.join(EXAMPLES, "two-links.dump")
+        nothing = dump_of(top, "nothing.dump", b"")
         empty, _ = base_of(top, "empty")
         loaded, _ = base_of(top, "loaded", link)
 
@@ -107,6 +108,7 @@ def main():
             assert archive.rows() == 521
 
         for words, base, left in (
+            (["scan", nothing], None, lambda archive: None),
             (["scan", link], None, lambda archive: None),
             (["values", *SHEETS, link, "temp"], None, lambda archive: None),
             (["create", *SHEETS], None, not_made),

@@ -84,7 +84,7 @@ def main():
     random.seed(int(sys.argv[2]) if len(sys.argv) > 2 else 1)
     top = tempfile.mkdtemp(prefix="cudrakh-kills-", dir="/dev/shm" if os.path.isdir("/dev/shm") else None)
     try:
-        for name, each in (("create", create), ("load", load), ("load behind a load", load_more), ("load of two links", load_links), ("make", make), ("recover", recover), ("verify", verify), ("query", query)):
+        for name, each in (("create", create), ("load", load), ("load behind a load", load_more), ("load of two links", load_links), ("load by a route", load_route), ("load with asks", load_asks), ("make", make), ("recover", recover), ("verify", verify), ("query", query)):
             killed = tried = 0
             for was_killed in each(top):
                 tried, killed = tried + 1, killed + was_killed
@@ -166,6 +166,43 @@ def load_links(top):
     first = dump_of(top, "first.dump", packets(6400, 1_000_000_000))
     second = dump_of(top, "other.dump", packets(6400, 1_100_000_000))
     words = ["load", "--fillers", "2", first, second]
+    base, _ = base_of(top, "empty")
+    moments = Moments(timed(lambda: fresh(top, base.folder).run(*words)))
+    while True:
+        archive = fresh(top, base.folder)
+        killed = archive.killed(moments, *words)
+        rows = archive.rows()
+        assert rows % BATCH == 0, rows
+        status, said = archive.run(*words)
+        assert (status, said) == (0, f"load packets 12800 new {12800 - rows} duplicates {rows} idle 0 rows 12800"), said
+        assert archive.run("recover") == (0, "recovered rows 12800 filled 0")
+        yield killed
+
+
+def load_route(top):
+    """Into three tables: each packet makes a row of `tm` and one of another table."""
+    dump = dump_of(top, "first.dump", packets(6400, 1_000_000_000))
+    words = ["load", "--route", os.path.join(EXAMPLES, "route.sql"), dump]
+    base = Archive(os.path.join(top, "tables"))
+    base.run("create", *SHEETS, os.path.join(EXAMPLES, "tables.sql"))
+    moments = Moments(timed(lambda: fresh(top, base.folder).run(*words)))
+    while True:
+        archive = fresh(top, base.folder)
+        killed = archive.killed(moments, *words)
+        rows = archive.rows()
+        # a batch is of packets
+        assert rows % (2 * BATCH) == 0, rows
+        status, said = archive.run(*words)
+        assert (status, said) == (0, f"load packets 6400 new {12800 - rows} duplicates {rows} idle 0 rows 12800"), said
+        assert archive.run("recover") == (0, "recovered rows 12800 filled 0")
+        yield killed
+
+
+def load_asks(top):
+    """Beside two links and fillers, over histories on the way."""
+    first = dump_of(top, "first.dump", packets(6400, 1_000_000_000))
+    second = dump_of(top, "other.dump", packets(6400, 1_100_000_000))
+    words = ["load", "--ask", ASKS, "--fillers", "2", first, second]
     base, _ = base_of(top, "empty")
     moments = Moments(timed(lambda: fresh(top, base.folder).run(*words)))
     while True:

@@ -1,6 +1,6 @@
 //! A day of commands on disks of which each call fails in turn, what a crash leaves at each moment of it, and commands of which each read fails in turn.
 
-use crate::calls::{Outside, call, files_alone, none_other};
+use crate::calls::{Outside, call, files_alone, none_other, text_of};
 use crate::failing_tests::Crashing;
 use crate::faults::failing;
 use crate::files::files;
@@ -13,10 +13,14 @@ use std::sync::Wait;
 use std::test::Fail;
 use std::thread::Threads;
 
+/// Makes an archive of two tables.
+const CREATE_TWO: &str = "create parameters calibrations containers copy";
+
 const DAY: &[&str] = &[
-    CREATE,
+    CREATE_TWO,
     "load --fillers 2 twice third",
     "load --ask asks later",
+    "load --route routes later",
     "recover",
     "verify",
     "query --ask asks",
@@ -34,14 +38,14 @@ const EVENING: &[Call] = &[
         "query --ask asks",
         (
             0,
-            "ask 1 front 4\ncell 1500 140951552 8 8\nend 1\n",
+            "ask 1 front 5\ncell 1500 140951552 8 8\nend 1\n",
             "",
-            Some((4, 4)),
+            Some((5, 5)),
         ),
     ),
     (
         "verify",
-        (0, "sound rows 4 intervals 2 late 0\n", "", Some((4, 4))),
+        (0, "sound rows 5 intervals 2 late 0\n", "", Some((5, 5))),
     ),
 ];
 
@@ -74,7 +78,7 @@ fn goes_on<D: Disk + Send, R: Threads + Wait + Sync>(
         return (status == 0, disk);
     }
     let (again, _, disk) = command(rt, alloc, line, disk);
-    let is_done = again == 0 || (again == 1 && line == CREATE);
+    let is_done = again == 0 || (again == 1 && line == CREATE_TWO);
     (status == 5 && is_done, disk)
 }
 
@@ -140,33 +144,65 @@ fn each_call_of_the_disk_fails_in_turn(rt: HostRuntime) -> Result<(), Fail> {
     none_other(wrong_day(&rt, rt.alloc()))
 }
 
-/// A command, and how many rows the archive has before it, where there is one, and behind it.
+/// A command, what `verify` may print of what a crash within it leaves, and how many rows the archive has behind it.
 #[derive(Clone, Copy)]
 struct Step {
     line: &'static str,
-    before: Option<u64>,
-    /// How many a crash within it may leave, too: either of two links may be the first.
-    between: &'static [u64],
+    /// Either of two links may be the first, and an interval be filled before the other link's rows come.
+    images: &'static [&'static str],
     behind: u64,
 }
 
-/// Whether what a crash left opens and is sound, with rows as a step may leave them; before a `create` there may be no archive. The step's command makes
-/// it whole then.
+/// Whether a text is one of some.
+fn is_one_of(text: &[u8], wanted: &[&'static str]) -> bool {
+    for want in wanted {
+        if text == want.as_bytes() {
+            return true;
+        }
+    }
+    false
+}
+
+/// What a crash left: its archive, with rows and fills as a step may leave them, none, as before a `create`, or something else.
+#[derive(Clone, Copy, PartialEq, Eq)]
+enum Left {
+    Archive,
+    NoArchive,
+    Wrong,
+}
+
+/// That, and the disk.
+fn left_of<D: Disk + Send, R: Threads + Wait + Sync>(
+    rt: &R,
+    alloc: Global,
+    image: D,
+    step: &Step,
+) -> (Left, D) {
+    let (outcome, text, image) = text_of(rt, alloc, "verify", &files_alone(files()), image);
+    let left = match outcome.status {
+        0 if is_one_of(text.as_slice(), step.images) => Left::Archive,
+        1 if step.line == CREATE_TWO => Left::NoArchive,
+        _ => Left::Wrong,
+    };
+    (left, image)
+}
+
+/// Whether what a crash left is so, and opens; the step's command makes it whole then.
 fn opens<D: Disk + Send + Drop, R: Threads + Wait + Sync>(
     rt: &R,
     alloc: Global,
     image: D,
     step: &Step,
 ) -> bool {
-    let (found, _, image) = command(rt, alloc, "verify", image);
-    let (status, rows, image) = command(rt, alloc, "recover", image);
+    let (left, image) = left_of(rt, alloc, image, step);
+    let (status, _, image) = command(rt, alloc, "recover", image);
     let (again, whole, _image) = command(rt, alloc, step.line, image);
-    if status == 1 {
-        return step.before.is_none() && again == 0;
+    let is_whole = (again == 0 && whole == step.behind) || (again == 1 && step.line == CREATE_TWO);
+    match left {
+        Left::Archive => status == 0 && is_whole,
+        Left::NoArchive => status == 1 && again == 0,
+        Left::Wrong => false,
     }
-    let are_kept = step.before == Some(rows) || step.between.contains(&rows) || rows == step.behind;
-    let is_whole = (again == 0 && whole == step.behind) || (again == 1 && step.line == CREATE);
-    found == 0 && status == 0 && are_kept && is_whole
 }
 
 /// The same of each kind of crash at a moment.
@@ -205,30 +241,65 @@ fn all_open_since<D: Crashing, R: Threads + Wait + Sync>(
     true
 }
 
+/// What `verify` prints once all of these have come.
+const ALL_FILLED: &[&str] = &["sound rows 4 intervals 2 late 0\n"];
+
 const STEPS: &[Step] = &[
     Step {
-        line: CREATE,
-        before: None,
-        between: &[],
+        line: CREATE_TWO,
+        images: &["sound rows 0 intervals 0 late 0\n"],
         behind: 0,
     },
     Step {
         line: "load twice",
-        before: Some(0),
-        between: &[],
+        images: &[
+            "sound rows 0 intervals 0 late 0\n",
+            "sound rows 2 intervals 1 late 1\n",
+            "sound rows 2 intervals 1 late 0\n",
+        ],
         behind: 2,
     },
     Step {
         line: "load --fillers 2 third later",
-        before: Some(2),
-        between: &[3],
+        images: &[
+            "sound rows 2 intervals 1 late 0\n",
+            "sound rows 3 intervals 1 late 1\n",
+            "sound rows 3 intervals 1 late 0\n",
+            "sound rows 3 intervals 2 late 1\n",
+            "sound rows 3 intervals 2 late 0\n",
+            "sound rows 4 intervals 2 late 2\n",
+            "sound rows 4 intervals 2 late 1\n",
+            "sound rows 4 intervals 2 late 0\n",
+        ],
         behind: 4,
     },
     Step {
         line: "recover",
-        before: Some(4),
-        between: &[],
+        images: ALL_FILLED,
         behind: 4,
+    },
+    Step {
+        line: "verify",
+        images: ALL_FILLED,
+        behind: 4,
+    },
+    Step {
+        line: "query --ask asks",
+        images: ALL_FILLED,
+        behind: 4,
+    },
+    Step {
+        line: "query --sql script",
+        images: ALL_FILLED,
+        behind: 4,
+    },
+    Step {
+        line: "load --route routes later",
+        images: &[
+            "sound rows 4 intervals 2 late 0\n",
+            "sound rows 5 intervals 2 late 0\n",
+        ],
+        behind: 5,
     },
 ];
 
@@ -239,8 +310,11 @@ fn steps() -> &'static [Step] {
 /// The fills of two intervals are wanting.
 const FILLS: &[Step] = &[Step {
     line: "recover",
-    before: Some(3),
-    between: &[],
+    images: &[
+        "sound rows 3 intervals 2 late 2\n",
+        "sound rows 3 intervals 2 late 1\n",
+        "sound rows 3 intervals 2 late 0\n",
+    ],
     behind: 3,
 }];
 

@@ -20,7 +20,9 @@ const WRITERS: &[Writer] = &[
     (&[], "scan many"),
     (&[], "values parameters calibrations containers many v"),
     (&[], CREATE),
+    (&[], "create parameters calibrations containers tables"),
     (&[CREATE], "load many"),
+    (&[CREATE], "load --route route many"),
     (LOADED, "load --ask all many"),
     (LOADED, "load --fillers 2 many many"),
     (LOADED, "query --ask all"),
@@ -34,6 +36,10 @@ const WRITERS: &[Writer] = &[
 const ALL: &[u8] = b"kind,name,from,to,order,limit,names\nvalues,v,0,86400000,,,\n";
 
 const ROWS: &[u8] = b"SELECT gentime, seqNum FROM tm;";
+
+const TABLES: &[u8] = b"CREATE TABLE copy LIKE tm;";
+
+const ROUTE: &[u8] = b"INSERT INTO tm SELECT * FROM tm_in;";
 
 fn writers() -> &'static [Writer] {
     WRITERS
@@ -116,7 +122,7 @@ fn other_write<R: Threads + Wait + Sync>(
     Some(9)
 }
 
-/// The sheets, these packets, and what is asked of them.
+/// The sheets, these packets, scripts, and what is asked of them.
 fn files_of<'a>(alloc: Global, many: &'a [u8]) -> Result<Vec<NamedFile<'a>>, AllocError> {
     let mut files = Vec::new(alloc);
     for sheet in sheets() {
@@ -125,6 +131,8 @@ fn files_of<'a>(alloc: Global, many: &'a [u8]) -> Result<Vec<NamedFile<'a>>, All
     files.push(("many", many))?;
     files.push(("all", ALL))?;
     files.push(("rows", ROWS))?;
+    files.push(("tables", TABLES))?;
+    files.push(("route", ROUTE))?;
     Ok(files)
 }
 

@@ -1,9 +1,9 @@
-//! Runs on a disk in memory: written, opened, read back by page and by key; the worked run octet by octet; octets of a run of two pages
-//! changed; each call of the disk failing once.
+//! Runs on a disk in memory: written, opened, read back by page and by key; the worked run octet by octet; octets of runs changed, and what is read
+//! then written again; each call of the disk failing once.
 //!
 //! What looks at a disk is generic in it: over a `MemDisk` each clause speaks of its list of calls, and that costs minutes to prove.
 
-ghost use Rattle.std.specs.Prelude.{◌≡◌, ◌≤◌, IsTrue, length, IfOk, IfSome, OnOk};
+ghost use Rattle.std.specs.Prelude.{◌≡◌, ◌<◌, ◌≤◌, IsTrue, length, IfOk, IfSome, OnOk};
 ghost use Rattle.std.specs.List.{AllByRecursion};
 ghost use Rattle.run_pages.specs.Placed.{placed_rows};
 ghost use Rattle.run_pages.specs.Pages.{FitsPage, IsPage, rows_of_page};
@@ -28,22 +28,50 @@ type RowsAndPages = (u16, u32);
 
 const RUNS: &[RowsAndPages] = &[(1, 1), (64, 1), (65, 2), (200, 4)];
 
-/// The octets of the run of 65 rows up to a place: the octet at which it is damaged where one of them is another, and whether it may
-/// be a run of other rows then.
+/// The octets of a run up to a place: the octet at which it is damaged where one of them is another, and whether it may be a run of other
+/// rows then.
 type Part = (usize, u64, bool);
 
-const PARTS: &[Part] = &[
-    (2_114, 0, true), // the first page: 64 rows of 33 octets
-    (2_149, 2_114, true), // the second: one row
-    (2_173, 0, false), // the first page's entry
-    (2_178, 2_114, false), // the second's first key, which that page hasn't then,
-    (2_179, 0, false), // or which isn't above the first page's last
-    (2_185, 2_114, false),
-    (2_217, 0, false), // the second's place and length, and the footer
-];
+/// A run whose octets are changed in turn.
+#[derive(Clone, Copy)]
+struct ChangedRun {
+    rows: u16,
+    len: usize,
+    /// The octets at which each page begins and ends.
+    pages: &'static [(usize, usize)],
+    parts: &'static [Part],
+    /// The places of the octets that are changed.
+    places: &'static [(usize, usize)],
+}
 
-/// The places of the run of 65 rows whose octets are changed: its first row, and all behind the first page.
-const CHANGED: &[(usize, usize)] = &[(0, 35), (2_114, 2_217)];
+const CHANGED_RUNS: &[ChangedRun] = &[
+    ChangedRun {
+        rows: 3,
+        len: 145,
+        pages: &[(0, 101)],
+        parts: &[
+            (101, 0, true), // the page: 3 rows of 33 octets
+            (145, 0, false), // its entry, and the footer
+        ],
+        places: &[(0, 145)],
+    },
+    ChangedRun {
+        rows: 65,
+        len: 2_217,
+        pages: &[(0, 2_114), (2_114, 2_149)],
+        parts: &[
+            (2_114, 0, true), // the first page: 64 rows of 33 octets
+            (2_149, 2_114, true), // the second: one row
+            (2_173, 0, false), // the first page's entry
+            (2_178, 2_114, false), // the second's first key, which that page hasn't then,
+            (2_179, 0, false), // or which isn't above the first page's last
+            (2_185, 2_114, false),
+            (2_217, 0, false), // the second's place and length, and the footer
+        ],
+        // Its first row, and all behind the first page.
+        places: &[(0, 35), (2_114, 2_217)],
+    },
+];
 
 /// The number of a call of the disk, and whether it writes: the calls of `begun` and then of writing and opening 65 rows.
 type Failing = (u64, bool);
@@ -68,12 +96,8 @@ fn runs() -> &'static [RowsAndPages] {
     RUNS
 }
 
-fn parts() -> &'static [Part] {
-    PARTS
-}
-
-fn changed() -> &'static [(usize, usize)] {
-    CHANGED
+fn changed_runs() -> &'static [ChangedRun] {
+    CHANGED_RUNS
 }
 
 fn failing() -> &'static [Failing] {
@@ -100,16 +124,40 @@ fn one_row(alloc: Global, number: u16, position: u16) -> Option<PageRows>
     read_page(alloc, &Octets::from_vec(alloc, octets).ok()?).ok()
 }
 
-/// Adds the first row of a page to others.
-fn add_row(rows: &mut Vec<Row>, positions: &mut Vec<u64>, page: &PageRows) -> Result<(), AllocError>
-    requires page { IsPage (rows_of_page page.now) }
+/// Adds the row at a place of a page to others.
+fn add_row(
+    rows: &mut Vec<Row>,
+    positions: &mut Vec<u64>,
+    page: &PageRows,
+    place: usize,
+) -> Result<(), AllocError>
+    requires page { AllByRecursion FitsPage (rows_of_page page.now) }
+    requires place { place < length page.now.rows }
     requires beside { length positions.old.items ≡ length rows.old.items }
     requires each { AllByRecursion FitsPage (placed_rows positions.old.items rows.old.items) }
     ensures beside { OnOk result (length positions.new.items ≡ length rows.new.items) }
     ensures each { OnOk result (AllByRecursion FitsPage (placed_rows positions.new.items rows.new.items)) }
 {
-    rows.push(page.rows.as_slice()[0].copy()?)?;
-    positions.push(page.positions.as_slice()[0])?;
+    rows.push(page.rows.as_slice()[place].copy()?)?;
+    positions.push(page.positions.as_slice()[place])?;
+    Ok(())
+}
+
+/// Adds all rows of a page to others.
+fn add_page(
+    rows: &mut Vec<Row>,
+    positions: &mut Vec<u64>,
+    page: &PageRows,
+) -> Result<(), AllocError>
+    requires page { AllByRecursion FitsPage (rows_of_page page.now) }
+    requires beside { length positions.old.items ≡ length rows.old.items }
+    requires each { AllByRecursion FitsPage (placed_rows positions.old.items rows.old.items) }
+    ensures beside { OnOk result (length positions.new.items ≡ length rows.new.items) }
+    ensures each { OnOk result (AllByRecursion FitsPage (placed_rows positions.new.items rows.new.items)) }
+{
+    for place in 0..page.rows.len() {
+        add_row(rows, positions, page, place)?;
+    }
     Ok(())
 }
 
@@ -121,7 +169,7 @@ fn made(alloc: Global, count: u16) -> Option<PageRows>
     let mut positions = Vec::new(alloc);
     for number in 0..count {
         let page = one_row(alloc, number, count - 1 - number)?;
-        add_row(&mut rows, &mut positions, &page).ok()?;
+        add_page(&mut rows, &mut positions, &page).ok()?;
     }
     Some(PageRows {
         rows: Rows::from_vec(rows),
@@ -129,8 +177,13 @@ fn made(alloc: Global, count: u16) -> Option<PageRows>
     })
 }
 
-/// Writes rows as a run. Rows that are none are past the limit.
-fn written<D: Disk>(alloc: Global, disk: &mut D, rows: &PageRows) -> Result<Run, RunFault>
+/// Writes rows as a run into a file. Rows that are none are past the limit.
+fn written_into<D: Disk>(
+    alloc: Global,
+    disk: &mut D,
+    file: u32,
+    rows: &PageRows,
+) -> Result<Run, RunFault>
     requires { AllByRecursion FitsPage (rows_of_page rows.now) }
     ensures { IsTrue D.device.is_transparent → IfOk result (λ run. IsRunOn D.device run disk.new) }
 {
@@ -141,7 +194,15 @@ fn written<D: Disk>(alloc: Global, disk: &mut D, rows: &PageRows) -> Result<Run,
     if rows.len() as u64 > MAX_ROWS || !are_ordered(rows, first.table, first.key, None) {
         return Err(RunFault::Limit);
     }
-    write_run(alloc, disk, FILE, rows, positions)
+    write_run(alloc, disk, file, rows, positions)
+}
+
+/// The same of the file of these tests.
+fn written<D: Disk>(alloc: Global, disk: &mut D, rows: &PageRows) -> Result<Run, RunFault>
+    requires { AllByRecursion FitsPage (rows_of_page rows.now) }
+    ensures { IsTrue D.device.is_transparent → IfOk result (λ run. IsRunOn D.device run disk.new) }
+{
+    written_into(alloc, disk, FILE, rows)
 }
 
 // ---- read back
@@ -315,9 +376,9 @@ fn worked_octets(rt: HostRuntime) {
     assert!(rt; is_worked_run(rt.alloc()));
 }
 
-/// What is told of a place of the run of 65 rows.
-fn part_at(place: usize) -> Option<(u64, bool)> {
-    for (end, at, may_be_read) in parts() {
+/// What is told of a place of a run.
+fn part_at(parts: &[Part], place: usize) -> Option<(u64, bool)> {
+    for (end, at, may_be_read) in parts {
         if place < *end {
             return Some((*at, *may_be_read));
         }
@@ -325,63 +386,128 @@ fn part_at(place: usize) -> Option<(u64, bool)> {
     None
 }
 
-/// Whether a file of these octets is refused as is told, or a run of 65 rows.
-fn is_told<D: Disk>(alloc: Global, disk: &mut D, octets: &[u8], part: (u64, bool)) -> bool {
-    if disk.cut(FILE, 0).is_err() || disk.write_at(FILE, 0, octets).is_err() {
+/// The page that octets spell between two places.
+fn page_between(alloc: Global, octets: &[u8], from: usize, to: usize) -> Option<PageRows>
+    ensures { IfSome result (λ page. IsPage (rows_of_page page)) }
+{
+    let octets = octets.get(from..to)?.to_vec(alloc).ok()?;
+    read_page(alloc, &Octets::from_vec(alloc, octets).ok()?).ok()
+}
+
+/// The rows that octets spell, page by page.
+fn spelled_rows(alloc: Global, octets: &[u8], pages: &[(usize, usize)]) -> Option<PageRows>
+    ensures { IfSome result (λ rows. AllByRecursion FitsPage (rows_of_page rows)) }
+{
+    let mut rows = Vec::new(alloc);
+    let mut positions = Vec::new(alloc);
+    for (from, to) in pages {
+        let page = page_between(alloc, octets, *from, *to)?;
+        add_page(&mut rows, &mut positions, &page).ok()?;
+    }
+    Some(PageRows {
+        rows: Rows::from_vec(rows),
+        positions: Positions::from_vec(positions),
+    })
+}
+
+/// Whether a run has the rows that its octets spell, and these give the same octets when they are written again.
+fn is_written_again<D: Disk>(
+    alloc: Global,
+    disk: &mut D,
+    run: &Run,
+    octets: &[u8],
+    pages: &[(usize, usize)],
+) -> bool
+    requires { IsTrue D.device.is_transparent → IsRunOn D.device run.now disk.old }
+{
+    let Some(rows) = spelled_rows(alloc, octets, pages) else {
+        return false;
+    };
+    has_rows(alloc, disk, run, &rows)
+        && written_into(alloc, disk, OTHER_FILE, &rows).is_ok()
+        && has_content(alloc, disk, OTHER_FILE, octets)
+}
+
+/// Whether a file of these octets is refused as is told, or a run of just as many other rows.
+fn is_told<D: Disk>(
+    alloc: Global,
+    disk: &mut D,
+    octets: &[u8],
+    changed_run: &ChangedRun,
+    part: (u64, bool),
+) -> bool {
+    let (at, may_be_read) = part;
+    if disk.write_at(FILE, 0, octets).is_err() {
         return false;
     }
     match open_run(alloc, disk, FILE) {
-        Ok(run) => part.1 && run.sealed_row_count() == 65,
-        Err(fault) => {
-            fault
-                == RunFault::Damaged {
-                    file: FILE,
-                    at: part.0,
-                }
+        Ok(run) => {
+            may_be_read
+                && run.sealed_row_count() == u64::from(changed_run.rows)
+                && is_written_again(alloc, disk, &run, octets, changed_run.pages)
         }
+        Err(fault) => fault == RunFault::Damaged { file: FILE, at },
     }
 }
 
-/// Whether octets with another one at a place are told so.
-fn is_change_told(alloc: Global, octets: &[u8], place: usize) -> bool {
-    let (Some(part), Ok(mut changed)) = (part_at(place), octets.to_vec(alloc)) else {
+/// Whether the octets of a run with another one at a place are told so.
+fn is_change_told(alloc: Global, octets: &[u8], changed_run: &ChangedRun, place: usize) -> bool {
+    let (Some(part), Ok(mut changed)) = (part_at(changed_run.parts, place), octets.to_vec(alloc))
+    else {
         return false;
     };
     if place < changed.len() {
         changed[place] ^= 1;
     }
-    is_told(alloc, &mut MemDisk::new(alloc), &changed, part)
+    is_told(alloc, &mut MemDisk::new(alloc), &changed, changed_run, part)
 }
 
-/// The first of some places of octets whose change isn't told.
-fn untold_between(alloc: Global, octets: &[u8], from: usize, to: usize) -> Option<usize> {
+/// The first place of a range whose change isn't told.
+fn untold_between(
+    alloc: Global,
+    octets: &[u8],
+    changed_run: &ChangedRun,
+    from: usize,
+    to: usize,
+) -> Option<usize> {
     for place in from..to {
-        if !is_change_told(alloc, octets, place) {
+        if !is_change_told(alloc, octets, changed_run, place) {
             return Some(place);
         }
     }
     None
 }
 
-/// How many of the ranges of places that are changed are told.
-fn told_ranges(alloc: Global, octets: &[u8], changed: &[(usize, usize)]) -> usize {
-    for (i, (from, to)) in changed.iter().enumerate() {
-        if untold_between(alloc, octets, *from, *to).is_some() {
-            return i;
+/// The first place of a run whose change isn't told, or its end where it has another length.
+fn untold_of(alloc: Global, octets: &[u8], changed_run: &ChangedRun) -> Option<usize> {
+    if octets.len() != changed_run.len {
+        return Some(changed_run.len);
+    }
+    for (from, to) in changed_run.places {
+        if let Some(place) = untold_between(alloc, octets, changed_run, *from, *to) {
+            return Some(place);
         }
     }
-    changed.len()
+    None
+}
+
+/// The rows of the first run that has such a place.
+fn untold_run(alloc: Global, all: &[ChangedRun]) -> Option<u16> {
+    for changed_run in all {
+        let is_each_told = match run_of(alloc, changed_run.rows) {
+            Some(octets) => untold_of(alloc, &octets, changed_run).is_none(),
+            None => false,
+        };
+        if !is_each_told {
+            return Some(changed_run.rows);
+        }
+    }
+    None
 }
 
 #[test]
 fn refuses_changed_octets(rt: HostRuntime) {
-    let alloc = rt.alloc();
-    let (len, told) = match run_of(alloc, 65) {
-        Some(octets) => (octets.len(), told_ranges(alloc, &octets, changed())),
-        None => (0, 0),
-    };
-    assert_eq!(rt; len, 2_217);
-    assert_eq!(rt; told, 2);
+    assert_eq!(rt; untold_run(rt.alloc(), changed_runs()), None);
 }
 
 // ---- calls that fail

@@ -8,7 +8,7 @@ use Rattle.run_pages.specs.Pages.{FitsPage}
 use Rattle.run_pages.specs.Runs.{AreRunRows}
 use Rattle.run_pages.proofs.Beside.{rows_back}
 use Rattle.run_files.proofs.Written.{first_placed}
-use Rattle.run_tests.proofs.run_files_tests.written.Goals as goal
+use Rattle.run_tests.proofs.run_files_tests.written_into.Goals as goal
 
 -- rows in order are those of a run
 run_rows : (positions : List ℕ) (rows : List Row) (row : Row) → length positions ≡ length rows → 0 < length rows → row ≡ get_or rows 0 row → AllByRecursion FitsPage (placed_rows positions rows)
