@@ -1,10 +1,10 @@
-//! Varints of one to nine octets, read in one word: the least and the greatest of each length, what ends needlessly, and others beside
-//! a reader that takes one octet after the other.
+//! Varints of one to nine octets, read in one word: the least and the greatest of each length, the same once more and with another octet,
+//! what ends needlessly, and others beside a reader that takes one octet after the other.
 
 use crate::ends::{Check, none_other, other};
 use std::alloc::{AllocError, Global};
 use std::test::Fail;
-use varints::{put_word, varint_at, word_at};
+use varints::{Spelling, put_word, varint_at, word_at};
 
 /// A length, and the least and the greatest number that take so many octets.
 const LENGTHS: [(usize, u64, u64); 9] = [
@@ -58,6 +58,64 @@ fn are_refused(first: u8) -> bool {
         }
     }
     true
+}
+
+/// Whether what's found behind a spelling is what's found of octets alone.
+fn is_next(spelling: Spelling, octets: &[u8]) -> bool {
+    match (spelling.next_at(octets), word_at(octets)) {
+        (Ok((found, rest)), Ok((n, behind))) => found.number == n && rest == behind,
+        (Err(_), Ok((n, _))) => n == 0,
+        (Ok(_), Err(_)) => false,
+        (Err(_), Err(_)) => true,
+    }
+}
+
+/// Whether that is so where one octet is another.
+fn is_next_changed(
+    alloc: Global,
+    spelling: Spelling,
+    octets: &[u8],
+    place: usize,
+) -> Result<bool, AllocError> {
+    let mut changed = Vec::from_slice(alloc, octets)?;
+    if place < changed.len() {
+        changed[place] ^= 1;
+    }
+    Ok(is_next(spelling, &changed))
+}
+
+/// Whether it's so behind the spelling of a number where that stands once more, and with any octet of it another.
+fn is_found(alloc: Global, n: u64, length: usize) -> Result<bool, AllocError> {
+    let mut out = Vec::new(alloc);
+    put_word(&mut out, n)?;
+    out.extend_from_slice(&[255; 8])?;
+    let Ok((spelling, _)) = Spelling::of_zero().next_at(&out) else {
+        return Ok(length > 8);
+    };
+    for place in 0..length {
+        if !is_next_changed(alloc, spelling, &out, place)? {
+            return Ok(false);
+        }
+    }
+    Ok(spelling.number == n && is_next(spelling, &out))
+}
+
+/// Whether the spellings of the least and the greatest number of each length are.
+fn are_found(alloc: Global) -> Result<bool, AllocError> {
+    for (length, least, greatest) in LENGTHS {
+        if !is_found(alloc, least, length)? || !is_found(alloc, greatest, length)? {
+            return Ok(false);
+        }
+    }
+    Ok(true)
+}
+
+/// Whether a spelling is found again where eight octets are left, and not looked for where seven are.
+fn is_found_in_eight() -> bool {
+    match Spelling::of_zero().next_at(&[5; 9]) {
+        Ok((five, rest)) => is_next(five, rest) && is_next(five, &[5; 7]),
+        Err(_) => false,
+    }
 }
 
 /// The number at the front of octets, taken one after the other, and how many it takes.
@@ -114,6 +172,13 @@ fn are_as_plain() -> bool {
 fn other_words(alloc: Global) -> Result<Option<&'static str>, AllocError> {
     let checks: &[Check] = &[
         ("each length", are_read(alloc)?),
+        ("each length once more", are_found(alloc)?),
+        ("eight octets left", is_found_in_eight()),
+        ("zero behind zero", is_next(Spelling::of_zero(), &[0; 8])),
+        (
+            "a needless zero",
+            is_next(Spelling::of_zero(), &[128, 0, 0, 0, 0, 0, 0, 0]),
+        ),
         ("a needless zero behind zeros", are_refused(128)),
         ("a needless zero behind others", are_refused(255)),
         ("no end", word_at(&[255; 16]).is_err()),

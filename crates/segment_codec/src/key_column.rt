@@ -10,7 +10,7 @@ use crate::segment::KeyList;
 use arch_types::key::Key;
 use octet_fields::{DecodeError, Short, i64_at, put_i64, put_u32, room_for, u32_at};
 use std::alloc::{AllocError, Global};
-use varints::{put_varint, put_word, varint_at, word_at};
+use varints::{Spelling, put_varint, put_word, varint_at};
 
 /// The first key, and the octets after it.
 #[tactic(auto, unfolding(crate::specs::KeyColumn::first_key_at))]
@@ -41,11 +41,16 @@ fn near_key(last: Key, gap: u64) -> Option<Key>
 /// The key behind another, and the octets after its gap, where it's found in 64 bits.
 #[inline(always)]
 #[tactic(auto, unfolding(crate::specs::KeyColumn::key_after_at))]
-fn near_key_at(last: Key, octets: &[u8]) -> Result<(Key, &[u8]), Short>
+fn near_key_at<'a>(
+    last: Key,
+    gap: &mut Spelling,
+    octets: &'a [u8],
+) -> Result<(Key, &'a [u8]), Short>
     ensures { IfOk result (λ x. key_after_at last octets.now ≡ Some (x.0, x.1.now)) }
 {
-    let (gap, rest) = word_at(octets)?;
-    match near_key(last, gap) {
+    let (found, rest) = gap.next_at(octets)?;
+    *gap = found;
+    match near_key(last, found.number) {
         Some(key) => Ok((key, rest)),
         None => Err(Short),
     }
@@ -69,12 +74,16 @@ fn wide_key_after_at(last: Key, octets: &[u8]) -> Result<(Key, &[u8]), Short>
 }
 
 /// The key behind another, and the octets after its gap: one within weeks is found in 64 bits, where it takes half the
-/// time.
+/// time, and isn't decoded where it's spelled as the gap before, which it takes the place of.
 #[inline(always)]
-pub(crate) fn key_after_at(last: Key, octets: &[u8]) -> Result<(Key, &[u8]), Short>
+pub(crate) fn key_after_at<'a>(
+    last: Key,
+    gap: &mut Spelling,
+    octets: &'a [u8],
+) -> Result<(Key, &'a [u8]), Short>
     ensures { Answers (λ x. (x.0, x.1.now)) result (key_after_at last octets.now) }
 {
-    match near_key_at(last, octets) {
+    match near_key_at(last, gap, octets) {
         Ok(found) => Ok(found),
         Err(_) => wide_key_after_at(last, octets),
     }
@@ -96,9 +105,10 @@ pub(crate) fn keys_at(
     let mut keys = KeyList::from_vec(Vec::with_capacity(alloc, room)?);
     keys.push(first)?;
     let mut last = first;
+    let mut gap = Spelling::of_zero();
     let mut rest = after_first;
     for _ in 1..count {
-        let (key, after) = key_after_at(last, rest)?;
+        let (key, after) = key_after_at(last, &mut gap, rest)?;
         keys.push(key)?;
         last = key;
         rest = after;

@@ -21,7 +21,7 @@ use arch_types::direction::Direction;
 use arch_types::key::Key;
 use octet_fields::{DecodeError, Short};
 use std::alloc::{AllocError, Global};
-use varints::word_at;
+use varints::Spelling;
 
 /// Which rows of a segment are asked: those with `from <= time < to`, in milliseconds.
 #[derive(Clone, Copy, Debug)]
@@ -99,17 +99,20 @@ fn passed_keys(count: u16, first: Key, from: i64, octets: &[u8]) -> PassedKeys
     };
     let mut left = far;
     let mut passed = 0;
+    let mut last = Spelling::of_zero();
     let mut rest = octets;
     while passed < count {
-        let Ok((gap, after)) = word_at(rest) else {
+        // packets of a kind mostly come at a steady pace, so a gap is mostly spelled as the one before
+        let Ok((gap, after)) = last.next_at(rest) else {
             break;
         };
         // without a gap there's no key, and one as far as the time begins isn't before it
-        if gap == 0 || gap >= left {
+        if gap.number == 0 || gap.number >= left {
             break;
         }
-        left -= gap;
+        left -= gap.number;
         passed += 1;
+        last = gap;
         rest = after;
     }
     let sum = u64::from(first.seq) + (far - left);
@@ -147,13 +150,14 @@ fn walked_keys(
     let passed = passed_keys(count - 1, first, from, after_first);
     span.before += passed.count;
     let mut last = passed.last;
+    let mut gap = Spelling::of_zero();
     let mut rest = passed.rest;
     for read in 1 + passed.count..count {
         // keys rise, so none behind is in the range, and none is before it
         if last.time >= from && last.time >= to {
             return Ok((span, count - read, rest));
         }
-        let (key, after) = key_after_at(last, rest)?;
+        let (key, after) = key_after_at(last, &mut gap, rest)?;
         span.take(from, to, key)?;
         last = key;
         rest = after;

@@ -43,6 +43,28 @@ const FAR: &[u8] = &[
     1, 0, 0, 0, 0, 0, 0, 0, 0, 0, 0, 0, 0, 0, 0, 0, 3, 3, 0x1C, // 3 and 10
 ];
 
+/// Raw 0 to 5, a millisecond apart: each gap is spelled as the one before.
+const STEADY: &[u8] = &[
+    0, 1, 0, 0, // one parameter: 0
+    0, 6, // six rows
+    0, 0, 0, 0, 0, 0, 0, 0, 0, 0, 0, 7, // the first key
+    0x80, 0x80, 0x80, 0x80, 0x10, 0x80, 0x80, 0x80, 0x80, 0x10, // the first two gaps
+    0x80, 0x80, 0x80, 0x80, 0x10, // the gap in the middle
+    0x80, 0x80, 0x80, 0x80, 0x10, 0x80, 0x80, 0x80, 0x80, 0x10, // the last two
+    1, 0, 0, 0, 0, 0, 0, 0, 0, 0, 0, 0, 0, 0, 0, 0, 0, 3, 0x05, 0x39, 0x40,
+];
+
+/// The same with a gap of two milliseconds in the middle, whose last octet alone is another.
+const UNSTEADY: &[u8] = &[
+    0, 1, 0, 0, // one parameter: 0
+    0, 6, // six rows
+    0, 0, 0, 0, 0, 0, 0, 0, 0, 0, 0, 7, // the first key
+    0x80, 0x80, 0x80, 0x80, 0x10, 0x80, 0x80, 0x80, 0x80, 0x10, // the first two gaps
+    0x80, 0x80, 0x80, 0x80, 0x20, // the gap in the middle
+    0x80, 0x80, 0x80, 0x80, 0x10, 0x80, 0x80, 0x80, 0x80, 0x10, // the last two
+    1, 0, 0, 0, 0, 0, 0, 0, 0, 0, 0, 0, 0, 0, 0, 0, 0, 3, 0x05, 0x39, 0x40,
+];
+
 /// A parameter, a range of times, and the values that a segment has of it there.
 type Span = (u16, i64, i64, &'static [i128]);
 
@@ -61,6 +83,25 @@ const TWO_SPANS: &[Span] = &[
     (3, 1_500, 1_501, &[3]),
     (3, 2_501, 9_000, &[]),
     (3, 0, 1_500, &[]),
+];
+
+const STEADY_SPANS: &[Span] = &[
+    (0, -1, 9, &[0, 1, 2, 3, 4, 5]),
+    (0, 0, 2, &[0, 1]),
+    (0, 1, 9, &[1, 2, 3, 4, 5]),
+    (0, 3, 4, &[3]),
+    (0, 5, 6, &[5]),
+    (0, 6, 9, &[]),
+];
+
+const UNSTEADY_SPANS: &[Span] = &[
+    (0, 2, 5, &[2, 3]),
+    (0, 3, 9, &[3, 4, 5]),
+    (0, 3, 4, &[]),
+    (0, 4, 5, &[3]),
+    (0, 5, 6, &[4]),
+    (0, 6, 7, &[5]),
+    (0, 7, 9, &[]),
 ];
 
 /// A direction, a limit, and the values that a segment has of a parameter up to it.
@@ -141,6 +182,22 @@ fn far_spans() -> &'static [Span] {
 
 fn two_spans() -> &'static [Span] {
     TWO_SPANS
+}
+
+fn steady() -> &'static [u8] {
+    STEADY
+}
+
+fn unsteady() -> &'static [u8] {
+    UNSTEADY
+}
+
+fn steady_spans() -> &'static [Span] {
+    STEADY_SPANS
+}
+
+fn unsteady_spans() -> &'static [Span] {
+    UNSTEADY_SPANS
 }
 
 fn two_parts() -> &'static [Part] {
@@ -545,6 +602,8 @@ fn are_parts_of(alloc: Global, octets: &[u8], parts: &[Part]) -> bool {
 fn columns_in_ranges(rt: HostRuntime) {
     assert!(rt; are_spans_of(rt.alloc(), far(), far_spans()));
     assert!(rt; are_spans_of(rt.alloc(), two(), two_spans()));
+    assert!(rt; are_spans_of(rt.alloc(), steady(), steady_spans()));
+    assert!(rt; are_spans_of(rt.alloc(), unsteady(), unsteady_spans()));
     assert!(rt; are_parts_of(rt.alloc(), two(), two_parts()));
 }
 

@@ -82,7 +82,7 @@ takes (octet ∷ rest) x are e =
           subst (λ (y : ℕ × List ℕ). (octet ∷ rest ≡ varint y.0 ++ y.1) × Unit {0}) g.1 (rw (spelled, ← t.0) refl, tt)
     ]
 
-varint_exact : IsExact (λ _. Unit {0}) varint varint_at
+pub varint_exact : IsExact (λ _. Unit {0}) varint varint_at
 unfolding varint
 varint_exact = record { takes = takes; again = λ n rest may fits. again_in (suc n) n rest (omega arith) }
 

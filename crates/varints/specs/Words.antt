@@ -1,9 +1,19 @@
--- Eight octets in one word. Only private clauses cite it.
-use Rattle.std.specs.Prelude.{ℕ, zero, suc, ◌+◌, ◌*◌, ◌/◌, ◌%◌, Bool, List, drop, get_or, nat_lt}
+-- Eight octets in one word. Private clauses alone cite it, and what a Spelling keeps.
+use Rattle.std.specs.Prelude.{ℕ, zero, suc, ◌+◌, ◌*◌, ◌/◌, ◌%◌, Bool, List, [], ◌∷◌, drop, get_or, nat_lt, if◌then◌else◌}
 
 -- an octet that ends a varint
 abbrev pub is_last : ℕ → Bool
 is_last octet = nat_lt octet 128
+
+-- the top bit of each of so many octets of a number that ends a varint
+unfoldable pub ends : ℕ → ℕ → ℕ
+ends zero word = 0
+ends (suc n) word = (if is_last (word % 256) then 128 else 0) + 256 * ends n (word / 256)
+
+-- so many octets of a number, from the lowest on
+unfoldable pub octets_of : ℕ → ℕ → List ℕ
+octets_of zero word = []
+octets_of (suc n) word = word % 256 ∷ octets_of n (word / 256)
 
 -- so many octets as a number, from the lowest on
 unfoldable pub little_endian : ℕ → List ℕ → ℕ

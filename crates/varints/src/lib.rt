@@ -7,4 +7,4 @@
 
 mod varint;
 
-pub use varint::{put_varint, put_word, varint_at, word_at};
+pub use varint::{Spelling, put_varint, put_word, varint_at, word_at};

@@ -1,11 +1,10 @@
 //! Unsigned varints: seven bits an octet from the lowest on. They're written from 64 bits and read in 64 bits, as most
 //! numbers have no more.
 
-ghost use Rattle.std.specs.Prelude.{◌≡◌, ◌++◌, ◌∷◌, [], map, Some, IfOk, OnOk, MatchResult};
-ghost use Rattle.std.specs.Simd.Lanes.{mask_l};
+ghost use Rattle.std.specs.Prelude.{◌≡◌, ◌≤◌, ◌+◌, ◌*◌, ◌^◌, ◌++◌, ◌∷◌, [], length, Some, IfOk, IfSome, OnOk, MatchResult};
 ghost use Rattle.octet_fields.specs.Answers.{Answers};
 ghost use Rattle.varints.specs.Varint.{short_varint_at, varint};
-ghost use Rattle.varints.specs.Words.{fourteens, is_last, joined, little_endian, sevens};
+ghost use Rattle.varints.specs.Words.{ends, fourteens, joined, little_endian, octets_of, sevens};
 
 use octet_fields::Short;
 use std::alloc::AllocError;
@@ -47,12 +46,12 @@ fn octet_at(octets: &[u8]) -> Result<(u8, &[u8]), Short>
     Ok((front[0], rest))
 }
 
-/// A bit for each of eight octets, set where it ends a varint.
+/// The top bit of each of eight octets that ends a varint.
 #[inline(always)]
-fn ends(octets: u8x8) -> u64
-    ensures { result ≡ mask_l (map is_last octets) }
+fn ends(word: u64) -> u64
+    ensures { result ≡ ends 8 word }
 {
-    octets.simd_lt(u8x8::splat(128)).to_bitmask()
+    !word & 0x8080_8080_8080_8080
 }
 
 /// The lowest seven bits of each 16.
@@ -89,31 +88,117 @@ fn word_of(octets: u8x8) -> u64
     u64::from_le_bytes(octets.to_array())
 }
 
-/// The number whose varint stands at the front, and the octets after it, where it has at most eight octets and eight or more
-/// are left: so none of them is looked for past the end. They're taken as one word, so its length costs nothing.
+/// The first eight octets as a number, where so many are left.
 #[inline(always)]
-pub fn word_at(octets: &[u8]) -> Result<(u64, &[u8]), Short>
-    ensures { IfOk result (λ x. short_varint_at octets.now ≡ Some (x.0, x.1.now)) }
+fn front_word(octets: &[u8]) -> Option<u64>
+    ensures enough { IfSome result (λ _. 8 ≤ length octets.now) }
+    ensures word { IfSome result (λ word. word ≡ little_endian 8 octets.now) }
 {
     if octets.len() < 8 {
+        return None;
+    }
+    Some(word_of(u8x8::from_slice(octets)))
+}
+
+/// A number, and the at most eight octets of its varint: where they stand once more, one compare of words tells it.
+#[derive(Clone, Copy, Debug)]
+pub struct Spelling {
+    pub number: u64,
+    /// The octets, the first of them lowest, and zeros behind.
+    word: u64,
+    /// The bits of the word that they take.
+    mask: u64,
+    /// How many they are.
+    len: usize,
+    ghost short: { len ≤ 8 },
+    ghost whole: { mask + 1 ≡ 2 ^ (8 * len) },
+    ghost spelled: { varint number ≡ octets_of len word },
+}
+
+impl Spelling {
+    /// That of zero.
+    pub fn of_zero() -> Spelling
+        ensures { result.number ≡ 0 }
+    {
+        Spelling {
+            number: 0,
+            word: 0,
+            mask: 0xff,
+            len: 1,
+        }
+    }
+
+    /// The octets behind its own, where these stand at the front and eight or more are left.
+    #[inline(always)]
+    fn behind<'a>(self, octets: &'a [u8]) -> Option<&'a [u8]>
+        ensures { IfSome result (λ rest. short_varint_at octets.now ≡ Some (self.number, rest.now)) }
+    {
+        let front = front_word(octets)?;
+        if front & self.mask != self.word {
+            return None;
+        }
+        let (_, rest) = octets.split_at(self.len);
+        Some(rest)
+    }
+
+    /// The varint that stands at the front, behind one with this spelling, and the octets after it, where `word_at` finds
+    /// it, and zero only behind zero: one with the same spelling isn't decoded.
+    #[inline(always)]
+    pub fn next_at<'a>(self, octets: &'a [u8]) -> Result<(Spelling, &'a [u8]), Short>
+        ensures { IfOk result (λ x. short_varint_at octets.now ≡ Some (x.0.number, x.1.now)) }
+    {
+        match self.behind(octets) {
+            Some(rest) => Ok((self, rest)),
+            None => spelled_word_at(octets),
+        }
+    }
+}
+
+/// The spelling of the varint that stands at the front, and the octets after it, where `word_at` finds it, but of zero.
+#[inline(always)]
+fn spelled_word_at(octets: &[u8]) -> Result<(Spelling, &[u8]), Short>
+    ensures { IfOk result (λ x. short_varint_at octets.now ≡ Some (x.0.number, x.1.now)) }
+{
+    let Some(front) = front_word(octets) else {
         return Err(Short);
-    }
-    let first = octets[0];
-    if first < 128 {
-        let (_, rest) = octets.split_at(1);
-        return Ok((u64::from(first), rest));
-    }
-    let front = u8x8::from_slice(octets);
+    };
     let found = ends(front);
     if found == 0 {
         return Err(Short);
     }
-    let last = found.trailing_zeros() as usize;
-    if octets[last] == 0 {
+    // the lowest of the bits found, and all below it
+    let mask = found ^ (found - 1);
+    let word = front & mask;
+    // the last octet is zero
+    if word <= mask / 0x100 {
         return Err(Short);
     }
-    let (_, rest) = octets.split_at(last + 1);
-    Ok((joined(word_of(front)) % (1 << (7 * (last + 1))), rest))
+    let len = found.trailing_zeros() as usize / 8 + 1;
+    let (_, rest) = octets.split_at(len);
+    let number = joined(word);
+    Ok((
+        Spelling {
+            number,
+            word,
+            mask,
+            len,
+        },
+        rest,
+    ))
+}
+
+/// The number whose varint stands at the front, and the octets after it, where it has at most eight octets and eight or more
+/// are left: so none of them is looked for past the end. They're taken as one word, so their number costs nothing.
+#[inline(always)]
+pub fn word_at(octets: &[u8]) -> Result<(u64, &[u8]), Short>
+    ensures { IfOk result (λ x. short_varint_at octets.now ≡ Some (x.0, x.1.now)) }
+{
+    if octets.len() >= 8 && octets[0] < 128 {
+        let (_, rest) = octets.split_at(1);
+        return Ok((u64::from(octets[0]), rest));
+    }
+    let (spelling, rest) = spelled_word_at(octets)?;
+    Ok((spelling.number, rest))
 }
 
 /// The same for a varint of any length, of which no more than 14 octets are looked at.

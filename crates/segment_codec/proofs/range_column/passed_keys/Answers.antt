@@ -31,7 +31,7 @@ loop-passed-preserved c =
     record {
       few = omega arith;
       less = omega arith;
-      passed = simp to_z-of_z (one_passed c.args.from c.args.count c.loop-passed.passed c.args.first c.in-Some.far c.loop-passed.left c.in-Ok.gap c.loop-passed.rest.now c.in-Ok.after.now _ low is c.loop-passed-test.true i.less (omega arith) (omega arith) c.in-Ok.ensures so_far);
+      passed = simp to_z-of_z (one_passed c.args.from c.args.count c.loop-passed.passed c.args.first c.in-Some.far c.loop-passed.left c.in-Ok.gap.number c.loop-passed.rest.now c.in-Ok.after.now _ low is c.loop-passed-test.true i.less (omega arith) (omega arith) c.in-Ok.ensures so_far);
     }
 
 pub overflow_add-sum : goal.overflow_add-sum
