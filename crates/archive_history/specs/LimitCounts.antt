@@ -1,5 +1,5 @@
 -- What the limits count.
-use Rattle.std.specs.Prelude.{ℕ, ◌≤◌, List, if◌then◌else◌}
+use Rattle.std.specs.Prelude.{◌≡◌, ℕ, ◌≤◌, ◌⊎◌, List, if◌then◌else◌}
 use Rattle.block_map.specs.Index.{tally_of}
 use Rattle.intervals.specs.declared.interval.Interval.{Interval}
 use Rattle.intervals.specs.Interval.{interval_cmp}
@@ -18,6 +18,11 @@ interval_row_count rows interval = tally_of interval_cmp rows interval
 -- no interval has more rows than this
 abbrev pub HasAtMost : ℕ → List (Interval × ℕ) → Type 0
 HasAtMost most rows = (interval : Interval) → interval_row_count rows interval ≤ most
+
+-- this is the number of rows of the interval that has most, or 0
+pub record IsMost (most : ℕ) (rows : List (Interval × ℕ)) : Type 0 where
+  pub at_most : HasAtMost most rows
+  pub reached : (most ≡ 0) ⊎ ((interval : Interval) × (interval_row_count rows interval ≡ most))
 
 -- one at this interval, and none at any other
 abbrev pub one_at : Interval → Interval → ℕ

@@ -1,5 +1,5 @@
 -- The limits of a history.
-use Rattle.std.specs.Prelude.{ℕ, ◌+◌, ◌<◌, ◌≤◌, List, [], ◌∷◌, length, filter}
+use Rattle.std.specs.Prelude.{ℕ, ◌+◌, ◌<◌, ◌≤◌, List, [], ◌∷◌, ◌++◌, length, filter}
 use Rattle.arch_types.specs.declared.row.Row.{Row}
 use Rattle.intervals.specs.declared.interval.Interval.{Interval}
 use Rattle.history_items.specs.Items.{is_of_interval}
@@ -30,3 +30,18 @@ PassesFirst exponent HistoryOctets rows =
 PassesFirst exponent IntervalRows rows =
     (length rows ≤ row_limit Rows) × (octets_of rows ≤ row_limit HistoryOctets)
     × (interval : Interval) × (row_limit IntervalRows < interval_rows exponent interval rows)
+
+-- Rows of runs, and rows of a log behind so many, pass none of the limits. The number may be another one than that of the rows of the runs: it is what their seal says.
+pub record IsWithinOver (exponent base : ℕ) (in_runs log : List Row) : Type 0 where
+  pub few : base + length log ≤ row_limit Rows
+  pub octets : octets_of (in_runs ++ log) ≤ row_limit HistoryOctets
+  pub intervals : (interval : Interval) → interval_rows exponent interval (in_runs ++ log) ≤ row_limit IntervalRows
+
+-- this is the first limit that they pass
+abbrev pub PassesFirstOver : ℕ → ℕ → RowLimit → List Row → List Row → Type 0
+PassesFirstOver exponent base Rows in_runs log = row_limit Rows < base + length log
+PassesFirstOver exponent base HistoryOctets in_runs log =
+    (base + length log ≤ row_limit Rows) × (row_limit HistoryOctets < octets_of (in_runs ++ log))
+PassesFirstOver exponent base IntervalRows in_runs log =
+    (base + length log ≤ row_limit Rows) × (octets_of (in_runs ++ log) ≤ row_limit HistoryOctets)
+    × (interval : Interval) × (row_limit IntervalRows < interval_rows exponent interval (in_runs ++ log))

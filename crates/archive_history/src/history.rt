@@ -2,6 +2,7 @@
 
 ghost use Rattle.std.specs.Prelude.{◌≡◌, ◌+◌, ◌*◌, ◌<◌, ◌≤◌, ◌^◌, ◌++◌, [], ◌∷◌, true, false, length, max, IfOk, IfSome, IfNone, OnOk, OnErr, slice_get, Some, ◌↔◌, Contains, IsTrue};
 ghost use Rattle.std.specs.List.{list_any, AllByRecursion};
+ghost use mathlib.Core.List.{IsPrefix};
 ghost use Rattle.intervals.specs.declared.interval.Interval.{Interval as AnInterval};
 ghost use Rattle.arch_types.specs.History.{IsHistory};
 ghost use Rattle.intervals.specs.Interval.{interval_of};
@@ -73,7 +74,7 @@ pub fn interval_of_row(row: &Row, exponent: Exponent) -> Interval
 }
 
 /// All octets of the packets of rows.
-fn octets_in(rows: &[Row]) -> u64
+pub fn octets_in(rows: &[Row]) -> u64
     requires { length rows.now ≤ row_limit limits.Rows }
     ensures { result ≡ octets_of rows.now }
 {
@@ -85,7 +86,7 @@ fn octets_in(rows: &[Row]) -> u64
 }
 
 /// How many rows of table `tm` have their time in the interval.
-fn interval_rows_in(rows: &[Row], exponent: Exponent, interval: Interval) -> u64
+pub fn interval_rows_in(rows: &[Row], exponent: Exponent, interval: Interval) -> u64
     ensures { result ≡ interval_rows exponent interval rows.now }
 {
     let mut count = 0;
@@ -193,6 +194,15 @@ impl History {
         self.limit_counts.rows_of(interval)
     }
 
+    /// What its limits count.
+    pub fn limit_counts(&self) -> &LimitCounts
+        ensures octets { result.now.octets ≡ octets_of (rows_in self.now.items) }
+        ensures rows { (i : AnInterval) → interval_row_count result.now.rows i ≡
+            interval_rows self.now.exponent i (rows_in self.now.items) }
+    {
+        &self.limit_counts
+    }
+
     /// Whether an interval would have too many rows with these.
     fn passes_interval(&self, rows: &[Row]) -> bool
         requires { length rows.now ≤ row_limit limits.Rows }
@@ -267,6 +277,7 @@ impl History {
         requires within { IsWithin self.old.exponent (rows_in self.old.items ++ rows) }
         ensures all { IsTrue result ↔ (after_rows self.old.items rows ≡ self.old.items ++ items_of rows) }
         ensures items { IsTrue result → self.new.items ≡ self.old.items ++ items_of rows }
+        ensures no_others { IsPrefix self.new.items (self.old.items ++ items_of rows) }
         ensures tables { self.new.tables ≡ self.old.tables }
         ensures exponent { self.new.exponent ≡ self.old.exponent }
     {
@@ -278,12 +289,12 @@ impl History {
         true
     }
 
-    /// The rows of table `tm` with `from <= time < to`, in the order of their keys. Times are in milliseconds.
-    pub fn range(&self, from: i64, to: i64) -> TableRows<'_>
-        requires { 0 < self.now.tables }
-        ensures { result ≡ range_of 0 from to (rows_in self.now.items) }
+    /// The rows of a table at a front with `from <= time < to`, in the order of their keys. Times are in milliseconds.
+    pub fn range_at(&self, table: u8, front: u64, from: i64, to: i64) -> TableRows<'_>
+        requires { table < self.now.tables }
+        ensures { result ≡ range_of table from to (rows_in (prefix front self.now.items)) }
     {
-        self.tables[TM as usize].range_at(self.order.len() as u64, from, to)
+        self.tables[table as usize].range_at(front, from, to)
     }
 
     /// The rows of a partition of a table at a front, in the order of their keys. The one error is want of memory.

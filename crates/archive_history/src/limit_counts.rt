@@ -4,7 +4,7 @@ ghost use Rattle.std.specs.Prelude.{◌≡◌, ◌+◌, ◌*◌, ◌<◌, ◌≤
 ghost use Rattle.std.specs.BTreeMap.{insert_entry};
 ghost use Rattle.intervals.specs.declared.interval.Interval.{Interval as AnInterval};
 ghost use Rattle.intervals.specs.Interval.{interval_cmp};
-ghost use Rattle.archive_history.specs.LimitCounts.{HasAtMost, interval_row_count, one_at};
+ghost use Rattle.archive_history.specs.LimitCounts.{IsMost, interval_row_count, one_at};
 
 use block_map::growing_index::GrowingIndex;
 use intervals::Interval;
@@ -22,13 +22,13 @@ pub struct LimitCounts {
 }
 
 impl Model for LimitCounts {
-    ghost use Rattle.archive_history.specs.LimitCounts.{HasAtMost, LimitCountsView};
+    ghost use Rattle.archive_history.specs.LimitCounts.{IsMost, LimitCountsView};
 
     ghost Value = { LimitCountsView };
 
     ghost view = { λ s. record { octets = s.octets; rows = s.rows.entries; room = s.rows.room } };
 
-    ghost invariant = { λ s. HasAtMost s.most s.rows.entries };
+    ghost invariant = { λ s. IsMost s.most s.rows.entries };
 }
 
 impl LimitCounts {
@@ -62,9 +62,10 @@ impl LimitCounts {
         self.octets
     }
 
-    /// How many rows an interval has at most, so that none need be looked up where that many more pass no limit.
-    pub(crate) fn most_rows(&self) -> u64
-        ensures { HasAtMost result self.now.rows }
+    /// The number of rows of the interval that has most, so that none need be looked up where that many more pass no limit; 0
+    /// where none has any.
+    pub fn most_rows(&self) -> u64
+        ensures { IsMost result self.now.rows }
     {
         self.most
     }

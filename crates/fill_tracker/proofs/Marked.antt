@@ -21,6 +21,7 @@ use Rattle.history_items.specs.Late.{ChangesAt, IsLate, IsLastIn, last_in, is_la
 use Rattle.history_items.proofs.FillLists.{base_after_item, flight_after_item, base_in-reopened, in_flight-reopened}
 use Rattle.history_items.proofs.Late.{last_is_greatest, late_by_last}
 use Rattle.fill_tracker.specs.FillTracker.{AreMarksOf, AreOfOneInterval, mark_by}
+use Rattle.fill_tracker.specs.Placed.{AreMarksOfPlaced, last_placed}
 use Rattle.fill_tracker.proofs.Runs.{last_behind, like_first}
 use Rattle.interval_fills.specs.Steps.{IsLateFree, IsNextToFill, state_of}
 use Rattle.interval_fills.proofs.Freed.{is_itself}
@@ -119,14 +120,6 @@ module _ (e : ℕ) (history : List Item) (fills : List Fill) (marks : Marks) (ar
   touched_is from None none = λ i p. none i (p.0, row_has_mark i p.1)
   touched_is from (Some i) least = ((least.0.0, marked_has_row i least.0.1), λ j p. least.1 j (p.0, row_has_mark j p.1))
 
-  -- an interval that has a mark has a row
-  has_last : (i : Interval) → has_rows marks i ≡ true → (last : ℕ) × (last_in e i history ≡ Some last)
-  has_last i has = go (last_in e i history) refl
-    where
-      go : (o : Option ℕ) → last_in e i history ≡ o → (last : ℕ) × (o ≡ Some last)
-      go None is = absurd (true≢false (sym (sym (ap is_some (are.each i ∙ ap (λ (o : Option ℕ). mark_by o (base_in i fills) (is_some (in_flight i fills))) is)) ∙ has)))
-      go (Some last) is = (last, refl)
-
   has_mark : (i : Interval) (last : ℕ) → last_in e i history ≡ Some last → mark_of marks i ≡ Some (mark last (base_in i fills) (is_some (in_flight i fills)))
   has_mark i last is = are.each i ∙ ap (λ (o : Option ℕ). mark_by o (base_in i fills) (is_some (in_flight i fills))) is
 
@@ -150,27 +143,52 @@ LeavesOthers i item = (j : Interval) → is_same j i ≡ false → (b : Option �
 apart : (j i : Interval) → is_same j i ≡ false → j ≢ i
 apart j i is same = true≢false (sym (subst (λ (k : Interval). is_same j k ≡ true) same (is_itself j)) ∙ is)
 
+-- the marks are those of intervals whose last changes are these, and of these fills
+pub record AreMarksBy (lasts : Interval → Option ℕ) (fills : List Fill) (marks : Marks) : Type 0 where
+  pub each : (i : Interval) → mark_of marks i ≡ mark_by (lasts i) (base_in i fills) (is_some (in_flight i fills))
+  pub known : (i : Interval) → lasts i ≡ None → (base_in i fills ≡ None) × (in_flight i fills ≡ None)
+
+module _ (lasts : Interval → Option ℕ) (fills : List Fill) (marks : Marks) (are : AreMarksBy lasts fills marks) where
+  -- an interval that has a mark has a row
+  last_by : (i : Interval) → has_rows marks i ≡ true → (last : ℕ) × (lasts i ≡ Some last)
+  last_by i has = go (lasts i) refl
+    where
+      go : (o : Option ℕ) → lasts i ≡ o → (last : ℕ) × (o ≡ Some last)
+      go None is = absurd (true≢false (sym (sym (ap is_some (are.each i ∙ ap (λ (o : Option ℕ). mark_by o (base_in i fills) (is_some (in_flight i fills))) is)) ∙ has)))
+      go (Some last) is = (last, refl)
+
+  its_mark : (i : Interval) (last : ℕ) → lasts i ≡ Some last → mark_of marks i ≡ Some (mark last (base_in i fills) (is_some (in_flight i fills)))
+  its_mark i last is = are.each i ∙ ap (λ (o : Option ℕ). mark_by o (base_in i fills) (is_some (in_flight i fills))) is
+
 -- the marks after an item that changes the mark of its interval as the list then tells it
-pub marked_item : (e : ℕ) (history : List Item) (fills : List Fill) (old new : Marks) (item : Fill) (i : Interval) (last : ℕ) → AreMarksOf e history fills old → last_in e i history ≡ Some last
+marked_by : (lasts : Interval → Option ℕ) (fills : List Fill) (old new : Marks) (item : Fill) (i : Interval) (last : ℕ) → AreMarksBy lasts fills old → lasts i ≡ Some last
     → Sets old new i (mark last (base_after i (base_in i fills) item) (is_some (flight_after i (in_flight i fills) item)))
-    → LeavesOthers i item → AreMarksOf e history (fills ++ item ∷ []) new
-marked_item e history fills old new item i last are is marked others = record { each = λ j. at j (is_same j i) refl; known = λ j none. known_at j (is_same j i) refl none }
+    → LeavesOthers i item → AreMarksBy lasts (fills ++ item ∷ []) new
+marked_by lasts fills old new item i last are is marked others = record { each = λ j. at j (is_same j i) refl; known = λ j none. known_at j (is_same j i) refl none }
   where
-    here : mark_of new i ≡ mark_by (last_in e i history) (base_in i (fills ++ item ∷ [])) (is_some (in_flight i (fills ++ item ∷ [])))
+    here : mark_of new i ≡ mark_by (lasts i) (base_in i (fills ++ item ∷ [])) (is_some (in_flight i (fills ++ item ∷ [])))
     here = rw (base_after_item i fills item, flight_after_item i fills item, is) marked.set
 
-    at : (j : Interval) (b : Bool) → is_same j i ≡ b → mark_of new j ≡ mark_by (last_in e j history) (base_in j (fills ++ item ∷ [])) (is_some (in_flight j (fills ++ item ∷ [])))
-    at j true same = subst (λ (k : Interval). mark_of new k ≡ mark_by (last_in e k history) (base_in k (fills ++ item ∷ [])) (is_some (in_flight k (fills ++ item ∷ [])))) (sym (same_interval j i same)) here
+    at : (j : Interval) (b : Bool) → is_same j i ≡ b → mark_of new j ≡ mark_by (lasts j) (base_in j (fills ++ item ∷ [])) (is_some (in_flight j (fills ++ item ∷ [])))
+    at j true same = subst (λ (k : Interval). mark_of new k ≡ mark_by (lasts k) (base_in k (fills ++ item ∷ [])) (is_some (in_flight k (fills ++ item ∷ [])))) (sym (same_interval j i same)) here
     at j false same =
         rw (base_after_item j fills item, flight_after_item j fills item, (others j same (base_in j fills)).0, (others j same (in_flight j fills)).1)
         (marked.others j (apart j i same) ∙ are.each j)
 
-    known_at : (j : Interval) (b : Bool) → is_same j i ≡ b → last_in e j history ≡ None → (base_in j (fills ++ item ∷ []) ≡ None) × (in_flight j (fills ++ item ∷ []) ≡ None)
-    known_at j true same none = absurd (let no : Some last ≡ None = sym is ∙ subst (λ (k : Interval). last_in e k history ≡ None) (same_interval j i same) none in cc)
+    known_at : (j : Interval) (b : Bool) → is_same j i ≡ b → lasts j ≡ None → (base_in j (fills ++ item ∷ []) ≡ None) × (in_flight j (fills ++ item ∷ []) ≡ None)
+    known_at j true same none = absurd (let no : Some last ≡ None = sym is ∙ subst (λ (k : Interval). lasts k ≡ None) (same_interval j i same) none in cc)
     known_at j false same none = (
       base_after_item j fills item ∙ (others j same (base_in j fills)).0 ∙ (are.known j none).0,
       flight_after_item j fills item ∙ (others j same (in_flight j fills)).1 ∙ (are.known j none).1,
     )
+
+-- those of a history
+marked_item : (e : ℕ) (history : List Item) (fills : List Fill) (old new : Marks) (item : Fill) (i : Interval) (last : ℕ) → AreMarksOf e history fills old → last_in e i history ≡ Some last
+    → Sets old new i (mark last (base_after i (base_in i fills) item) (is_some (flight_after i (in_flight i fills) item)))
+    → LeavesOthers i item → AreMarksOf e history (fills ++ item ∷ []) new
+marked_item e history fills old new item i last are is marked others =
+    let now = marked_by (λ k. last_in e k history) fills old new item i last (record { each = are.each; known = are.known }) is marked others in
+    record { each = now.each; known = now.known }
 
 -- what an item says of its own interval, and of others
 others_begun : (i : Interval) (base : ℕ) → LeavesOthers i (Begun i base)
@@ -196,16 +214,28 @@ begun e history fills old new i base are free marked =
     late_last None is late = absurd cc
     late_last (Some last) is late = (last, is)
 
+pub finished_by : (lasts : Interval → Option ℕ) (fills : List Fill) (old mid new : Marks) (i : Interval) (base : ℕ) → AreMarksBy lasts fills old → has_rows old i ≡ true
+    → IfSome (mark_of old i) (λ m. Marked old mid i (record m { base = Some base })) → IfSome (mark_of mid i) (λ m. Marked mid new i (record m { taken = false })) → AreMarksBy lasts (fills ++ Done i base ∷ []) new
+finished_by lasts fills old mid new i base are rows first second =
+    let last = last_by lasts fills old are i rows in
+    let same = is_itself i in
+    let one = if_some (λ m. Marked old mid i (record m { base = Some base })) (mark_of old i) _ (its_mark lasts fills old are i last.0 last.1) first in
+    let two = if_some (λ m. Marked mid new i (record m { taken = false })) (mark_of mid i) _ one.set second in
+    marked_by lasts fills old new (Done i base) i last.0 are last.1
+    (rw same (record { set = two.set; others = λ j ne. two.others j ne ∙ one.others j ne }))
+    (others_done i base)
+
 pub finished : (e : ℕ) (history : List Item) (fills : List Fill) (old mid new : Marks) (i : Interval) (base : ℕ) → AreMarksOf e history fills old → has_rows old i ≡ true
     → IfSome (mark_of old i) (λ m. Marked old mid i (record m { base = Some base })) → IfSome (mark_of mid i) (λ m. Marked mid new i (record m { taken = false })) → AreMarksOf e history (fills ++ Done i base ∷ []) new
 finished e history fills old mid new i base are rows first second =
-    let last = has_last e history fills old are i rows in
-    let same = is_itself i in
-    let one = if_some (λ m. Marked old mid i (record m { base = Some base })) (mark_of old i) _ (has_mark e history fills old are i last.0 last.1) first in
-    let two = if_some (λ m. Marked mid new i (record m { taken = false })) (mark_of mid i) _ one.set second in
-    marked_item e history fills old new (Done i base) i last.0 are last.1
-    (rw same (record { set = two.set; others = λ j ne. two.others j ne ∙ one.others j ne }))
-    (others_done i base)
+    let now = finished_by (λ k. last_in e k history) fills old mid new i base (record { each = are.each; known = are.known }) rows first second in
+    record { each = now.each; known = now.known }
+
+pub finished_placed : (e : ℕ) (placed : List (ℕ × Row)) (fills : List Fill) (old mid new : Marks) (i : Interval) (base : ℕ) → AreMarksOfPlaced e placed fills old → has_rows old i ≡ true
+    → IfSome (mark_of old i) (λ m. Marked old mid i (record m { base = Some base })) → IfSome (mark_of mid i) (λ m. Marked mid new i (record m { taken = false })) → AreMarksOfPlaced e placed (fills ++ Done i base ∷ []) new
+finished_placed e placed fills old mid new i base are rows first second =
+    let now = finished_by (λ k. last_placed e k placed) fills old mid new i base (record { each = are.each; known = are.known }) rows first second in
+    record { each = now.each; known = now.known }
 
 pub let_go : (e : ℕ) (history : List Item) (fills : List Fill) (old new : Marks) (i : Interval) → AreMarksOf e history fills old → is_some (in_flight i fills) ≡ true
     → IfSome (mark_of old i) (λ m. Marked old new i (record m { taken = false })) → AreMarksOf e history (fills ++ Freed i ∷ []) new
@@ -248,10 +278,10 @@ all_written n items written all is =
 
 -- ---- a run of rows more
 
-elsewhere : (table : ℕ) → (table ≡ 0 → ⊥) → eqb table 0 ≡ false
+pub elsewhere : (table : ℕ) → (table ≡ 0 → ⊥) → eqb table 0 ≡ false
 elsewhere table other = grind (arith, nat_tests, other)
 
-in_first : (table : ℕ) → table ≡ 0 → eqb table 0 ≡ true
+pub in_first : (table : ℕ) → table ≡ 0 → eqb table 0 ≡ true
 in_first table is = rw is refl
 
 pub untouched : (e : ℕ) (history : List Item) (fills : List Fill) (marks : Marks) (first : Row) (rest : List Row) → AreOfOneInterval e (first ∷ rest) → (first.table ≡ 0 → ⊥) → AreMarksOf e history fills marks

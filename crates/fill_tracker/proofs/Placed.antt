@@ -1,5 +1,5 @@
 -- Marks of rows at positions, with more of them.
-use Rattle.std.proofs.Common.{◌≡◌, ℕ, List, [], ◌∷◌, ◌++◌, Bool, true, false, true≢false, max, Option, Some, None, refl, sym, ap, subst, ◌∙◌, arith}
+use Rattle.std.proofs.Common.{◌≡◌, ℕ, suc, ◌+◌, length, List, [], ◌∷◌, ◌++◌, Bool, true, false, true≢false, max, Option, Some, None, refl, sym, ap, subst, ◌∙◌, arith}
 use Rattle.std.specs.Prelude.{◌≢◌, if◌then◌else◌}
 use Rattle.std.specs.List.{AllByRecursion}
 use Rattle.std.specs.Option.{is_some}
@@ -18,12 +18,12 @@ use Rattle.late_marks.specs.declared.mark.Mark.{Mark}
 use Rattle.late_marks.specs.Mark.{touched}
 use Rattle.late_marks.specs.Marks.{Marks, mark_of, Marked}
 use Rattle.fill_tracker.specs.FillTracker.{mark_by}
-use Rattle.fill_tracker.specs.Placed.{AreMarksOfPlaced, ArePlacedIn, greatest, last_placed}
+use Rattle.fill_tracker.specs.Placed.{AreMarksOfPlaced, ArePlacedIn, greatest, last_placed, placed_from}
 
 -- ---- the greatest position of rows and of more rows
 
 -- the greatest of two positions, where they are there
-abbrev later : Option ℕ → Option ℕ → Option ℕ
+abbrev pub later : Option ℕ → Option ℕ → Option ℕ
 later None other = other
 later (Some position) other = Some (greatest position other)
 
@@ -32,7 +32,7 @@ later_first p None b = refl
 later_first p (Some q) None = refl
 later_first p (Some q) (Some r) = let same : max p (max q r) ≡ max (max p q) r = omega arith in ap (λ (n : ℕ). Some n) same
 
-last_placed-append : (e : ℕ) (i : Interval) (placed more : List (ℕ × Row)) → last_placed e i (placed ++ more) ≡ later (last_placed e i placed) (last_placed e i more)
+pub last_placed-append : (e : ℕ) (i : Interval) (placed more : List (ℕ × Row)) → last_placed e i (placed ++ more) ≡ later (last_placed e i placed) (last_placed e i more)
 last_placed-append e i [] more = refl
 last_placed-append e i (at ∷ placed) more = by (is_of_interval e i at.1) (last_placed-append e i placed more)
   where
@@ -41,13 +41,36 @@ last_placed-append e i (at ∷ placed) more = by (is_of_interval e i at.1) (last
     by true rest = ap (λ (o : Option ℕ). Some (greatest at.0 o)) rest ∙ later_first at.0 (last_placed e i placed) (last_placed e i more)
     by false rest = rest
 
-later_none : (o : Option ℕ) → later o None ≡ o
+pub later_none : (o : Option ℕ) → later o None ≡ o
 later_none None = refl
 later_none (Some p) = refl
 
 none_before : (a b : Option ℕ) → later a b ≡ None → a ≡ None
 none_before None b none = refl
 none_before (Some p) b none = cc
+
+-- ---- rows one behind the other
+
+pub placed_from-append : (first : ℕ) (rows more : List Row) → placed_from first (rows ++ more) ≡ placed_from first rows ++ placed_from (first + length rows) more
+placed_from-append first [] more = ap (λ (n : ℕ). placed_from n more) (omega arith)
+placed_from-append first (row ∷ rows) more =
+    ap (λ (l : List (ℕ × Row)). (first, row) ∷ l) (placed_from-append (suc first) rows more ∙ ap (λ (n : ℕ). placed_from (suc first) rows ++ placed_from n more) (omega arith))
+
+pub all_placed_from : (e : ℕ) (i : Interval) (first : ℕ) (rows : List Row) → AllByRecursion (λ row. is_of_interval e i row ≡ true) rows → AllByRecursion (λ at. is_of_interval e i at.1 ≡ true) (placed_from first rows)
+all_placed_from e i first [] all = tt
+all_placed_from e i first (row ∷ rows) all = (all.0, all_placed_from e i (suc first) rows all.1)
+
+-- of rows of one interval the last one has the greatest position
+pub last_placed_from : (e : ℕ) (i : Interval) (first : ℕ) (row : Row) (rows : List Row) → AllByRecursion (λ r. is_of_interval e i r ≡ true) (row ∷ rows) → last_placed e i (placed_from first (row ∷ rows)) ≡ Some (first + length rows)
+last_placed_from e i first row [] all = let here = all.0 in let same : first ≡ first + 0 = omega arith in rw here (ap (λ (n : ℕ). Some n) same)
+last_placed_from e i first row (next ∷ rows) all =
+    let here = all.0 in
+    let same : max first (suc first + length rows) ≡ first + suc (length rows) = omega arith in
+    rw here (ap (λ (o : Option ℕ). Some (greatest first o)) (last_placed_from e i (suc first) next rows all.1) ∙ ap (λ (n : ℕ). Some n) same)
+
+pub none_placed_from : (e : ℕ) (i : Interval) (first : ℕ) (rows : List Row) → AllByRecursion (λ row. is_of_interval e i row ≡ false) rows → last_placed e i (placed_from first rows) ≡ None
+none_placed_from e i first [] all = refl
+none_placed_from e i first (row ∷ rows) all = let other = all.0 in rw other (none_placed_from e i (suc first) rows all.1)
 
 -- ---- rows of one interval
 

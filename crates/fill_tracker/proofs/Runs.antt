@@ -17,6 +17,8 @@ use Rattle.history_items.proofs.ItemLists.{items_of-append, length-items_of}
 use Rattle.history_items.proofs.Late.{last_after_row}
 use Rattle.late_marks.specs.Marks.{Marks}
 use Rattle.fill_tracker.specs.FillTracker.{AreMarksOf, AreOfOneInterval, are_of_one_interval}
+use Rattle.fill_tracker.specs.Placed.{AreMarksOfPlaced, placed_from}
+use Rattle.fill_tracker.proofs.Placed.{placed_from-append}
 
 -- the front of a list, as long as each row goes with the next, is a run
 pub front_run : (e : ℕ) (rest run more : List Row) → rest ≡ run ++ more → AllAdjacentBelow (λ row next. are_of_one_interval e row next ≡ true) rest (length run) → AreOfOneInterval e run
@@ -71,11 +73,13 @@ pub record Touched (exponent : ℕ) (rows rest : List Row) (first position : ℕ
   pub at : position ≡ first + length done
   pub room : length rest ≤ now.room
   pub marks : (fills : List Fill) (history : List Item) → length history ≡ first → AreMarksOf exponent history fills before → AreMarksOf exponent (history ++ items_of done) fills now
+  pub placed : (fills : List Fill) (placed : List (ℕ × Row)) → AreMarksOfPlaced exponent placed fills before → AreMarksOfPlaced exponent (placed ++ placed_from first done) fills now
 
 pub touched_more : {exponent : ℕ} {rows rest more : List Row} {first position : ℕ} {before old new : Marks} (part : List Row) → Touched exponent rows rest first position before old → rest ≡ part ++ more → 0 < length part → old.room ≤ new.room + 1
     → ((fills : List Fill) (history : List Item) → length history ≡ position → AreMarksOf exponent history fills old → AreMarksOf exponent (history ++ items_of part) fills new)
+    → ((fills : List Fill) (placed : List (ℕ × Row)) → AreMarksOfPlaced exponent placed fills old → AreMarksOfPlaced exponent (placed ++ placed_from position part) fills new)
     → Touched exponent rows more first (position + length part) before new
-touched_more {exponent = exponent} {more = more} {old = old} {new = new} part so_far split some room marks = record {
+touched_more {exponent = exponent} {more = more} {first = first} {old = old} {new = new} part so_far split some room marks placed = record {
   done = so_far.done ++ part;
   split = so_far.split ∙ ap (λ (xs : List Row). so_far.done ++ xs) split ∙ sym (append_assoc so_far.done part more);
   at = omega (arith, so_far.at, length-append so_far.done part);
@@ -84,6 +88,11 @@ touched_more {exponent = exponent} {more = more} {old = old} {new = new} part so
       subst (λ (items : List Item). AreMarksOf exponent items fills new)
       (append_assoc history (items_of so_far.done) (items_of part) ∙ ap (λ (items : List Item). history ++ items) (sym (items_of-append so_far.done part)))
       (marks fills (history ++ items_of so_far.done) (omega (arith, length-append history (items_of so_far.done), length-items_of so_far.done, so_far.at, len)) (so_far.marks fills history len are));
+  placed = λ fills rows are.
+      subst (λ (l : List (ℕ × Row)). AreMarksOfPlaced exponent l fills new)
+      (append_assoc rows (placed_from first so_far.done) (placed_from _ part)
+      ∙ ap (λ (l : List (ℕ × Row)). rows ++ l) (ap (λ (n : ℕ). placed_from first so_far.done ++ placed_from n part) so_far.at ∙ sym (placed_from-append first so_far.done part)))
+      (placed fills (rows ++ placed_from first so_far.done) (so_far.placed fills rows are));
 }
 
 -- at the end none is left
@@ -91,3 +100,8 @@ pub touched_all : {exponent : ℕ} {rows rest : List Row} {first position : ℕ}
     → (fills : List Fill) (history : List Item) → length history ≡ first → AreMarksOf exponent history fills before → AreMarksOf exponent (history ++ items_of rows) fills now
 touched_all {exponent = exponent} {rest = []} {now = now} so_far none fills history len are = subst (λ (done : List Row). AreMarksOf exponent (history ++ items_of done) fills now) (sym (append-nil so_far.done) ∙ sym so_far.split) (so_far.marks fills history len are)
 touched_all {rest = x ∷ xs} so_far none fills history len are = absurd (omega (arith, none))
+
+pub touched_all_placed : {exponent : ℕ} {rows rest : List Row} {first position : ℕ} {before now : Marks} → Touched exponent rows rest first position before now → length rest ≡ 0
+    → (fills : List Fill) (placed : List (ℕ × Row)) → AreMarksOfPlaced exponent placed fills before → AreMarksOfPlaced exponent (placed ++ placed_from first rows) fills now
+touched_all_placed {exponent = exponent} {rest = []} {first = first} {now = now} so_far none fills placed are = subst (λ (done : List Row). AreMarksOfPlaced exponent (placed ++ placed_from first done) fills now) (sym (append-nil so_far.done) ∙ sym so_far.split) (so_far.placed fills placed are)
+touched_all_placed {rest = x ∷ xs} so_far none fills placed are = absurd (omega (arith, none))

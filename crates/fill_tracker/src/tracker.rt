@@ -14,7 +14,7 @@ ghost use Rattle.history_items.specs.FillList.{flights_of};
 ghost use Rattle.history_items.specs.Fills.{reopened};
 ghost use Rattle.history_items.specs.Late.{IsLate, last_in};
 ghost use Rattle.fill_tracker.specs.FillTracker.{AreMarksOf, AreOfOneInterval, KeepsMarks, are_of_one_interval};
-ghost use Rattle.fill_tracker.specs.Placed.{AreMarksOfPlaced, ArePlacedIn};
+ghost use Rattle.fill_tracker.specs.Placed.{AreMarksOfPlaced, ArePlacedIn, KeepsMarksOfPlaced, placed_from};
 ghost use Rattle.interval_fills.specs.Steps.{IsNextToFill, all_freed, freed, state_of};
 ghost use Rattle.late_marks.specs.Marks.{IsLeast, has_rows, is_late_free, late_of};
 
@@ -159,6 +159,7 @@ impl FillTracker {
         requires rows { has_rows self.old.marks interval ≡ true }
         ensures fills { self.new.fills ≡ self.old.fills ++ noted.Done interval base ∷ [] }
         ensures marks { KeepsMarks self.old self.new }
+        ensures placed { KeepsMarksOfPlaced self.old self.new }
     {
         self.items.push_reserved(Fill::Done { interval, base });
         take_out(&mut self.flights, interval);
@@ -235,6 +236,8 @@ impl FillTracker {
         ensures marks { (history : List Item) → length history ≡ first →
             AreMarksOf exponent history self.old.fills self.old.marks →
             AreMarksOf exponent (history ++ items_of rows.now) self.new.fills self.new.marks }
+        ensures placed { (placed : List (ℕ × ARow)) → AreMarksOfPlaced exponent placed self.old.fills self.old.marks →
+            AreMarksOfPlaced exponent (placed ++ placed_from first rows.now) self.new.fills self.new.marks }
     {
         touch_all(&mut self.marks, rows, first, exponent);
     }
@@ -256,9 +259,11 @@ impl FillTracker {
 fn touch_all(marks: &mut LateMarks, rows: &[Row], first: u64, exponent: Exponent)
     requires room { length rows.now ≤ marks.old.room }
     requires small { first + length rows.now < 2 ^ 64 }
-    ensures { (fills : List FillItem) (history : List Item) → length history ≡ first →
+    ensures marks { (fills : List FillItem) (history : List Item) → length history ≡ first →
         AreMarksOf exponent history fills marks.old →
         AreMarksOf exponent (history ++ items_of rows.now) fills marks.new }
+    ensures placed { (fills : List FillItem) (placed : List (ℕ × ARow)) → AreMarksOfPlaced exponent placed fills marks.old →
+        AreMarksOfPlaced exponent (placed ++ placed_from first rows.now) fills marks.new }
 {
     let mut rest = rows;
     let mut position = first;
@@ -307,6 +312,8 @@ fn touch_run(marks: &mut LateMarks, run: &[Row], first: u64, exponent: Exponent)
     ensures marks { (fills : List FillItem) (history : List Item) → length history ≡ first →
         AreMarksOf exponent history fills marks.old →
         AreMarksOf exponent (history ++ items_of run.now) fills marks.new }
+    ensures placed { (fills : List FillItem) (placed : List (ℕ × ARow)) → AreMarksOfPlaced exponent placed fills marks.old →
+        AreMarksOfPlaced exponent (placed ++ placed_from first run.now) fills marks.new }
 {
     let Some(row) = run.first() else {
         return;

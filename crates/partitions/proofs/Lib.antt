@@ -12,3 +12,4 @@ pub mod Exactly
 pub mod Parted
 pub mod Chains
 pub mod RowNumbers
+pub mod Once

@@ -1,5 +1,5 @@
--- The rows of a partition of a history are what a source gives of it.
-use Rattle.std.proofs.Common.{◌≡◌, inl, inr, ℕ, ◌<◌, ◌≤◌, List, [], ◌∷◌, Bool, true, false, cond, not, refl, sym, ap, ◌∙◌, subst, arith}
+-- The rows of a partition of a history, and those of a range, are what a source gives of it.
+use Rattle.std.proofs.Common.{◌≡◌, inl, inr, ℕ, ℤ, ◌<◌, ◌≤◌, List, [], ◌∷◌, Bool, true, false, cond, not, refl, sym, ap, ◌∙◌, subst, arith}
 use Rattle.std.specs.Prelude.{filter, ◌&&◌, ◌==◌}
 use Rattle.std.specs.List.{AllByRecursion}
 use Rattle.std.specs.List.Sorted.{IsStrictlySortedBy}
@@ -13,14 +13,14 @@ use Rattle.std.proofs.lemmas.List.Sorted.{All-permutation}
 use Rattle.arch_types.specs.declared.row.Row.{Row}
 use Rattle.arch_types.specs.Order.{key_cmp, is_before, order_by}
 use Rattle.arch_types.specs.History.{is_in_table}
-use Rattle.arch_types.specs.Table.{table_of}
+use Rattle.arch_types.specs.Table.{is_in_time_range, range_of, table_of}
 use Rattle.arch_types.proofs.Ranks.{key_cmp_total, rows_rank}
 use Rattle.arch_types.proofs.Ordered.{IsAscending}
 use Rattle.arch_types.proofs.InOrder.{order_same, order_sorted}
 use Rattle.partitions.specs.declared.partition.Partition.{Partition}
 use Rattle.partitions.specs.Rows.{is_of_partition}
 use Rattle.partitions.proofs.Filters.{none_pass}
-use Rattle.replay_merge.specs.RowSource.{IsKeyedRow, IsRowOf, AreRowsOf, IsRowSourceHistory, rows_of_partition}
+use Rattle.replay_merge.specs.RowSource.{IsKeyedRow, IsRowIn, IsRowOf, AreRowsIn, AreRowsOf, IsRowSourceHistory, rows_of_partition}
 use Rattle.replay_merge.proofs.Sorting.{ascending, tied_with_itself}
 use Rattle.replay_merge.proofs.Tied.{is_tied, AtMostOne, one_after, one_in_table}
 
@@ -94,6 +94,18 @@ partition_rows_are table partition history is =
       rising = strictly (filter test rows) (ascending rows_rank (filter test rows) (IsSortedBy-filter is_before rows_rank test rows (order_sorted (filter (is_in_table table) history)))) (λ z. one_after test z rows (one_in_table table z history is.once));
     }
 
+-- ---- the rows of a range
+
+-- those of a history are rows of the range, in the order of their keys
+pub range_rows_are : (table : ℕ) (from to : ℤ) (history : List Row) → IsRowSourceHistory history → AreRowsIn table from to (range_of table from to history)
+range_rows_are table from to history is =
+    let rows = table_of table history in
+    let test = is_in_time_range from to in
+    record {
+      each = each_tested (IsKeyedIn table) (IsRowIn table from to) test (λ row both e. record { keyed = both.keyed; in_table = both.in_table; in_range = e }) rows (in_table_keyed table history is.each);
+      rising = strictly (filter test rows) (ascending rows_rank (filter test rows) (IsSortedBy-filter is_before rows_rank test rows (order_sorted (filter (is_in_table table) history)))) (λ z. one_after test z rows (one_in_table table z history is.once));
+    }
+
 -- ---- a table that no row is in
 
 other_number : (a b n : ℕ) → b < n → n ≤ a → (a == b) ≡ false
@@ -109,3 +121,6 @@ no_rows_in table n history all most = ap (order_by is_before) (none_pass (is_in_
 
 pub no_rows_of_table : (table n : ℕ) (partition : Partition) (history : List Row) → AllByRecursion (λ row. row.table < n) history → n ≤ table → rows_of_partition table partition history ≡ []
 no_rows_of_table table n partition history all most = ap (filter (is_of_partition partition)) (no_rows_in table n history all most)
+
+pub no_range_of_table : (table n : ℕ) (from to : ℤ) (history : List Row) → AllByRecursion (λ row. row.table < n) history → n ≤ table → range_of table from to history ≡ []
+no_range_of_table table n from to history all most = ap (filter (is_in_time_range from to)) (no_rows_in table n history all most)

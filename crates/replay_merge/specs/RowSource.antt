@@ -1,15 +1,16 @@
 -- What a source of rows tells, and what it gives.
-use Rattle.std.specs.Prelude.{◌≡◌, ◌≤◌, ℕ, ℤ, List, filter, Option, IsNone, true}
-use Rattle.std.specs.List.{AllByRecursion}
+use Rattle.std.specs.Prelude.{◌≡◌, ◌≤◌, ◌+◌, ◌&&◌, ℕ, ℤ, Bool, List, filter, Option, Some, None, IsNone, true, false}
+use Rattle.std.specs.List.{AllByRecursion, list_any}
 use Rattle.std.specs.List.Sorted.{IsSortedByKey, IsStrictlySortedBy}
 use Rattle.text_forms.specs.ClockTime.{IsClockTime}
+use Rattle.arch_types.specs.declared.key.Key.{Key}
 use Rattle.arch_types.specs.declared.row.Row.{Row}
 use Rattle.arch_types.specs.declared.row_fault.RowFault.{RowFault}
 use Rattle.arch_types.specs.declared.row_fault.RowFault.TheVariants.{DiskFault, Damaged, OutOfMemory}
 use Rattle.arch_types.specs.Packet.{IsPacket}
 use Rattle.arch_types.specs.GenerationTime.{key_of}
 use Rattle.arch_types.specs.Order.{key_cmp}
-use Rattle.arch_types.specs.History.{IsHistory}
+use Rattle.arch_types.specs.History.{IsHistory, has_key, is_in_table}
 use Rattle.arch_types.specs.Table.{is_in_time_range, range_of, table_of}
 use Rattle.arch_disk.specs.Disk.{raised}
 use Rattle.partitions.specs.declared.partition.Partition.{Partition}
@@ -62,6 +63,28 @@ pub record IsRowBetween (table : ℕ) (parts : List Partition) (from to : ℤ) (
   pub in_table : row.table ≡ table
   pub in_parts : is_of_parts parts row ≡ true
   pub in_range : is_in_time_range from to row ≡ true
+
+-- such a row of a table with from <= time < to
+pub record IsRowIn (table : ℕ) (from to : ℤ) (row : Row) : Type 0 where
+  pub keyed : IsKeyedRow row
+  pub in_table : row.table ≡ table
+  pub in_range : is_in_time_range from to row ≡ true
+
+-- such rows, each with a key below those of the rows after it
+pub record AreRowsIn (table : ℕ) (from to : ℤ) (rows : List Row) : Type 0 where
+  pub each : AllByRecursion (IsRowIn table from to) rows
+  pub rising : IsStrictlySortedBy (λ (a b : Row). key_cmp a.key b.key) rows
+
+-- whether one of the rows of a table has a key
+abbrev pub has_row_at : ℕ → Key → List Row → Bool
+has_row_at table key rows = list_any (λ row. is_in_table table row && has_key key row) rows
+
+-- The position of the row that has a key in a table, by the rows below each front: the row isn't below that front yet, and below the
+-- next one it is. Where there is none, it is below no front.
+abbrev pub IsPositionOf : (ℕ → List Row) → ℕ → Key → Option ℕ → Type 0
+IsPositionOf history table key (Some position) =
+    (has_row_at table key (history position) ≡ false) × (has_row_at table key (history (position + 1)) ≡ true)
+IsPositionOf history table key None = (front : ℕ) → has_row_at table key (history front) ≡ false
 
 -- no row's key is below that of the row before it
 abbrev pub AreInKeyOrder : List Row → Type 0

@@ -2,9 +2,11 @@
 
 ghost use Rattle.std.specs.Prelude.{◌≡◌, IfOk, IfErr, IfSome};
 ghost use Rattle.std.specs.List.{AllByRecursion};
+ghost use Rattle.arch_types.specs.Table.{range_of};
 ghost use Rattle.partitions.specs.Partitions.{AreRising};
-ghost use Rattle.replay_merge.specs.RowSource.{RowSourceState, AreRowSourceHistories, AreRowsOf, IsRowBetween, AreInKeyOrder, IsRowFault, UsedRowSource, range_of_parts, rows_of_partition};
+ghost use Rattle.replay_merge.specs.RowSource.{RowSourceState, AreRowSourceHistories, AreRowsIn, AreRowsOf, IsPositionOf, IsRowBetween, AreInKeyOrder, IsRowFault, UsedRowSource, range_of_parts, rows_of_partition};
 
+use arch_types::key::Key;
 use arch_types::row::Rows;
 use arch_types::row_fault::RowFault;
 use partitions::partition::Partition;
@@ -62,4 +64,31 @@ pub trait RowSource {
         }
         Ok(merged_by_key(rows)?)
     }
+
+    /// The rows of a table with `from <= time < to` and a position below the front, in the order of their keys, no key twice. Refused as
+    /// `rows`, and the same call may be made again.
+    fn range(
+        &mut self,
+        alloc: Global,
+        table: u8,
+        from: i64,
+        to: i64,
+        front: u64,
+    ) -> Result<Rows, RowFault>
+        ensures told { IfOk result (λ rows. IfSome (state self.old).history (λ history.
+            rows ≡ range_of table from to (history front))) }
+        ensures given { IfOk result (AllByRecursion (state self.old).may_give) }
+        ensures each { IfOk result (AreRowsIn table from to) }
+        ensures history { IfSome (state self.old).history AreRowSourceHistories }
+        ensures refused { IfErr result (IsRowFault (state self.old) (state self.new)) }
+        ensures source { UsedRowSource (state self.old) (state self.new) };
+
+    /// The position of the row that has a key in a table: one of the whole history, of which fronts are lengths. Refused as `rows`, and
+    /// the same call may be made again.
+    fn position(&mut self, alloc: Global, table: u8, key: Key) -> Result<Option<u64>, RowFault>
+        ensures told { IfOk result (λ found. IfSome (state self.old).history (λ history.
+            IsPositionOf history table key found)) }
+        ensures history { IfSome (state self.old).history AreRowSourceHistories }
+        ensures refused { IfErr result (IsRowFault (state self.old) (state self.new)) }
+        ensures source { UsedRowSource (state self.old) (state self.new) };
 }

@@ -4,3 +4,4 @@ pub mod HistoryMarks
 pub mod Summing
 pub mod Told
 pub mod OrderBlind
+pub mod Summed

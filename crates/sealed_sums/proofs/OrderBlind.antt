@@ -44,7 +44,7 @@ beside (z ∷ a) b x y other (suc k, lt, is) =
     (suc rest.0, omega (arith, rest.1), rest.2)
 
 -- the rows without their positions
-abbrev bare : List (ℕ × Row) → List Row
+abbrev pub bare : List (ℕ × Row) → List Row
 bare placed = map (λ (at : ℕ × Row). at.1) placed
 
 module _ {T : Type 0} (F : List Row → T) (front : (a : List Row) (x : Row) (b : List Row) → F (a ++ x ∷ b) ≡ F (x ∷ (a ++ b))) (behind : (x : Row) (a b : List Row) → F a ≡ F b → F (x ∷ a) ≡ F (x ∷ b)) where
@@ -65,13 +65,13 @@ module _ {T : Type 0} (F : List Row → T) (front : (a : List Row) (x : Row) (b 
           subst (λ (n : ℕ). Contains (a ++ b) (n, next)) place
           (beside a b (first, row) (first + suc i, next) (λ same. let at = ap (λ (p : ℕ × Row). p.0) same in absurd (omega (arith, at))) (subst (λ (l : List (ℕ × Row)). Contains l (first + suc i, next)) is has))
 
-  blind : (placed : List (ℕ × Row)) (rows : List Row) → AreInOrder placed rows → F (bare placed) ≡ F rows
+  pub blind : (placed : List (ℕ × Row)) (rows : List Row) → AreInOrder placed rows → F (bare placed) ≡ F rows
   blind placed rows are = blind_from 0 placed rows (λ i row at. let place : i ≡ 0 + i = omega arith in subst (λ (n : ℕ). Contains placed (n, row)) place (are.each i row at)) (omega (arith, are.as_many))
 
 -- ---- numbers
 
 module _ (F : List Row → ℕ) (append : (a b : List Row) → F (a ++ b) ≡ F a + F b) where
-  sum_blind : (placed : List (ℕ × Row)) (rows : List Row) → AreInOrder placed rows → F (bare placed) ≡ F rows
+  pub sum_blind : (placed : List (ℕ × Row)) (rows : List Row) → AreInOrder placed rows → F (bare placed) ≡ F rows
   sum_blind = blind F
       (λ a x b. omega (arith, append a (x ∷ b), append (x ∷ []) b, append (x ∷ []) (a ++ b), append a b))
       (λ x a b same. omega (arith, append (x ∷ []) a, append (x ∷ []) b, same))
@@ -122,10 +122,10 @@ first_placed t xs [] = refl
 first_placed t xs (u ∷ ys) = ap (λ (l : List ℤ). all_placed l ys) (swap t u xs) ∙ first_placed t (placed_time xs u) ys
 
 -- a time first, or behind others
-order_first : (t : ℤ) (ys : List ℤ) → order_by int_lt (t ∷ ys) ≡ placed_time (order_by int_lt ys) t
+pub order_first : (t : ℤ) (ys : List ℤ) → order_by int_lt (t ∷ ys) ≡ placed_time (order_by int_lt ys) t
 order_first t ys = first_placed t [] ys
 
-order_between : (xs : List ℤ) (t : ℤ) (ys : List ℤ) → order_by int_lt (xs ++ t ∷ ys) ≡ placed_time (order_by int_lt (xs ++ ys)) t
+pub order_between : (xs : List ℤ) (t : ℤ) (ys : List ℤ) → order_by int_lt (xs ++ t ∷ ys) ≡ placed_time (order_by int_lt (xs ++ ys)) t
 order_between xs t ys =
     fold-append (place_by int_lt) [] xs (t ∷ ys)
     ∙ first_placed t (order_by int_lt xs) ys
@@ -146,7 +146,7 @@ module _ (G : List Row → List ℤ) (append : (a b : List Row) → G (a ++ b) �
   order_behind (t ∷ []) xs ys one same = order_first t xs ∙ ap (λ (l : List ℤ). placed_time l t) same ∙ sym (order_first t ys)
   order_behind (t ∷ u ∷ more) xs ys one same = absurd (omega (arith, one))
 
-  order_blind : (placed : List (ℕ × Row)) (rows : List Row) → AreInOrder placed rows → order_by int_lt (G (bare placed)) ≡ order_by int_lt (G rows)
+  pub order_blind : (placed : List (ℕ × Row)) (rows : List Row) → AreInOrder placed rows → order_by int_lt (G (bare placed)) ≡ order_by int_lt (G rows)
   order_blind = blind (λ rows. order_by int_lt (G rows))
       (λ a x b.
       ap (order_by int_lt) (append a (x ∷ b) ∙ ap (λ (l : List ℤ). G a ++ l) (in_front x b))
@@ -157,10 +157,10 @@ module _ (G : List Row → List ℤ) (append : (a b : List Row) → G (a ++ b) �
 -- ---- the sums
 
 -- how many rows of a table stand in a partition
-abbrev rows_in_partition : ℕ → Partition → List Row → ℕ
+abbrev pub rows_in_partition : ℕ → Partition → List Row → ℕ
 rows_in_partition table p rows = times_in p (partitions_of (filter (is_in_table table) rows))
 
-in_partition-append : (table : ℕ) (p : Partition) (a b : List Row) → rows_in_partition table p (a ++ b) ≡ rows_in_partition table p a + rows_in_partition table p b
+pub in_partition-append : (table : ℕ) (p : Partition) (a b : List Row) → rows_in_partition table p (a ++ b) ≡ rows_in_partition table p a + rows_in_partition table p b
 in_partition-append table p a b =
     let own = λ (l : List Row). filter (is_in_table table) l in
     let test = λ (other : Partition). is_eq (partition_cmp other p) in
@@ -170,17 +170,17 @@ in_partition-append table p a b =
     ∙ length-append (filter test (partitions_of (own a))) (filter test (partitions_of (own b)))
 
 -- the times of a packet name among the rows of a table
-abbrev times_in_table : ℕ → ℕ → List Row → List ℤ
+abbrev pub times_in_table : ℕ → ℕ → List Row → List ℤ
 times_in_table table pname rows = times_of pname (named_times_of (filter (is_in_table table) rows))
 
-in_table-append : (table pname : ℕ) (a b : List Row) → times_in_table table pname (a ++ b) ≡ times_in_table table pname a ++ times_in_table table pname b
+pub in_table-append : (table pname : ℕ) (a b : List Row) → times_in_table table pname (a ++ b) ≡ times_in_table table pname a ++ times_in_table table pname b
 in_table-append table pname a b =
     let own = λ (l : List Row). filter (is_in_table table) l in
     ap (λ (l : List Row). times_of pname (named_times_of l)) (filter-append (is_in_table table) a b)
     ∙ ap (times_of pname) (map-append (λ (r : Row). let at : NamedTime = record { pname = r.pname; time = r.key.time } in at) (own a) (own b))
     ∙ times_of-append pname (named_times_of (own a)) (named_times_of (own b))
 
-one_time : (table pname : ℕ) (row : Row) → length (times_in_table table pname (row ∷ [])) ≤ 1
+pub one_time : (table pname : ℕ) (row : Row) → length (times_in_table table pname (row ∷ [])) ≤ 1
 one_time table pname row = by (table == row.table) (row.pname == pname)
   where
     by : (b d : Bool) → length (map (λ (at : NamedTime). at.time) (filter (λ (at : NamedTime). at.pname == pname) (map (λ (r : Row). let at : NamedTime = record { pname = r.pname; time = r.key.time } in at) (cond b (row ∷ []) [])))) ≤ 1

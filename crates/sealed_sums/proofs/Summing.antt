@@ -4,6 +4,7 @@ use Rattle.std.specs.Prelude.{◌==◌, slice_get, filter}
 use Rattle.std.specs.List.{AllByRecursion}
 use Rattle.std.proofs.lemmas.Bool.{eqb-true}
 use Rattle.std.proofs.lemmas.List.{length-map}
+use Rattle.std.proofs.lemmas.Option.{slice_get_within}
 use Rattle.arch_types.specs.declared.row.Row.{Row}
 use Rattle.arch_types.specs.History.{is_in_table}
 use Rattle.intervals.specs.declared.interval.Interval.{Interval}
@@ -111,6 +112,24 @@ module _ (old : SumsView) (s : Stretch) (this now : TableSumsView) (within : s.t
       let table = are.tables s.table this at_this in
       let own = filter (is_in_table s.table) before in
       omega (arith, table.partitions p, few_filter (λ other. is_eq (partition_cmp other p)) (partitions_of own), length-map own (λ row. partition_of row.key.time row.pname), few_filter (is_in_table s.table) before, are.count)
+
+-- with rows of a table that isn't there
+pub sums_without : (old : SumsView) (s : Stretch) → length old.tables ≤ s.table → (limit_counts : LimitCountsView) (before rows : List Row) → IsStretchOf old.exponent s rows → limit_counts.octets ≡ old.limit_counts.octets + s.octets
+    → ((i : Interval) → interval_row_count limit_counts.rows i ≡ interval_row_count old.limit_counts.rows i + interval_rows old.exponent i rows) → AreSumsOf before old
+    → AreSumsOf (before ++ rows) (record { exponent = old.exponent; count = old.count + s.len; limit_counts = limit_counts; tables = old.tables })
+sums_without old s beyond limit_counts before rows is octets intervals are = record {
+  count = omega (arith, are.count, is.len, length-append before rows);
+  octets = octets ∙ ap (λ (n : ℕ). n + s.octets) are.octets ∙ sym (octets_with old.exponent s before rows is);
+  intervals = λ i. intervals i ∙ ap (λ (n : ℕ). n + interval_rows old.exponent i rows) (are.intervals i) ∙ sym (interval_rows-append old.exponent i before rows);
+  tables = λ t those at. subst (λ (l : List Row). AreTableSumsOf l those) (sym (other_same old.exponent s before rows is t (other t those at))) (are.tables t those at);
+}
+  where
+    other : (t : ℕ) (those : TableSumsView) → slice_get old.tables t ≡ Some those → (t == s.table) ≡ false
+    other t those at = by (t == s.table) refl
+      where
+        by : (b : Bool) → (t == s.table) ≡ b → b ≡ false
+        by true same = absurd (omega (arith, eqb-true t s.table same, slice_get_within old.tables t those at, beyond))
+        by false differ = refl
 
 pub few_rows : (old : SumsView) (before : List Row) → AreSumsOf before old → (i : Interval) → interval_row_count old.limit_counts.rows i ≤ old.count
 few_rows old before are i = omega (arith, are.intervals i, few_filter (is_of_interval old.exponent i) before, are.count)

@@ -96,30 +96,6 @@ module _ {rows : List Row} {positions : List ℕ} {rest : List Row} {places : Li
   pub left : length rows ≡ length told.done + length rest
   left = ap length told.split ∙ length-append told.done rest
 
--- ---- what is left, of the tables that there are
-
-behind : {X : Type 0} (P : X → Type 0) (xs ys : List X) → AllByRecursion P (xs ++ ys) → AllByRecursion P ys
-behind P [] ys all = all
-behind P (x ∷ xs) ys all = behind P xs ys all.1
-
-first_of : {X : Type 0} (P : X → Type 0) (n : ℕ) (x : X) (xs : List X) → 0 < n → AllByRecursion P (take n (x ∷ xs)) → P x
-first_of P zero x xs some all = absurd (omega (arith, some))
-first_of P (suc n) x xs some all = all.0
-
-of_none : (n : ℕ) → length (take n (let none : List Row = [] in none)) ≡ 0
-of_none zero = refl
-of_none (suc n) = refl
-
-pub table_within : (tables e : ℕ) (s : Stretch) (rest : List Row) → AllByRecursion (λ row. row.table < tables) rest → IsStretchOf e s (take s.len rest) → s.table < tables
-table_within tables e s [] all is = absurd (omega (arith, is.some, is.len, of_none s.len))
-table_within tables e s (row ∷ rest) all is =
-    let goes = first_of (GoesWith e s.table s.interval s.partition) s.len row rest is.some is.each in
-    omega (arith, all.0, goes.of_table)
-
-pub rest_within : {rows : List Row} {positions : List ℕ} {rest : List Row} {places : List ℕ} {old now : SumsView} {was is : FillTrackerView} → Told rows positions rest places old now was is
-    → (tables : ℕ) → AllByRecursion (λ row. row.table < tables) rows → AllByRecursion (λ row. row.table < tables) rest
-rest_within {rest = rest} told tables all = behind (λ row. row.table < tables) told.done rest (subst (AllByRecursion (λ row. row.table < tables)) told.split all)
-
 -- what is taken and what is dropped
 pub taken : {X : Type 0} (n : ℕ) (xs front back : List X) → front ≡ take n xs → back ≡ drop n xs → xs ≡ front ++ back
 taken n xs front back is_front is_back = rw (is_front, is_back) (sym (take-append-drop n xs))

@@ -2,8 +2,6 @@
 
 ghost use Rattle.std.specs.Prelude.{◌≡◌, ℕ, ◌+◌, ◌<◌, ◌≤◌, ◌^◌, List, [], ◌∷◌, ◌++◌, length, take, IfSome};
 ghost use Rattle.arch_types.specs.declared.row.Row.{Row as ARow};
-ghost use Rattle.archive_history.specs.RowLimits.{row_limit};
-ghost use Rattle.archive_history.specs.declared.row_limit.RowLimit.TheVariants as limits;
 ghost use Rattle.sealed_sums.specs.Stretch.{IsStretchOf};
 
 use arch_types::row::Row;
@@ -69,7 +67,7 @@ impl Stretch {
 /// The rows at the front that go together.
 pub(crate) fn first_stretch(rows: &[Row], exponent: Exponent) -> Stretch
     requires some { 0 < length rows.now }
-    requires few { length rows.now ≤ row_limit limits.Rows }
+    requires few { length rows.now < 2 ^ 32 }
     ensures within { result.len ≤ length rows.now }
     ensures stretch { IsStretchOf exponent result (take result.len rows.now) }
 {

@@ -6,8 +6,6 @@ ghost use Rattle.arch_types.specs.declared.row.Row.{Row as ARow};
 ghost use Rattle.intervals.specs.declared.interval.Interval.{Interval as AnInterval};
 ghost use Rattle.archive_history.specs.LimitCounts.{interval_row_count};
 ghost use Rattle.archive_history.specs.Limits.{interval_rows};
-ghost use Rattle.archive_history.specs.RowLimits.{row_limit};
-ghost use Rattle.archive_history.specs.declared.row_limit.RowLimit.TheVariants as limits;
 ghost use Rattle.fill_tracker.specs.Placed.{AreMarksOfPlaced};
 ghost use Rattle.sealed_sums.specs.Stretch.{IsStretchOf};
 ghost use Rattle.sealed_sums.specs.Sums.{AreSumsOf};
@@ -87,6 +85,13 @@ impl SealedSums {
         })
     }
 
+    /// The exponent of the intervals.
+    pub fn exponent(&self) -> Exponent
+        ensures { result ≡ self.now.exponent }
+    {
+        self.exponent
+    }
+
     /// How many rows there are.
     pub fn count(&self) -> u64
         ensures { result ≡ self.now.count }
@@ -108,11 +113,11 @@ impl SealedSums {
         self.tables.as_slice()
     }
 
-    /// Adds rows that go together. Refused for want of memory, they may be told in part.
-    fn add_stretch(&mut self, stretch: &Stretch) -> Result<(), AllocError>
+    /// Adds rows that go together, of a table that is there. Refused for want of memory, they may be told in part.
+    fn add_to_table(&mut self, stretch: &Stretch) -> Result<(), AllocError>
         requires stretch { (rows : List ARow) × IsStretchOf self.old.exponent stretch.now rows }
         requires table { stretch.now.table < length self.old.tables }
-        requires few { self.old.count + stretch.now.len ≤ row_limit limits.Rows }
+        requires few { self.old.count + stretch.now.len < 2 ^ 32 }
         ensures sums { OnOk result ((before rows : List ARow) → IsStretchOf self.old.exponent stretch.now rows →
             AreSumsOf before self.old → AreSumsOf (before ++ rows) self.new) }
         ensures count { OnOk result (self.new.count ≡ self.old.count + stretch.now.len) }
@@ -126,8 +131,61 @@ impl SealedSums {
         Ok(())
     }
 
-    /// Adds the rows of a page, each at the position that stands beside it, and notes them in the marks. Refused for want of
-    /// memory, some of them are told, and the sums and the marks serve for nothing more.
+    /// Counts rows that go together, of a table that isn't there: no table has sums of them. The one error is want of memory.
+    fn count_alone(&mut self, stretch: &Stretch) -> Result<(), AllocError>
+        requires stretch { (rows : List ARow) × IsStretchOf self.old.exponent stretch.now rows }
+        requires table { length self.old.tables ≤ stretch.now.table }
+        requires few { self.old.count + stretch.now.len < 2 ^ 32 }
+        ensures sums { OnOk result ((before rows : List ARow) → IsStretchOf self.old.exponent stretch.now rows →
+            AreSumsOf before self.old → AreSumsOf (before ++ rows) self.new) }
+        ensures count { OnOk result (self.new.count ≡ self.old.count + stretch.now.len) }
+        ensures exponent { self.new.exponent ≡ self.old.exponent }
+        ensures tables { length self.new.tables ≡ length self.old.tables }
+    {
+        self.limit_counts.reserve(1)?;
+        count_stretch(&mut self.limit_counts, stretch);
+        self.count += stretch.len as u64;
+        Ok(())
+    }
+
+    /// Adds rows that go together, of any table. Refused for want of memory, they may be told in part.
+    fn add_stretch(&mut self, stretch: &Stretch) -> Result<(), AllocError>
+        requires stretch { (rows : List ARow) × IsStretchOf self.old.exponent stretch.now rows }
+        requires few { self.old.count + stretch.now.len < 2 ^ 32 }
+        ensures sums { OnOk result ((before rows : List ARow) → IsStretchOf self.old.exponent stretch.now rows →
+            AreSumsOf before self.old → AreSumsOf (before ++ rows) self.new) }
+        ensures count { OnOk result (self.new.count ≡ self.old.count + stretch.now.len) }
+        ensures exponent { self.new.exponent ≡ self.old.exponent }
+        ensures tables { length self.new.tables ≡ length self.old.tables }
+    {
+        if (stretch.table as usize) < self.tables.len() {
+            self.add_to_table(stretch)
+        } else {
+            self.count_alone(stretch)
+        }
+    }
+
+    /// Adds rows, of which no mark is noted. Rows of a table that isn't there are counted, and no table has sums of them. Refused
+    /// for want of memory, some of them are told, and the sums serve for nothing more.
+    pub fn add_rows(&mut self, rows: &[Row]) -> Result<(), AllocError>
+        requires few { self.old.count + length rows.now < 2 ^ 32 }
+        ensures sums { OnOk result ((before : List ARow) → AreSumsOf before self.old →
+            AreSumsOf (before ++ rows.now) self.new) }
+        ensures exponent { self.new.exponent ≡ self.old.exponent }
+        ensures same_tables { length self.new.tables ≡ length self.old.tables }
+    {
+        let mut rest = rows;
+        while rest.len() > 0 {
+            let stretch = first_stretch(rest, self.exponent);
+            let (_, behind) = rest.split_at(stretch.len);
+            self.add_stretch(&stretch)?;
+            rest = behind;
+        }
+        Ok(())
+    }
+
+    /// Adds the rows of a page, each at the position that stands beside it, and notes them in the marks. Rows of a table that
+    /// isn't there are counted, and no table has sums of them. Refused for want of memory, some of them are told, and the sums and the marks serve for nothing more.
     pub fn add_page(
         &mut self,
         tracker: &mut FillTracker,
@@ -135,8 +193,7 @@ impl SealedSums {
         positions: &[u64],
     ) -> Result<(), AllocError>
         requires beside { length positions.now ≡ length rows.now }
-        requires tables { AllByRecursion (λ row. row.table < length self.old.tables) rows.now }
-        requires few { self.old.count + length rows.now ≤ row_limit limits.Rows }
+        requires few { self.old.count + length rows.now < 2 ^ 32 }
         ensures sums { OnOk result ((before : List ARow) → AreSumsOf before self.old →
             AreSumsOf (before ++ rows.now) self.new) }
         ensures marks { OnOk result ((placed : List (ℕ × ARow)) →

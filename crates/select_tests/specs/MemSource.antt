@@ -1,7 +1,8 @@
 -- A source in memory.
-use Rattle.std.specs.Prelude.{List, take, Contains, Option, Some, None, Bool, true, false, ◌&&◌, ℕ}
+use Rattle.std.specs.Prelude.{List, take, Contains, Option, Some, None, Bool, true, false, ◌&&◌, ℕ, ℤ}
 use Rattle.arch_types.specs.declared.row.Row.{Row}
 use Rattle.arch_types.specs.History.{is_in_table}
+use Rattle.arch_types.specs.Table.{is_in_time_range}
 use Rattle.partitions.specs.declared.partition.Partition.{Partition}
 use Rattle.partitions.specs.Rows.{is_of_partition}
 use Rattle.replay_merge.specs.RowSource.{RowSourceState}
@@ -24,3 +25,7 @@ mem_source_state s = record { history = rows_at_fronts s.is_known s.rows; may_gi
 -- whether a row is of a table and a partition
 abbrev pub is_in_table_and_partition : ℕ → Partition → Row → Bool
 is_in_table_and_partition table partition row = is_in_table table row && is_of_partition partition row
+
+-- whether a row is of a table, with from <= time < to
+abbrev pub is_in_table_and_range : ℕ → ℤ → ℤ → Row → Bool
+is_in_table_and_range table from to row = is_in_table table row && is_in_time_range from to row

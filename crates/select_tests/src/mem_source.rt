@@ -1,14 +1,16 @@
 //! A source of rows in memory.
 
-ghost use Rattle.std.specs.Prelude.{◌≡◌, ℕ, List, [], filter, take, true, IfOk, IfErr, IfSome};
+ghost use Rattle.std.specs.Prelude.{◌≡◌, ◌&&◌, ℕ, List, [], filter, take, true, IfOk, IfErr, IfSome};
 ghost use Rattle.arch_types.specs.declared.row.Row.{Row};
 ghost use Rattle.std.specs.List.{list_any};
 ghost use Rattle.arch_types.specs.Packet.{IsPacket};
-ghost use Rattle.arch_types.specs.History.{is_duplicate_of};
-ghost use Rattle.replay_merge.specs.RowSource.{AreRowSourceHistories, IsKeyedRow, IsRowSourceHistory, AreRowsOf, IsRowFault, UsedRowSource, rows_of_partition};
+ghost use Rattle.arch_types.specs.History.{has_key, is_duplicate_of, is_in_table};
+ghost use Rattle.arch_types.specs.Table.{range_of};
+ghost use Rattle.replay_merge.specs.RowSource.{AreRowSourceHistories, IsKeyedRow, IsPositionOf, IsRowSourceHistory, AreRowsIn, AreRowsOf, IsRowFault, UsedRowSource, rows_of_partition};
 ghost use Rattle.text_forms.specs.ClockTime.{is_clock_time};
-ghost use Rattle.select_tests.specs.MemSource.{is_in_table_and_partition, mem_source_state};
+ghost use Rattle.select_tests.specs.MemSource.{is_in_table_and_partition, is_in_table_and_range, mem_source_state};
 
+use arch_types::key::Key;
 use arch_types::octets::Octets;
 use arch_types::row::{Row, Rows};
 use arch_types::row_fault::RowFault;
@@ -129,6 +131,25 @@ impl RowSource for MemSource {
         let rows = part_rows(alloc, &self.history.as_slice()[..count], table, partition)?;
         Ok(Rows::from_vec(rows))
     }
+
+    fn range(
+        &mut self,
+        alloc: Global,
+        table: u8,
+        from: i64,
+        to: i64,
+        front: u64,
+    ) -> Result<Rows, RowFault> {
+        self.fail_in_turn()?;
+        let count = self.history.len().min(front as usize);
+        let rows = range_rows(alloc, &self.history.as_slice()[..count], table, from, to)?;
+        Ok(Rows::from_vec(rows))
+    }
+
+    fn position(&mut self, _alloc: Global, table: u8, key: Key) -> Result<Option<u64>, RowFault> {
+        self.fail_in_turn()?;
+        Ok(place_of(self.history.as_slice(), table, key))
+    }
 }
 
 /// The row of one whole packet.
@@ -197,4 +218,67 @@ fn part_rows(
     let mut found = matching(alloc, rows, table, partition)?;
     found.sort_by_key(|row| row.key)?;
     Ok(found)
+}
+
+/// Whether a row is of a table, with `from <= time < to`.
+fn is_in_table_and_range(row: &Row, table: u8, from: i64, to: i64) -> bool
+    ensures { result ≡ is_in_table_and_range table from to row.now }
+{
+    table == row.table && from <= row.key.time && row.key.time < to
+}
+
+/// The rows of a table with `from <= time < to`, as they stand.
+fn matching_times(
+    alloc: Global,
+    rows: &[Row],
+    table: u8,
+    from: i64,
+    to: i64,
+) -> Result<Vec<Row>, AllocError>
+    ensures { IfOk result (λ found. found.items ≡ filter (is_in_table_and_range table from to) rows.now) }
+{
+    let mut found = Vec::new(alloc);
+    for row in rows {
+        if is_in_table_and_range(row, table, from, to) {
+            found.push(row.copy()?)?;
+        }
+    }
+    Ok(found)
+}
+
+/// The rows of a table with `from <= time < to`, in the order of their keys.
+fn range_rows(
+    alloc: Global,
+    rows: &[Row],
+    table: u8,
+    from: i64,
+    to: i64,
+) -> Result<Vec<Row>, AllocError>
+    requires { IsRowSourceHistory rows.now }
+    ensures rows { IfOk result (λ found. (front : ℕ) (history : List Row) → rows.now ≡ take front history
+        → found.items ≡ range_of table from to (take front history)) }
+    ensures each { IfOk result (λ found. AreRowsIn table from to found.items) }
+{
+    let mut found = matching_times(alloc, rows, table, from, to)?;
+    found.sort_by_key(|row| row.key)?;
+    Ok(found)
+}
+
+/// Whether a row is of a table and has a key.
+fn is_at(row: &Row, table: u8, key: Key) -> bool
+    ensures { result ≡ (is_in_table table row.now && has_key key row.now) }
+{
+    table == row.table && key.cmp(&row.key).is_eq()
+}
+
+/// The place of the row that has a key in a table.
+fn place_of(rows: &[Row], table: u8, key: Key) -> Option<u64>
+    ensures { IsPositionOf (λ front. take front rows.now) table key result }
+{
+    for (i, row) in rows.iter().enumerate() {
+        if is_at(row, table, key) {
+            return Some(i as u64);
+        }
+    }
+    None
 }

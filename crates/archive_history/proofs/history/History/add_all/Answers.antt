@@ -1,4 +1,5 @@
 use Rattle.std.proofs.Common.{◌≡◌, ℕ, ◌++◌, [], ◌∷◌, List, length, refl, sym, ◌∙◌, ap, subst, arith, append_assoc}
+use mathlib.Core.List.{IsPrefix}
 use Rattle.arch_types.specs.declared.row.Row.{Row}
 use Rattle.history_items.specs.declared.items.Item.{Item}
 use Rattle.history_items.specs.Items.{after_row, after_rows, items_of, row_item, rows_in}
@@ -12,6 +13,11 @@ use Rattle.archive_history.proofs.history.History.add_all.Goals as goal
 no_items : (rows : List Row) → length rows ≡ 0 → rows ≡ []
 no_items [] none = refl
 no_items (row ∷ rows) none = absurd (omega (arith, none))
+
+-- items with some of the rows behind them
+begins_with : (items : List Item) (first rest rows : List Row) → first ++ rest ≡ rows → IsPrefix (items ++ items_of first) (items ++ items_of rows)
+begins_with items first rest rows is =
+    (items_of rest, append_assoc items (items_of first) (items_of rest) ∙ ap (λ (l : List Item). items ++ l) (sym (items_of-append first rest) ∙ ap items_of is))
 
 pub loop-row-init : goal.loop-row-init
 loop-row-init c =
@@ -54,6 +60,13 @@ returns-then-not-add-clause-all c =
     subst (λ (l : List Item). after_row l c.in-Some.row ≡ l) c.loop-row.invariant.items (sym c.add.ensures.items ∙ c.if-not-add.ensures.known refl) in
     (λ is. absurd cc, λ all. absurd (not_all c.args.self.now.items c.loop-row.yielded c.next.new.self.rest.items c.args.rows c.in-Some.row left known all))
 
+pub returns-then-not-add-clause-no_others : goal.returns-then-not-add-clause-no_others
+returns-then-not-add-clause-no_others c =
+    let step : c.loop-row.row-iterator.rest.items ≡ c.in-Some.row ∷ c.next.new.self.rest.items = let s = c.in-Some.ensures.steps in cc in
+    let left = ap (λ (l : List Row). c.loop-row.yielded ++ l) (sym step) ∙ c.loop-row.invariant.left in
+    let stays = c.if-not-add.ensures.known refl ∙ c.loop-row.invariant.items in
+    subst (λ (l : List Item). IsPrefix l (c.args.self.now.items ++ items_of c.args.rows)) (sym stays) (begins_with c.args.self.now.items c.loop-row.yielded (c.in-Some.row ∷ c.next.new.self.rest.items) c.args.rows left)
+
 pub returns-then-not-add-clause-tables : goal.returns-then-not-add-clause-tables
 returns-then-not-add-clause-tables c = c.add.ensures.tables ∙ c.loop-row.invariant.tables
 
@@ -90,6 +103,10 @@ returns-clause-items c is =
     let none : c.loop-row.row-iterator.rest.items ≡ [] = no_items c.loop-row.row-iterator.rest.items (omega (arith, c.in-None.ensures.steps.0, c.loop-row.row-iterator.rest.ok.0)) in
     let all : c.loop-row.yielded ≡ c.args.rows = ended c.loop-row.yielded c.loop-row.row-iterator.rest.items c.args.rows c.loop-row.invariant.left none in
     c.loop-row.invariant.items ∙ ap (λ (l : List Row). c.args.self.now.items ++ items_of l) all
+
+pub returns-clause-no_others : goal.returns-clause-no_others
+returns-clause-no_others c =
+    subst (λ (l : List Item). IsPrefix l (c.args.self.now.items ++ items_of c.args.rows)) (sym c.loop-row.invariant.items) (begins_with c.args.self.now.items c.loop-row.yielded c.loop-row.row-iterator.rest.items c.args.rows c.loop-row.invariant.left)
 
 pub returns-clause-tables : goal.returns-clause-tables
 returns-clause-tables c = c.loop-row.invariant.tables

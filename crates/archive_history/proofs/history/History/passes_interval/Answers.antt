@@ -52,7 +52,7 @@ returns-then-most_rows-limit c =
       λ is. absurd cc,
       λ many.
           let i = many.0 in
-          absurd (omega (arith, many.1, interval_rows-append e i before rows, few_filter (is_of_interval e i) rows, c.self.invariant.counted.rows i, c.most_rows.ensures i, c.limit-limit.ensures, c.if-added-limit.true, c.if-most_rows-limit.true, ap (λ (s : HistoryView). interval_rows s.exponent i (rows_in s.items)) c.self.view_is, ap (λ (s : HistoryView). interval_rows s.exponent i rows) c.self.view_is)),
+          absurd (omega (arith, many.1, interval_rows-append e i before rows, few_filter (is_of_interval e i) rows, c.self.invariant.counted.rows i, c.most_rows.ensures.at_most i, c.limit-limit.ensures, c.if-added-limit.true, c.if-most_rows-limit.true, ap (λ (s : HistoryView). interval_rows s.exponent i (rows_in s.items)) c.self.view_is, ap (λ (s : HistoryView). interval_rows s.exponent i rows) c.self.view_is)),
     )
 
 pub returns : goal.returns

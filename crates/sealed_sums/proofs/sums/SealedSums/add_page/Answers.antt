@@ -1,15 +1,8 @@
 use Rattle.std.proofs.Common.{◌≡◌, ℕ, length, sym, subst, ap, arith}
 use Rattle.sealed_sums.specs.Stretch.{IsStretchOf}
 use Rattle.sealed_sums.specs.Sums.{SumsView}
-use Rattle.sealed_sums.proofs.Told.{rest_within, table_within, taken, told_more}
+use Rattle.sealed_sums.proofs.Told.{taken, told_more}
 use Rattle.sealed_sums.proofs.sums.SealedSums.add_page.Goals as goal
-
-pub add_stretch-requires-clause-table : goal.add_stretch-requires-clause-table
-add_stretch-requires-clause-table c =
-    let told = c.loop-rest.invariant in
-    let tables = length c.args.self.now.tables in
-    let within = table_within tables c.self.inside.exponent c.first_stretch-stretch.result c.loop-rest.rest.now (rest_within told tables c.requires.tables) c.first_stretch-stretch.ensures.stretch in
-    omega (arith, within, told.tables)
 
 pub loop-rest-preserved : goal.loop-rest-preserved
 loop-rest-preserved c =

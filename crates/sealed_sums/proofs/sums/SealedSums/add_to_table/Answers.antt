@@ -5,7 +5,7 @@ use Rattle.intervals.specs.declared.interval.Interval.{Interval}
 use Rattle.sealed_sums.specs.Stretch.{IsStretchOf}
 use Rattle.sealed_sums.specs.Sums.{AreSumsOf, SumsView}
 use Rattle.sealed_sums.proofs.Summing.{few_counted, few_rows, sums_kept, sums_more}
-use Rattle.sealed_sums.proofs.sums.SealedSums.add_stretch.Goals as goal
+use Rattle.sealed_sums.proofs.sums.SealedSums.add_to_table.Goals as goal
 
 pub add_stretch-requires-clause-small : goal.add_stretch-requires-clause-small
 add_stretch-requires-clause-small c = λ p.
