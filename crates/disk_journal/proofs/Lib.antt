@@ -8,3 +8,4 @@ pub mod Opened
 pub mod Pieces
 pub mod Reading
 pub mod Told
+pub mod Writing

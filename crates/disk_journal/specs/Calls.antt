@@ -213,6 +213,18 @@ abbrev pub StandsAtGate : {D : Type 0} → Device D → Opening → D → Type 0
 StandsAtGate device opening disk =
     IsTrue device.is_transparent → IsAt opening (content_read device opening disk) (read_so_far device opening disk)
 
+-- no record of the file was read yet, and its first gate is open
+pub record IsOpeningAtStart {D : Type 0} (device : Device D) (file : ℕ) (before : D) (opening : Opening) : Type 0 where
+  pub in_file : file_read opening ≡ file
+  pub none_read : IsTrue device.is_transparent → IsAt opening (device.reads before file) []
+  pub open_gate : IsTrue device.is_transparent → BeginsOpen (device.reads before file)
+
+-- why no reading began without a sync: the file holds no journal, or a look at it failed
+abbrev pub IsStartRefusal : {D : Type 0} → Device D → ℕ → D → D → JournalFault → Type 0
+IsStartRefusal device file before after NoArchive = IsTrue device.is_transparent → HoldsNone (device.reads before file)
+IsStartRefusal device file before after (DiskFault false) = raised (device.fault_count before) ≤ device.fault_count after
+IsStartRefusal device file before after _ = ⊥
+
 -- no record of the file was read yet, its first gate is open, and what it reads as is durable
 pub record IsOpeningBegun {D : Type 0} (device : Device D) (file : ℕ) (before after : D)
     (opening : Opening) : Type 0 where

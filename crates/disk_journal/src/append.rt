@@ -10,7 +10,7 @@ use crate::steps::{flush, put};
 use crate::{Frame, JournalFault};
 use arch_disk::Disk;
 
-const MAX_RECORDS: usize = 4_294_967_295;
+pub(crate) const MAX_RECORDS: usize = 4_294_967_295;
 
 impl Journal {
     /// Adds a record, and answers its place. Four device calls: body and next closed gate, sync, gate, sync.

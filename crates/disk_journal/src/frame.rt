@@ -60,6 +60,16 @@ impl Frame {
         (self.octets.len() - 5) as u32
     }
 
+    // What stands behind the gate where another record follows: the body's length, the body, and the next gate, open.
+    pub(crate) fn before_another(self) -> Vec<u8>
+        ensures { result.items ≡ framed self ++ 1 ∷ [] }
+    {
+        let mut octets = self.octets;
+        let gate = octets.len() - 1;
+        octets[gate] = 1;
+        octets
+    }
+
     /// What stands behind the gate: the body's length, the body, and the next gate, closed.
     pub fn octets(&self) -> &[u8]
         ensures { result.now ≡ framed self.now ++ 0 ∷ [] }

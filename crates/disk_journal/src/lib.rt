@@ -6,7 +6,8 @@
 // draws the octets and walks through a crash after each call.
 //
 // Called by the archive's store. `Frame` is a record ready to be written, `Journal` the
-// records that a file has, `Opening` a reading record by record for a caller whose own rules a body may break.
+// records that a file has, `Opening` a reading record by record for a caller whose own rules a body may break, and
+// `JournalWriter` writes a journal whole into a file that nothing names yet, by one sync for all of its records.
 //
 // The one idea of the proof: `HasOnDisk` (specs/State.antt) ties a journal in memory to every image that a crash may leave, by
 // the failures since the last heal: gate closed, or written and the record whole behind it. To touch together: the format
@@ -35,8 +36,10 @@ pub mod laws;
 mod opening;
 mod piece_reader;
 mod steps;
+mod writer;
 
 pub use fault::JournalFault;
 pub use frame::Frame;
 pub use journal::{Extent, Journal, PendingFault};
 pub use opening::Opening;
+pub use writer::JournalWriter;

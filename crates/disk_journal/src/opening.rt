@@ -24,7 +24,7 @@ pub struct Opening {
 
 impl Opening {
     ghost use Rattle.disk_journal.specs.Reading.{IsAt, IsWholeAt, IsCutShortAt, gate_of, file_read, IsReadJournal};
-    ghost use Rattle.disk_journal.specs.Calls.{CountsNeverFall, IsBeginRefusal, IsNextAnswer, IsNextRefusal, IsOpeningBegun, IsReadWhole, IsReadWholeRefusal, StandsAtGate, content_read};
+    ghost use Rattle.disk_journal.specs.Calls.{CountsNeverFall, IsBeginRefusal, IsNextAnswer, IsNextRefusal, IsOpeningAtStart, IsOpeningBegun, IsReadWhole, IsReadWholeRefusal, IsStartRefusal, StandsAtGate, content_read};
 
     /// Begins at the first record, with a sync.
     pub fn begin<D: Disk>(alloc: Global, disk: &mut D, file: u32) -> Result<Opening, JournalFault>
@@ -42,6 +42,27 @@ impl Opening {
         ensures counts { CountsNeverFall D.device disk.old disk.new }
     {
         flush(disk, file)?;
+        Self::begin_synced(alloc, disk, file)
+    }
+
+    /// Begins at the first record, without a sync, of a file that is known to be durable.
+    pub fn begin_synced<D: Disk>(
+        alloc: Global,
+        disk: &mut D,
+        file: u32,
+    ) -> Result<Opening, JournalFault>
+        // Ok: no record is read yet, and the file's first gate is open.
+        ensures begun { IfOk result (IsOpeningAtStart D.device file disk.old) }
+
+        ensures at_gate { IfOk result (λ opening. StandsAtGate D.device opening disk.new) }
+
+        // Refused: the file doesn't begin with an open gate, or a look at it failed.
+        ensures refused { IfErr result (IsStartRefusal D.device file disk.old disk.new) }
+
+        // A failed call of the disk is never passed over.
+        ensures told { TellsFaults D.device disk.old disk.new result }
+        ensures looked { OnlyReads D.device disk.old disk.new }
+    {
         match begins_open(disk, file)? {
             None => Err(JournalFault::NoArchive),
             Some(len) => Ok(Opening {

@@ -1,9 +1,9 @@
 // Runs of few calls of a disk: a write that is durable once it is answered Ok, and looks at a file. A fault says which of
 // them failed: no other function here makes a call of a disk that can fail.
-ghost use Rattle.std.specs.Prelude.{◌≡◌, ◌+◌, ◌<◌, ◌≤◌, ◌⊎◌, IsTrue, false, true, length, take, drop, get_or, OnOk, IfOk, IfErr};
+ghost use Rattle.std.specs.Prelude.{◌≡◌, ◌+◌, ◌<◌, ◌≤◌, ◌⊎◌, ◌++◌, [], IsTrue, false, true, length, take, drop, get_or, OnOk, IfOk, IfErr};
 ghost use Rattle.std.specs.Int.{w32, from_be_bytes, to_be_bytes};
 ghost use Rattle.arch_disk.specs.Image.{Image, AgreesBut, Torn, InFile, Becomes, overwritten};
-ghost use Rattle.arch_disk.specs.Disk.{AddsNoImage, IsDurable, LeavesOnly, OnlyReads, HasCause, CountsFailure, raised};
+ghost use Rattle.arch_disk.specs.Disk.{AddsNoImage, IsDurable, LeavesOnly, LeavesOthers, OnlyReads, HasCause, CountsFailure, raised};
 ghost use Rattle.disk_journal.specs.Faults.{TellsFaults};
 ghost use Rattle.disk_journal.specs.declared.fault.JournalFault.TheVariants.{DiskFault, OutOfMemory};
 
@@ -31,6 +31,41 @@ pub fn put<D: Disk>(disk: &mut D, file: u32, at: u64, octets: &[u8]) -> Result<(
         return Err(JournalFault::DiskFault { wrote: true });
     };
     match disk.sync(file) {
+        Ok(()) => Ok(()),
+        Err(_) => Err(JournalFault::DiskFault { wrote: true }),
+    }
+}
+
+// Empties a file.
+pub fn empty<D: Disk>(disk: &mut D, file: u32) -> Result<(), JournalFault>
+    ensures is_empty { OnOk result (IsTrue D.device.is_transparent → D.device.reads disk.new file ≡ []) }
+    ensures others { LeavesOthers D.device file disk.old disk.new }
+    ensures cause { HasCause D.device disk.old disk.new result }
+    ensures writes { CountsFailure D.device disk.old disk.new result }
+    ensures only { IfErr result (λ e. e ≡ DiskFault true) }
+{
+    match disk.cut(file, 0) {
+        Ok(()) => Ok(()),
+        Err(_) => Err(JournalFault::DiskFault { wrote: true }),
+    }
+}
+
+// A write behind what a file has, durable after the next sync.
+pub fn put_more<D: Disk>(
+    disk: &mut D,
+    file: u32,
+    end: u64,
+    octets: &[u8],
+) -> Result<(), JournalFault>
+    requires { IsTrue D.device.is_transparent → end ≡ length (D.device.reads disk.old file) }
+    ensures written { OnOk result (IsTrue D.device.is_transparent →
+        D.device.reads disk.new file ≡ D.device.reads disk.old file ++ octets.now) }
+    ensures others { LeavesOthers D.device file disk.old disk.new }
+    ensures cause { HasCause D.device disk.old disk.new result }
+    ensures writes { CountsFailure D.device disk.old disk.new result }
+    ensures only { IfErr result (λ e. e ≡ DiskFault true) }
+{
+    match disk.write_at(file, end, octets) {
         Ok(()) => Ok(()),
         Err(_) => Err(JournalFault::DiskFault { wrote: true }),
     }

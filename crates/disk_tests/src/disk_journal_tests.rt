@@ -55,7 +55,7 @@ const ALL_WRITTEN: Crash = Crash {
 };
 
 // The body that each test appends at a place.
-fn body_at(i: u64) -> &'static [u8]
+pub(crate) fn body_at(i: u64) -> &'static [u8]
     ensures { length result.now < 2 ^ 32 }
 {
     match i {
@@ -75,7 +75,7 @@ fn created<D: Disk>(alloc: Global, disk: &mut D) -> Result<Journal, JournalFault
 }
 
 // Appends a body.
-fn add<D: Disk>(
+pub(crate) fn add<D: Disk>(
     alloc: Global,
     journal: &mut Journal,
     disk: &mut D,
@@ -236,7 +236,12 @@ fn records_of<D: Disk>(alloc: Global, disk: &mut D) -> Option<u64> {
 }
 
 // Whether each kind of crash at a moment leaves as many records as are listed for it.
-fn leave_records<D: Watched>(alloc: Global, disk: &D, moment: usize, counts: &[u64]) -> bool {
+pub(crate) fn leave_records<D: Watched>(
+    alloc: Global,
+    disk: &D,
+    moment: usize,
+    counts: &[u64],
+) -> bool {
     let mut place = 0usize;
     for crash in Crash::ALL.iter() {
         let Some(count) = counts.get(place) else {
@@ -279,7 +284,7 @@ fn is_refused<D: Disk>(alloc: Global, disk: &mut D, want: JournalFault) -> bool 
 }
 
 // Whether a `create` succeeds.
-fn is_created<D: Disk>(alloc: Global, disk: &mut D) -> bool {
+pub(crate) fn is_created<D: Disk>(alloc: Global, disk: &mut D) -> bool {
     match created(alloc, disk) {
         Ok(journal) => journal.count() == 1,
         Err(_) => false,

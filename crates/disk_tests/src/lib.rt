@@ -8,6 +8,8 @@ mod disk_journal_tests;
 #[cfg(test)]
 mod ends;
 #[cfg(test)]
+mod journal_writer_tests;
+#[cfg(test)]
 mod outer_real_tests;
 #[cfg(test)]
 mod outer_traits_tests;

@@ -15,10 +15,13 @@ use Rattle.row_codec.specs.Rows.{IsStored}
 use Rattle.row_codec.specs.Spelling.{row_octets}
 use Rattle.row_codec.proofs.Sizes.{packet_short, row_size}
 use Rattle.field_codec.specs.declared.entry.Entry.{Entry}
-use Rattle.field_codec.specs.declared.entry.Entry.TheVariants.{Head, Rows, Fill}
+use Rattle.field_codec.specs.declared.entry.Entry.TheVariants as entries
 use Rattle.field_codec.specs.Entries.{AreTables, IsArchiveEntry}
 use Rattle.field_codec.specs.Laws.{HasOctets, HasShortSet}
 use Rattle.field_codec.specs.Spelling.{entry_octets, fill_octets, head_octets, opening_octets, rows_octets}
+use Rattle.seal_codec.specs.declared.seal.Seal.{Seal}
+use Rattle.seal_codec.specs.declared.seal.SealedRun.{SealedRun}
+use Rattle.seal_codec.specs.Seals.{IsSeal, IsSealedRun, seal_octets, sealed_run_octets}
 use Rattle.field_codec.proofs.DatabaseSizes.{database_short}
 use Rattle.field_codec.proofs.FillSpelling.{fill_size}
 use Rattle.field_codec.proofs.Lengths.{counted_8, counted_16, each_most}
@@ -50,6 +53,20 @@ opening_short : (tables : List (List ℕ)) → AreTables tables → length (open
 unfolding opening_octets number
 opening_short tables are = let few = are.few in omega (arith, few, counted_8 name tables, each_most name 65 (λ t. is_name t ≡ true) calibrator_size tables are.names)
 
+-- ---- seals and log heads
+
+run_most : (run : SealedRun) → IsSealedRun run → length (sealed_run_octets run) ≤ 5
+unfolding sealed_run_octets number
+run_most run fits = omega arith
+
+pub seal_short : (seal : Seal) → IsSeal seal → length (number w8 4 ++ seal_octets seal) < 2 ^ 30
+unfolding seal_octets number
+seal_short seal is = let few = is.few in omega (arith, few, counted_8 sealed_run_octets seal.runs, each_most sealed_run_octets 5 IsSealedRun run_most seal.runs is.each)
+
+pub log_head_short : (rows : ℕ) → length (number w8 5 ++ number w64 rows) < 2 ^ 30
+unfolding number
+log_head_short rows = omega arith
+
 -- ---- entries
 
 pub head_short : (tables : List (List ℕ)) (mdb : Database) → AreTables tables → IsDatabase mdb → length (number w8 1 ++ head_octets tables mdb) < 2 ^ 30
@@ -57,12 +74,14 @@ unfolding number
 head_short tables mdb are is = omega (arith, length-append (opening_octets tables) (database_octets mdb), opening_short tables are, database_short mdb is)
 
 pub short : (entry : Entry) → IsArchiveEntry entry → HasOctets entry → HasShortSet entry → length (entry_octets entry) < 2 ^ 30
-short (Head tables mdb) is octets few = head_short tables mdb is.0 is.1
-short (Fill interval base set) is octets few = omega (arith, few, fill_size interval base set)
-short (Rows rows) stored octets small = let few = stored.few in omega (arith, few, rows_size rows, rows_short rows stored.each octets)
+short (entries.Head tables mdb) is octets few = head_short tables mdb is.0 is.1
+short (entries.Fill interval base set) is octets few = omega (arith, few, fill_size interval base set)
+short (entries.Seal seal) is octets few = seal_short seal is
+short (entries.LogHead rows) is octets few = log_head_short rows
+short (entries.Rows rows) stored octets small = let few = stored.few in omega (arith, few, rows_size rows, rows_short rows stored.each octets)
 
 -- the octets of a fill that were written
-pub fill_out_short : {E : Type 0} (entry : Entry) (interval : Interval) (base : ℕ) (set given : List ℕ) (r : Result (Vec ℕ) E) → entry ≡ Fill interval base set → given ≡ set
+pub fill_out_short : {E : Type 0} (entry : Entry) (interval : Interval) (base : ℕ) (set given : List ℕ) (r : Result (Vec ℕ) E) → entry ≡ entries.Fill interval base set → given ≡ set
     → IfOk r (λ out. out.items ≡ number w8 3 ++ fill_octets interval base given) → IfOk r (λ out. HasShortSet entry → length out.items < 2 ^ 30)
 fill_out_short entry interval base set given (Ok out) is same out_is = λ few.
     let small : 17 + length set < 2 ^ 30 = subst HasShortSet is few in

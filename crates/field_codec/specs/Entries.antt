@@ -9,7 +9,8 @@ use Rattle.mdb_items.specs.Database.{IsDatabase}
 use Rattle.row_codec.specs.Rows.{IsStored}
 use Rattle.field_codec.specs.declared.entry.Entry.{Entry}
 use Rattle.octet_fields.specs.Exact.{IsOctets}
-use Rattle.field_codec.specs.declared.entry.Entry.TheVariants.{Head, Rows, Fill}
+use Rattle.field_codec.specs.declared.entry.Entry.TheVariants.{Head, Rows, Fill, Seal, LogHead}
+use Rattle.seal_codec.specs.Seals.{IsSeal}
 
 -- ---- heads
 
@@ -47,10 +48,19 @@ FillFields = ℤ × (ℕ × List ℕ)
 abbrev pub IsFill : FillFields → Type 0
 IsFill f = FitsSigned w64 f.0 × ((f.1.0 < 2 ^ 64) × IsOctets f.1.1)
 
+-- ---- log heads
+
+-- a number of rows of 64 bits
+abbrev pub IsRowCount : ℕ → Type 0
+IsRowCount rows = rows < 2 ^ 64
+
 -- ---- entries
 
--- what the format admits by itself: that tables and packet names exist, and that keys are new, is asked beside the archive
+-- what the format admits by itself: that tables and packet names exist, that keys are new, and which files and rows a seal names, is
+-- asked beside the archive
 abbrev pub IsArchiveEntry : Entry → Type 0
 IsArchiveEntry (Head tables mdb) = AreTables tables × IsDatabase mdb
 IsArchiveEntry (Rows rows) = AreStored rows
 IsArchiveEntry (Fill interval base set) = IsFill (interval.0, (base, set))
+IsArchiveEntry (Seal seal) = IsSeal seal
+IsArchiveEntry (LogHead rows) = IsRowCount rows

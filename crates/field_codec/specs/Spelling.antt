@@ -10,7 +10,8 @@ use Rattle.octet_fields.specs.Spelling.{counted, name, number, signed}
 use Rattle.row_codec.specs.Spelling.{row_octets}
 use Rattle.field_codec.specs.declared.entry.Entry.{Entry}
 use Rattle.field_codec.specs.Entries.{FillFields}
-use Rattle.field_codec.specs.declared.entry.Entry.TheVariants.{Head, Rows, Fill}
+use Rattle.field_codec.specs.declared.entry.Entry.TheVariants.{Head, Rows, Fill, Seal, LogHead}
+use Rattle.seal_codec.specs.Seals.{seal_octets}
 
 -- u8 format 1, u8 interval exponent, u8 count and names of the tables
 unfoldable pub opening_octets : List (List ℕ) → List ℕ
@@ -41,12 +42,16 @@ abbrev pub kind_of : Entry → ℕ
 kind_of (Head tables mdb) = 1
 kind_of (Rows rows) = 2
 kind_of (Fill interval base set) = 3
+kind_of (Seal seal) = 4
+kind_of (LogHead rows) = 5
 
 -- what stands behind the kind
 abbrev pub body_octets : Entry → List ℕ
 body_octets (Head tables mdb) = head_octets tables mdb
 body_octets (Rows rows) = rows_octets rows
 body_octets (Fill interval base set) = fill_octets interval base set
+body_octets (Seal seal) = seal_octets seal
+body_octets (LogHead rows) = number w64 rows
 
 -- u8 kind, and what stands behind it
 abbrev pub entry_octets : Entry → List ℕ

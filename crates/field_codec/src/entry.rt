@@ -5,6 +5,7 @@ use arch_types::octets::Octets;
 use arch_types::row::Rows;
 use intervals::Interval;
 use mdb_model::Mdb;
+use seal_codec::Seal;
 
 /// An entry of the archive's journal.
 #[derive(Drop)]
@@ -22,5 +23,11 @@ pub enum Entry {
         interval: Interval,
         base: u64,
         set: Octets,
+    },
+    /// Behind all else of file 0: the first rows of the history stand in runs, and another log goes on from there.
+    Seal(Seal),
+    /// The first entry of a fill file and of a log that isn't file 0, and no other: how many rows stand in runs.
+    LogHead {
+        rows: u64,
     },
 }

@@ -11,8 +11,10 @@ use crate::fault::NotAnEntry;
 use crate::fills::read_fill;
 use crate::head::read_head;
 use crate::rows::read_rows;
+use crate::seals::read_log_head;
 use arch_types::octets::Octets;
 use octet_fields::u8_at;
+use seal_codec::read_seal;
 use std::alloc::Global;
 
 /// The entry that all of the octets spell. They are copied once, and its packets are slices of the copy.
@@ -53,6 +55,10 @@ fn entry_of(alloc: Global, block: &Octets, octets: &[u8]) -> Result<Entry, NotAn
                 set,
             })
         }
+        4 => Ok(Entry::Seal(read_seal(alloc, rest)?)),
+        5 => Ok(Entry::LogHead {
+            rows: read_log_head(rest)?,
+        }),
         _ => Err(NotAnEntry::Malformed),
     }
 }

@@ -9,6 +9,7 @@ use crate::entry::Entry;
 use crate::fills::write_fill;
 use crate::head::write_head;
 use crate::rows::write_rows;
+use crate::seals::{write_log_head, write_seal};
 use arch_types::octets::Octets;
 use std::alloc::{AllocError, Global};
 
@@ -26,6 +27,8 @@ fn octets_of(alloc: Global, entry: &Entry) -> Result<Vec<u8>, AllocError>
             base,
             set,
         } => write_fill(alloc, *interval, *base, set.as_slice()),
+        Entry::Seal(seal) => write_seal(alloc, seal),
+        Entry::LogHead { rows } => write_log_head(alloc, *rows),
     }
 }
 

@@ -1,4 +1,4 @@
-//! Worked octets of a head and of rows, both ways, and each octet of them left out or changed.
+//! Worked octets of a head, of rows, of a seal and of a log head, both ways, and each octet of them left out or changed.
 
 ghost use Rattle.row_codec.specs.Rows.{IsStored};
 ghost use Rattle.field_codec.specs.Entries.{IsArchiveEntry};
@@ -8,6 +8,7 @@ use arch_types::octets::Octets;
 use arch_types::row::Row;
 use field_codec::{Entry, NotAnEntry, read_entry, read_shared, write_entry};
 use row_codec::{put_row, read_row, row_len};
+use seal_codec::SealedRun;
 use std::alloc::{AllocError, Global};
 use std::test::*;
 
@@ -31,6 +32,16 @@ const ROWS: [u8; 47] = [
     0x00, 0x65, 0xC0, 1, 0, 0, 7, // a packet
 ];
 
+/// The first two rows, all of table 0, stand in file 1; their fills are in file 2, and the log goes on in file 3.
+const SEAL: [u8; 23] = [
+    4, 0, 0, 0, 0, 0, 0, 0, 2, // kind, rows
+    0, 0, 0, 3, 0, 0, 0, 2, // the log, the fills
+    1, 0, 0, 0, 0, 1, // count of runs; a table and its file
+];
+
+/// The first entry of that log, and of that fill file.
+const LOG_HEAD: [u8; 9] = [5, 0, 0, 0, 0, 0, 0, 0, 2];
+
 /// They are functions, as each table below is, so that no octets stand in a goal of their callers.
 fn head() -> &'static [u8] {
     &HEAD
@@ -43,6 +54,14 @@ fn behind_tables() -> &'static [u8] {
 
 fn two_rows() -> &'static [u8] {
     &ROWS
+}
+
+fn seal() -> &'static [u8] {
+    &SEAL
+}
+
+fn log_head() -> &'static [u8] {
+    &LOG_HEAD
 }
 
 /// The rows behind their count.
@@ -102,6 +121,28 @@ fn worked_rows(rt: HostRuntime) -> Result<(), Fail> {
     let octets = Octets::from_slice(rt.alloc(), two_rows())?;
     assert!(rt; are_worked_rows(read_shared(rt.alloc(), &octets)));
     Ok(())
+}
+
+/// Whether a read gave the worked seal.
+fn is_worked_seal(read: Result<Entry, NotAnEntry>) -> bool {
+    match &read {
+        Ok(Entry::Seal(seal)) => {
+            (seal.rows, seal.log, seal.fills) == (2, 3, 2)
+                && seal.runs.as_slice() == [SealedRun { table: 0, file: 1 }].as_slice()
+        }
+        _ => false,
+    }
+}
+
+/// Whether a read gave the worked log head.
+fn is_worked_log_head(read: Result<Entry, NotAnEntry>) -> bool {
+    matches!(&read, Ok(Entry::LogHead { rows: 2 }))
+}
+
+#[test]
+fn worked_seal_and_log_head(rt: HostRuntime) {
+    assert!(rt; is_worked_seal(read_entry(rt.alloc(), seal())));
+    assert!(rt; is_worked_log_head(read_entry(rt.alloc(), log_head())));
 }
 
 /// Whether a row by itself is written so.
@@ -188,7 +229,12 @@ fn other_in(alloc: Global, octets: &[u8]) -> Option<usize> {
 
 #[test]
 fn each_octet_counts(rt: HostRuntime) -> Result<(), Fail> {
-    none_other(other_in(rt.alloc(), head()).or(other_in(rt.alloc(), two_rows())))
+    none_other(
+        other_in(rt.alloc(), head())
+            .or(other_in(rt.alloc(), two_rows()))
+            .or(other_in(rt.alloc(), seal()))
+            .or(other_in(rt.alloc(), log_head())),
+    )
 }
 
 /// The octets of three parts, one behind the other.

@@ -1,9 +1,8 @@
--- What holds of the spellings of seals and log heads.
+-- What holds of the spellings of seals.
 use Rattle.std.specs.Prelude.{◌≡◌, ℕ, List, ◌++◌}
-use Rattle.seal_codec.specs.declared.entry.SealEntry.{SealEntry}
-use Rattle.seal_codec.specs.Seals.{IsSealEntry, seal_entry_octets}
+use Rattle.seal_codec.specs.declared.seal.Seal.{Seal}
+use Rattle.seal_codec.specs.Seals.{IsSeal, seal_octets}
 
--- octets begin with the spelling of one entry at most, so that none begins another
-abbrev pub SealEntriesAreOne : Type 0
-SealEntriesAreOne = (a b : SealEntry) (x y : List ℕ) → IsSealEntry a → IsSealEntry b →
-    seal_entry_octets a ++ x ≡ seal_entry_octets b ++ y → (a ≡ b) × (x ≡ y)
+-- octets begin with the spelling of one seal at most, so that none begins another
+abbrev pub SealsAreOne : Type 0
+SealsAreOne = (a b : Seal) (x y : List ℕ) → IsSeal a → IsSeal b → seal_octets a ++ x ≡ seal_octets b ++ y → (a ≡ b) × (x ≡ y)

@@ -1,13 +1,11 @@
--- Seals and the heads of logs: their one spelling, and how they are read.
-use Rattle.std.specs.Prelude.{ℕ, ◌<◌, ◌≤◌, ◌^◌, List, length, ◌++◌, Bool, nat_le, ◌==◌, if◌then◌else◌}
+-- Seals: their one spelling, and how they are read.
+use Rattle.std.specs.Prelude.{ℕ, ◌<◌, ◌≤◌, ◌^◌, List, length, ◌++◌, Bool, nat_le}
 use Rattle.std.specs.Int.{w8, w32, w64}
 use Rattle.std.specs.List.{AllByRecursion}
-use Rattle.octet_fields.specs.Reading.{Reader, both_at, kind_at, mapped_at, nothing_at, number_at, tested_at, times_at}
+use Rattle.octet_fields.specs.Reading.{Reader, both_at, mapped_at, number_at, tested_at, times_at}
 use Rattle.octet_fields.specs.Spelling.{counted, number}
 use Rattle.seal_codec.specs.declared.seal.Seal.{Seal}
 use Rattle.seal_codec.specs.declared.seal.SealedRun.{SealedRun}
-use Rattle.seal_codec.specs.declared.entry.SealEntry.{SealEntry}
-use Rattle.seal_codec.specs.declared.entry.SealEntry.TheVariants as entries
 
 -- ---- what has a spelling
 
@@ -24,11 +22,6 @@ pub record IsSeal (seal : Seal) : Type 0 where
   pub few : length seal.runs ≤ 16
   pub each : AllByRecursion IsSealedRun seal.runs
 
--- a seal, or a log head of a number of rows of 64 bits
-abbrev pub IsSealEntry : SealEntry → Type 0
-IsSealEntry (entries.Seal seal) = IsSeal seal
-IsSealEntry (entries.LogHead rows) = rows < 2 ^ 64
-
 -- ---- the spelling
 
 -- u8 table, u32 file
@@ -39,20 +32,6 @@ sealed_run_octets run = number w8 run.table ++ number w32 run.file
 unfoldable pub seal_octets : Seal → List ℕ
 seal_octets seal =
     number w64 seal.rows ++ (number w32 seal.log ++ (number w32 seal.fills ++ counted w8 sealed_run_octets seal.runs))
-
--- the number of an entry's kind
-abbrev pub kind_of : SealEntry → ℕ
-kind_of (entries.Seal seal) = 4
-kind_of (entries.LogHead rows) = 5
-
--- what stands behind the kind
-abbrev pub body_octets : SealEntry → List ℕ
-body_octets (entries.Seal seal) = seal_octets seal
-body_octets (entries.LogHead rows) = number w64 rows
-
--- u8 kind, and what stands behind it
-abbrev pub seal_entry_octets : SealEntry → List ℕ
-seal_entry_octets entry = number w8 (kind_of entry) ++ body_octets entry
 
 -- ---- the reader
 
@@ -79,13 +58,3 @@ seal_of f = record { rows = f.0; log = f.1.0; fills = f.1.1.0; runs = f.1.1.1 }
 -- reads the fields of a seal
 unfoldable pub seal_at : Reader Seal
 seal_at = mapped_at seal_of (both_at (number_at w64) (λ _. both_at (number_at w32) (λ _. both_at (number_at w32) (λ _. runs_at))))
-
--- reads what stands behind a kind
-unfoldable pub body_at : ℕ → Reader SealEntry
-body_at kind =
-    if kind == 4 then mapped_at entries.Seal seal_at else
-    if kind == 5 then mapped_at entries.LogHead (number_at w64) else nothing_at
-
--- reads an entry
-abbrev pub seal_entry_at : Reader SealEntry
-seal_entry_at = kind_at body_at

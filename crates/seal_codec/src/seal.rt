@@ -1,7 +1,9 @@
 //! What a seal says, as octets.
 
 ghost use Rattle.std.specs.Prelude.{◌≡◌, ◌++◌, ◌≤◌, length, OnOk};
-ghost use Rattle.octet_fields.specs.Answers.{Gives};
+ghost use Rattle.octet_fields.specs.declared.fault.DecodeError.TheVariants.{OutOfMemory};
+ghost use Rattle.octet_fields.specs.Answers.{Gives, ReadsEach, ReadsOnly};
+ghost use Rattle.octet_fields.specs.Reading.{whole};
 ghost use Rattle.seal_codec.specs.Files.{are_rising, files_named};
 ghost use Rattle.seal_codec.specs.Seals.{IsSeal, IsSealedRun, is_run_count, runs_at, seal_at, seal_octets, sealed_run_at, sealed_run_octets};
 
@@ -85,7 +87,7 @@ fn runs_at(alloc: Global, octets: &[u8]) -> Result<(SealedRuns, &[u8]), DecodeEr
 
 /// The seal whose fields stand at the front.
 #[tactic(auto, unfolding(crate::specs::Seals::seal_at))]
-pub(crate) fn seal_at(alloc: Global, octets: &[u8]) -> Result<(Seal, &[u8]), DecodeError>
+fn seal_at(alloc: Global, octets: &[u8]) -> Result<(Seal, &[u8]), DecodeError>
     ensures { Gives (λ x. (x.0, x.1.now)) result (seal_at octets.now) }
 {
     let (rows, rest) = u64_at(octets)?;
@@ -101,9 +103,31 @@ pub(crate) fn seal_at(alloc: Global, octets: &[u8]) -> Result<(Seal, &[u8]), Dec
     Ok((seal, rest))
 }
 
-/// Adds the fields of a seal to a buffer.
+/// The seal that all of the octets are.
+fn whole_seal(alloc: Global, octets: &[u8]) -> Result<Seal, DecodeError>
+    ensures { Gives (λ seal. seal) result (whole seal_at octets.now) }
+{
+    let (seal, rest) = seal_at(alloc, octets)?;
+    if !rest.is_empty() {
+        return Err(DecodeError::Malformed);
+    }
+    Ok(seal)
+}
+
+/// The seal whose fields all of the octets spell. Memory is wanting for its runs alone.
+pub fn read_seal(alloc: Global, octets: &[u8]) -> Result<Seal, DecodeError>
+    // Ok: the octets are the one spelling of this seal.
+    ensures spelled { ReadsOnly IsSeal seal_octets (λ seal. seal) octets.now result }
+
+    // Octets that spell a seal give it, unless memory is wanting.
+    ensures each { ReadsEach IsSeal seal_octets (λ seal. seal) (λ e. e ≡ OutOfMemory) octets.now result }
+{
+    whole_seal(alloc, octets)
+}
+
+/// Adds the one spelling of a seal's fields to a buffer: 17 octets, and 5 for each run.
 #[tactic(auto, unfolding(crate::specs::Seals::seal_octets, octet_fields::specs::Spelling::counted))]
-pub(crate) fn put_fields(out: &mut Vec<u8>, seal: &Seal) -> Result<(), AllocError>
+pub fn put_seal(out: &mut Vec<u8>, seal: &Seal) -> Result<(), AllocError>
     requires { IsSeal seal.now }
     ensures { OnOk result (out.new.items ≡ out.old.items ++ seal_octets seal.now) }
 {
