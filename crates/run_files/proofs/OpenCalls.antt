@@ -5,12 +5,12 @@ use Rattle.arch_disk.specs.Image.{Image}
 use Rattle.arch_disk.specs.Disk.{AddsNoImage, Device, IsDurable, NoFault, NoWriteFailed, raised}
 use Rattle.run_pages.specs.Placed.{Placed}
 use Rattle.run_pages.specs.Runs.{entries_from, footer_of_pages}
-use Rattle.run_pages.specs.Damage.{IsBrokenPage}
+use Rattle.run_pages.specs.Damage.{HasNoIndex, IsBrokenPage}
 use Rattle.run_pages.specs.declared.footer.Footer.{Footer}
 use Rattle.run_pages.proofs.Ends.{index_once}
 use Rattle.run_pages.proofs.RunIndex.{run_has_index}
 use Rattle.run_pages.proofs.WholePages.{whole_run}
-use Rattle.run_files.specs.Opening.{IsOpenRefusal, IsPageReadRefusal, IsReadingRun, IsRunBeginRefusal, IsRunFinished, IsRunOpened, StandsInRun, file_opened, footer_rows, index_pages, most_run_rows, pages_read, rows_of_pages}
+use Rattle.run_files.specs.Opening.{IsOpenRefusal, IsPageReadRefusal, IsReadingRun, IsRunBeginRefusal, IsRunFinished, IsRunOpened, IsRunStartRefusal, StandsInRun, file_opened, footer_rows, index_pages, most_run_rows, pages_read, rows_of_pages}
 use Rattle.run_files.specs.Run.{IsRunInMemory, run_file}
 use Rattle.run_files.specs.declared.run.Run.{Run}
 use Rattle.run_files.specs.declared.opening.RunOpening.{RunOpening}
@@ -30,6 +30,14 @@ ok_too (Ok x) P Q then h = then x h
 ok_too (Err e) P Q then h = tt
 
 module _ {D : Type 0} (device : Device D) (file : ℕ) where
+  pub not_started : (before mid after : D) (fault : RunFault) → device.reads mid ≡ device.reads before → NoFault device before mid → NoWriteFailed device before mid → NoWriteFailed device mid after
+      → IsRunStartRefusal device file mid after fault → IsRunBeginRefusal device file before after fault
+  not_started before mid after (Damaged f at) same none first second h = (h.0, h.1, (λ transparent. subst (λ (r : Image). HasNoIndex (r file)) same (h.2 transparent)), (h.3 ∙ none, second ∙ first))
+  not_started before mid after Limit same none first second h = absurd h
+  not_started before mid after (DiskFault true) same none first second h = absurd h
+  not_started before mid after (DiskFault false) same none first second h = record { rose = subst (λ (n : ℕ). raised n ≤ device.fault_count after) none h; writes = second ∙ first }
+  not_started before mid after OutOfMemory same none first second h = (h ∙ none, second ∙ first)
+
   pub not_begun : (before after : D) (fault : RunFault) → IsRunBeginRefusal device file before after fault → IsOpenRefusal device file before after fault
   not_begun before after (Damaged f at) h = (h.0, (λ transparent. inl (h.2 transparent, h.1)), h.3)
   not_begun before after Limit h = absurd h
@@ -66,12 +74,12 @@ module _ {D : Type 0} (device : Device D) (file : ℕ) where
 
   -- all pages were read
   pub opened : (opening : RunOpening) (run : Run) (before begun now : D) → file_opened opening ≡ file → device.reads now ≡ device.reads begun → AddsNoImage device begun now → IsDurable device file (device.reads begun file) begun → NoWriteFailed device before now
-      → StandsInRun device opening now → IsRunFinished opening run → IsRunOpened device file before now run
-  opened opening run before begun now file_is same images durable writes reading fin =
+      → StandsInRun device opening now → footer_rows opening ≤ most_run_rows → IsRunFinished opening run → IsRunOpened device file before now run
+  opened opening run before begun now file_is same images durable writes reading few fin =
       let in_file : run_file run ≡ file = fin.in_file ∙ file_is in
       record {
         in_file = in_file;
-        within = fin.within;
+        within = omega (arith, fin.rows, few);
         held = λ transparent.
             let r = reading transparent in
             let rows = rows_of_pages r.0 in (

@@ -61,6 +61,18 @@ pub record IsRunBegun {D : Type 0} (device : Device D) (file : ℕ) (before afte
   pub durable : IsDurable device file (device.reads after file) after
   pub no_failed_write : NoWriteFailed device before after
 
+-- the file has an index, and no page was read yet
+pub record IsRunAtStart {D : Type 0} (device : Device D) (file : ℕ) (before : D) (opening : RunOpening) : Type 0 where
+  pub in_file : file_opened opening ≡ file
+  pub none_read : pages_read opening ≡ 0
+  pub reading : IsTrue device.is_transparent → IsReadingRun opening (device.reads before file) []
+
+-- why a run isn't begun without a sync: it has no index; or a look failed, or memory is wanting
+abbrev pub IsRunStartRefusal : {D : Type 0} → Device D → ℕ → D → D → RunFault → Type 0
+IsRunStartRefusal device file before after (Damaged f at) =
+    (f ≡ file) × (at ≡ 0) × (IsTrue device.is_transparent → HasNoIndex (device.reads before file)) × NoFault device before after
+IsRunStartRefusal device file before after fault = IsLookFault device before after fault
+
 -- neither did a call fail nor a write
 abbrev pub NoCallFailed : {D : Type 0} → Device D → D → D → Type 0
 NoCallFailed device before after = NoFault device before after × NoWriteFailed device before after
@@ -89,7 +101,7 @@ IsPageReadRefusal device old before after fault = IsLookFault device before afte
 -- the run of all pages that were read
 pub record IsRunFinished (opening : RunOpening) (run : Run) : Type 0 where
   pub in_file : run_file run ≡ file_opened opening
-  pub within : sealed_row_count run ≤ most_run_rows
+  pub rows : sealed_row_count run ≡ footer_rows opening
   pub is_run : (content : List ℕ) (pages : List (List Placed)) → IsReadingRun opening content pages → IsRunInMemory content run (rows_of_pages pages)
 
 -- ---- all at once

@@ -1,10 +1,9 @@
 //! A run file that is read whole, page after page.
 
-ghost use Rattle.std.specs.Prelude.{◌≡◌, ◌++◌, ◌∷◌, [], ◌+◌, ◌<◌, ◌≤◌, ℕ, List, length, IsTrue, Option, Some, None, true, false, take, drop, slice_get, OnOk, OnErr, IfOk, IfErr};
+ghost use Rattle.std.specs.Prelude.{◌≡◌, ◌++◌, ◌∷◌, [], ◌+◌, ◌<◌, ◌≤◌, ℕ, List, length, IsTrue, Option, Some, None, true, false, take, drop, slice_get, OnOk, OnErr, IfOk, IfErr, IfSome};
 ghost use Rattle.arch_disk.specs.Disk.{IsUntouched, NoFault, OnlyReads};
 ghost use Rattle.arch_types.specs.declared.key.Key.{Key as AKey};
 ghost use Rattle.run_pages.specs.Order.{are_ordered};
-ghost use Rattle.run_files.specs.declared.fault.RunFault.TheVariants.{Limit};
 ghost use Rattle.run_files.specs.Opening.{IsOpenRefusal, IsRunOpened};
 
 use crate::RunFault;
@@ -39,7 +38,7 @@ impl RunOpening {
     ghost use Rattle.run_pages.specs.Pages.{IsPage, page_octets, rows_of_page};
     ghost use Rattle.run_pages.specs.Damage.{IsBrokenPage, count_at};
     ghost use Rattle.run_pages.specs.Placed.{Placed};
-    ghost use Rattle.run_files.specs.Opening.{IsNextPage, IsPageReadRefusal, IsReadingRun, IsRunBeginRefusal, IsRunBegun, IsRunFinished, StandsInRun, file_opened, footer_rows, index_pages, most_run_rows, pages_read, table_read};
+    ghost use Rattle.run_files.specs.Opening.{IsNextPage, IsPageReadRefusal, IsReadingRun, IsRunAtStart, IsRunBeginRefusal, IsRunBegun, IsRunFinished, IsRunStartRefusal, StandsInRun, file_opened, footer_rows, index_pages, pages_read, table_read};
 
     /// Begins before the first page, with a sync, and reads the index whole: 32 octets of memory a page.
     pub fn begin<D: Disk>(alloc: Global, disk: &mut D, file: u32) -> Result<RunOpening, RunFault>
@@ -54,6 +53,26 @@ impl RunOpening {
         ensures untouched { IsUntouched D.device disk.old disk.new }
     {
         flush(disk, file)?;
+        Self::begin_synced(alloc, disk, file)
+    }
+
+    /// Begins before the first page, without a sync, of a file that is known to be durable, and reads the index whole: 32 octets
+    /// of memory a page.
+    pub fn begin_synced<D: Disk>(
+        alloc: Global,
+        disk: &mut D,
+        file: u32,
+    ) -> Result<RunOpening, RunFault>
+        // Ok: the file has an index and a footer, and no page is read yet.
+        ensures begun { IfOk result (IsRunAtStart D.device file disk.old) }
+
+        // Refused: it has none, which is damage at octet 0; or a read failed; or memory is wanting.
+        ensures refused { IfErr result (IsRunStartRefusal D.device file disk.old disk.new) }
+
+        // A failed call of the disk is never passed over.
+        ensures told { OnOk result (NoFault D.device disk.old disk.new) }
+        ensures looked { OnlyReads D.device disk.old disk.new }
+    {
         let Some(index) = read_end(alloc, disk, file)? else {
             return Err(RunFault::Damaged { file, at: 0 });
         };
@@ -76,6 +95,9 @@ impl RunOpening {
 
         // Some: the next page, whole. None: all were read.
         ensures page { IfOk result (IsNextPage D.device self.old self.new disk.old) }
+
+        // Whatever the disk tells, a page has rows that have a spelling.
+        ensures is_page { IfOk result (λ next. IfSome next (λ page. IsPage (rows_of_page page))) }
         ensures reading { OnOk result (StandsInRun D.device self.new disk.new) }
 
         // Refused: the page is broken, and it is the first that is; or a read failed; or memory is wanting.
@@ -158,19 +180,11 @@ impl RunOpening {
         self.index.footer.rows.saturating_sub(before).min(page)
     }
 
-    /// The run whose pages were read to the last.
-    pub fn finish(self) -> Result<Run, RunFault>
+    /// The run whose pages were read to the last, however many rows it has.
+    pub fn finish(self) -> Run
         requires all { index_pages self ≤ pages_read self }
-
-        // Ok: the run of all rows that were read.
-        ensures finished { IfOk result (IsRunFinished self) }
-
-        // Refused: it has more rows than a history may have.
-        ensures refused { IfErr result (λ e. (e ≡ Limit) × (most_run_rows < footer_rows self)) }
+        ensures { IsRunFinished self result }
     {
-        if self.index.footer.rows > MAX_ROWS {
-            return Err(RunFault::Limit);
-        }
         let RunOpening {
             file,
             index,
@@ -178,12 +192,12 @@ impl RunOpening {
             table,
             last,
         } = self;
-        Ok(Run {
+        Run {
             file,
             table,
             index,
             last,
-        })
+        }
     }
 }
 
@@ -201,5 +215,8 @@ pub fn open_run<D: Disk>(alloc: Global, disk: &mut D, file: u32) -> Result<Run, 
 {
     let mut opening = RunOpening::begin(alloc, disk, file)?;
     'pages: while let Some(_) = opening.next(alloc, disk)? {}
-    opening.finish()
+    if opening.index.footer.rows > MAX_ROWS {
+        return Err(RunFault::Limit);
+    }
+    Ok(opening.finish())
 }

@@ -37,6 +37,7 @@ pub(crate) fn page_on_disk<D: Disk>(
     entry: PageEntry,
 ) -> Result<Option<PageRows>, RunFault>
     requires { IsTrue D.device.is_transparent → entry.at + entry.len ≤ length (D.device.reads disk.old file) }
+    ensures page { IfOk result (λ found. IfSome found (λ page. IsPage (rows_of_page page))) }
     ensures some { IsTrue D.device.is_transparent → IfOk result (λ found. IfSome found (λ page.
         IsPage (rows_of_page page)
         × (take entry.len (drop entry.at (D.device.reads disk.old file)) ≡ page_octets (rows_of_page page)))) }
@@ -69,7 +70,8 @@ impl Run {
         ensures rows { IsTrue D.device.is_transparent → (rows : List Placed) →
             HoldsRun D.device self.now rows disk.old → IfOk result (λ held. rows_of_page held ≡ page_of_rows page rows) }
 
-        // Whatever the disk tells, they are of the run's table and rise from the page's first key to below the next page's.
+        // Whatever the disk tells, each may be stored and is of the run's table, and they rise from the page's first key to
+        // below the next page's.
         ensures rising { IfOk result (λ held. IsRisingPage self.now page held) }
 
         // Refused: the read failed, or memory is wanting; damage is found on a disk that doesn't tell what it holds alone.

@@ -20,3 +20,7 @@ placed_rows (position ∷ positions) (row ∷ rows) = row_placed position row �
 -- the rows without their positions
 abbrev pub rows_of_placed : List Placed → List Row
 rows_of_placed rows = map (λ at. at.row) rows
+
+-- each row behind its position
+abbrev pub behind_positions : List Placed → List (ℕ × Row)
+behind_positions placed = map (λ at. (at.position, at.row)) placed

@@ -19,7 +19,7 @@ use run_pages::{PageRows, Positions, are_ordered, read_page};
 use std::alloc::{AllocError, Global};
 use std::test::*;
 
-const FILE: u32 = 1;
+pub(crate) const FILE: u32 = 1;
 
 const OTHER_FILE: u32 = 0;
 
@@ -47,29 +47,29 @@ struct ChangedRun {
 const CHANGED_RUNS: &[ChangedRun] = &[
     ChangedRun {
         rows: 3,
-        len: 145,
-        pages: &[(0, 101)],
+        len: 148,
+        pages: &[(0, 104)],
         parts: &[
-            (101, 0, true), // the page: 3 rows of 33 octets
-            (145, 0, false), // its entry, and the footer
+            (104, 0, true), // the page: 3 rows of 34 octets
+            (148, 0, false), // its entry, and the footer
         ],
-        places: &[(0, 145)],
+        places: &[(0, 148)],
     },
     ChangedRun {
         rows: 65,
-        len: 2_217,
-        pages: &[(0, 2_114), (2_114, 2_149)],
+        len: 2_282,
+        pages: &[(0, 2_178), (2_178, 2_214)],
         parts: &[
-            (2_114, 0, true), // the first page: 64 rows of 33 octets
-            (2_149, 2_114, true), // the second: one row
-            (2_173, 0, false), // the first page's entry
-            (2_178, 2_114, false), // the second's first key, which that page hasn't then,
-            (2_179, 0, false), // or which isn't above the first page's last
-            (2_185, 2_114, false),
-            (2_217, 0, false), // the second's place and length, and the footer
+            (2_178, 0, true), // the first page: 64 rows of 34 octets
+            (2_214, 2_178, true), // the second: one row
+            (2_238, 0, false), // the first page's entry
+            (2_243, 2_178, false), // the second's first key, which that page hasn't then,
+            (2_244, 0, false), // or which isn't above the first page's last
+            (2_250, 2_178, false),
+            (2_282, 0, false), // the second's place and length, and the footer
         ],
         // Its first row, and all behind the first page.
-        places: &[(0, 35), (2_114, 2_217)],
+        places: &[(0, 36), (2_178, 2_282)],
     },
 ];
 
@@ -118,9 +118,9 @@ fn one_row(alloc: Global, number: u16, position: u16) -> Option<PageRows>
         .extend_from_slice(&[0, 0, 0, 0, 0, 0, 0, 0x23, 0x28, 1, 0, 2, 0x08, 0x64])
         .ok()?;
     octets.extend_from_slice(&count.to_be_bytes()).ok()?;
-    octets.extend_from_slice(&[0, 6, 0, 0]).ok()?;
+    octets.extend_from_slice(&[0, 7, 0, 0]).ok()?;
     octets.extend_from_slice(&second.to_be_bytes()).ok()?;
-    octets.extend_from_slice(&[0x80, 0, 0x2A]).ok()?;
+    octets.extend_from_slice(&[0x80, 0, 0x2A, 0xFE]).ok()?;
     read_page(alloc, &Octets::from_vec(alloc, octets).ok()?).ok()
 }
 
@@ -162,7 +162,7 @@ fn add_page(
 }
 
 /// So many rows, the last of them at position 0.
-fn made(alloc: Global, count: u16) -> Option<PageRows>
+pub(crate) fn made(alloc: Global, count: u16) -> Option<PageRows>
     ensures { IfSome result (λ rows. AllByRecursion FitsPage (rows_of_page rows)) }
 {
     let mut rows = Vec::new(alloc);
@@ -198,7 +198,11 @@ fn written_into<D: Disk>(
 }
 
 /// The same of the file of these tests.
-fn written<D: Disk>(alloc: Global, disk: &mut D, rows: &PageRows) -> Result<Run, RunFault>
+pub(crate) fn written<D: Disk>(
+    alloc: Global,
+    disk: &mut D,
+    rows: &PageRows,
+) -> Result<Run, RunFault>
     requires { AllByRecursion FitsPage (rows_of_page rows.now) }
     ensures { IsTrue D.device.is_transparent → IfOk result (λ run. IsRunOn D.device run disk.new) }
 {

@@ -11,17 +11,17 @@ const PAGE: &[u8] = &[
     0, 1, // one row
     0, 0, 0, 0, 0, 0, 0, 0, // its position
     0, 0, 0, 0, 0, 0, 0, 0x23, 0x28, 1, 0, 2, // table, reception time, link, packet name
-    0x08, 0x64, 0xC0, 0, 0, 6, 0, 0, 0, 1, 0x80, 0, 0x2A, // the packet
+    0x08, 0x64, 0xC0, 0, 0, 7, 0, 0, 0, 1, 0x80, 0, 0x2A, 0xFE, // the packet
 ];
 
 /// Its first key, the octet at which it begins, its length.
 const INDEX: &[u8] = &[
     0, 0, 0, 0, 0, 0, 0x05, 0xDC, 0x08, 0x64, 0xC0, 0, // 1500 and 140820480
-    0, 0, 0, 0, 0, 0, 0, 0, 0, 0, 0, 35,
+    0, 0, 0, 0, 0, 0, 0, 0, 0, 0, 0, 36,
 ];
 
 /// The octet at which the index begins, one page, one row.
-const FOOTER: &[u8] = &[0, 0, 0, 0, 0, 0, 0, 35, 0, 0, 0, 1, 0, 0, 0, 0, 0, 0, 0, 1];
+const FOOTER: &[u8] = &[0, 0, 0, 0, 0, 0, 0, 36, 0, 0, 0, 1, 0, 0, 0, 0, 0, 0, 0, 1];
 
 /// A place of the worked page, the octet that is put there, and what is wrong then.
 type Change = (usize, u8, &'static str);
@@ -33,26 +33,26 @@ const CHANGES: &[Change] = &[
     (11, 0x80, "a reception time below 0"),
     (19, 0, "link 0"),
     (22, 0x28, "packet version number 1"),
-    (27, 5, "an octet behind the last row"),
-    (27, 7, "a packet that passes the end"),
+    (27, 6, "an octet behind the last row"),
+    (27, 8, "a packet that passes the end"),
 ];
 
 /// The first key's time, the octet and the length of the pages of an index, the footer's octet and rows, and whether that is an index.
 type Index = (&'static [(i64, u64, u32)], u64, u64, bool);
 
 const INDEXES: &[Index] = &[
-    (&[(1, 0, 35)], 35, 1, true),
-    (&[(1, 0, 35)], 35, 64, true),
-    (&[(1, 0, 35)], 35, 0, false), // no row
-    (&[(1, 0, 35)], 35, 65, false), // more rows than places
-    (&[(1, 0, 35)], 36, 1, false), // a gap before the index
-    (&[(1, 1, 35)], 36, 1, false), // a gap before the first page
+    (&[(1, 0, 36)], 36, 1, true),
+    (&[(1, 0, 36)], 36, 64, true),
+    (&[(1, 0, 36)], 36, 0, false), // no row
+    (&[(1, 0, 36)], 36, 65, false), // more rows than places
+    (&[(1, 0, 36)], 37, 1, false), // a gap before the index
+    (&[(1, 1, 36)], 37, 1, false), // a gap before the first page
     (&[(1, 0, 0)], 0, 1, false), // an empty page
-    (&[(1, 0, 35), (2, 35, 35)], 70, 65, true),
-    (&[(1, 0, 35), (2, 35, 35)], 70, 64, false), // a page too many
-    (&[(1, 0, 35), (1, 35, 35)], 70, 65, false), // first keys that don't rise
-    (&[(1, 0, 35), (2, 34, 35)], 69, 65, false), // pages that overlap
-    (&[(1, 0, u32::MAX), (2, u64::MAX, 35)], 34, 65, false), // a place past the last
+    (&[(1, 0, 36), (2, 36, 36)], 72, 65, true),
+    (&[(1, 0, 36), (2, 36, 36)], 72, 64, false), // a page too many
+    (&[(1, 0, 36), (1, 36, 36)], 72, 65, false), // first keys that don't rise
+    (&[(1, 0, 36), (2, 35, 36)], 71, 65, false), // pages that overlap
+    (&[(1, 0, u32::MAX), (2, u64::MAX, 36)], 35, 65, false), // a place past the last
 ];
 
 fn page() -> &'static [u8] {
@@ -169,7 +169,7 @@ fn tells_indexes(rt: HostRuntime) {
 #[test]
 fn worked_end(rt: HostRuntime) {
     let footer = Footer {
-        at: 35,
+        at: 36,
         pages: 1,
         rows: 1,
     };

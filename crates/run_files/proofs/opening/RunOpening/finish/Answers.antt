@@ -6,14 +6,14 @@ use Rattle.run_pages.proofs.WholePages.{whole_run}
 use Rattle.run_files.specs.Opening.{rows_of_pages}
 use Rattle.run_files.proofs.opening.RunOpening.finish.Goals as goal
 
-pub returns-clause-finished : goal.returns-clause-finished
-returns-clause-finished c =
+pub returns : goal.returns
+returns c =
     let opening = c.args.self in
     let entries = opening.index.entries.items in
     let footer = opening.index.footer in
     record {
       in_file = refl;
-      within = omega (arith, c.if-self-gt-MAX_ROWS.false);
+      rows = refl;
       is_run = λ content pages r.
           let rows = rows_of_pages pages in
           let run = whole_run content entries footer opening.table pages r.has r.are (omega (arith, r.count, r.are.within, c.requires.all)) in

@@ -60,4 +60,5 @@ returns-clause-rising g c =
       entry = entry;
       there = there_is run.index.entries.items c.args.page entry c.requires.page c.index-entry.ensures;
       ordered = sym told ∙ c.if-not-are_ordered.false;
+      stored = (subst (λ (o : Option PageRows). IfSome o (λ p. IsPage (rows_of_page p))) c.in-Some.is c.in_ok-held.ensures.page).each;
     }
