@@ -15,7 +15,7 @@ use Rattle.mdb_items.specs.declared.sheet.RawMdb.{RawMdb}
 use Rattle.mdb_sheets.proofs.Sheets.{sheets_determined}
 use Rattle.mdb_sheets.specs.Plans.{sheets_plan}
 use Rattle.outer_traits.specs.Outside.{Files}
-use Rattle.archive_store.specs.declared.head.Head.{Head}
+use Rattle.archive_store.specs.Head.{Head}
 use Rattle.archive_store.specs.Calls.{CrashLeavesHead, IsStoreCreateRefusal}
 use Rattle.command_plans.specs.Plan.{OfMemory, OfDisk, CommandPlan, Stopped, Interrupted, Allows, EachEnd, IsDetermined, map_done}
 use Rattle.command_plans.proofs.Plans.{determined, determined_map_done}

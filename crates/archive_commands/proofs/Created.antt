@@ -19,7 +19,7 @@ use Rattle.mdb_items.specs.Checks.{or_else}
 use Rattle.mdb_items.specs.Database.{Broken, Database, limit_passed}
 use Rattle.mdb_model.specs.Sheets.{IsCheckResult, sheets_database}
 use Rattle.intervals.specs.Interval.{format_1_exponent}
-use Rattle.archive_store.specs.declared.head.Head.{Head}
+use Rattle.archive_store.specs.Head.{Head}
 use Rattle.archive_store.specs.Calls.{IsCreateImage}
 use Rattle.archive_store.specs.Entries.{archive}
 use Rattle.archive_store.specs.StoreView.{StoreView, CrashInvariant, archive_of}

@@ -16,7 +16,7 @@ use Rattle.outer_traits.specs.States.{InputsState}
 use Rattle.command_plans.specs.Inputs.{AnsweredByPlan}
 use Rattle.command_plans.specs.Plan.{OfMemory, OfDisk, no_failed_calls, CommandPlan, Return, Stop, May, Question, and_then, map_done}
 use Rattle.command_words.specs.Job.{CreateWords}
-use Rattle.archive_store.specs.declared.head.Head.{Head}
+use Rattle.archive_store.specs.Head.{Head}
 use Rattle.retrieval.specs.Parameter.{sheets_refusal}
 use Rattle.ssql_types.specs.declared.place.ScriptPlace.TheVariants as ScriptPlace
 use Rattle.ssql_types.specs.declared.statement.TypedStatement.{TypedStatement}

@@ -8,7 +8,7 @@ use Rattle.history_items.specs.Databases.{database_in}
 use Rattle.store_fills.specs.Built.{BuiltFill}
 use Rattle.store_fills.specs.Filled.{IsRightFill}
 use Rattle.store_fills.proofs.RightFills.{right_fill_stays}
-use Rattle.archive_store.specs.declared.head.Head.{Head}
+use Rattle.archive_store.specs.Head.{Head}
 use Rattle.archive_store.specs.StoreView.{StoreView}
 use Rattle.archive_store.proofs.PendingFaults.{prefix_self}
 use Rattle.archive_store.specs.Installs.{IsRightFor}

@@ -18,9 +18,9 @@ use Rattle.field_codec.specs.Entries.{IsArchiveEntry}
 use Rattle.text_forms.specs.ClockTime.{IsClockTime}
 use Rattle.archive_store.specs.declared.batch.Arrival.{Arrival}
 use Rattle.archive_store.specs.declared.batch.Batch.{Batch}
-use Rattle.archive_store.specs.declared.head.Head.{Head}
+use Rattle.archive_images.specs.declared.head.Head.{Head}
 use Rattle.archive_store.specs.Batches.{arrival_rows, batch_rows, in_table, IsArrival, IsBatch}
-use Rattle.archive_store.specs.Entries.{archive, IsPlaced, AreAdmitted}
+use Rattle.archive_images.specs.Entries.{archive, IsPlaced, AreAdmitted}
 use Rattle.archive_history.specs.Limits.{IsWithin}
 
 all_answered : (P : Row → Type 0) (outcomes : List Inserted) (rows : List Row) → AllByRecursion P rows → AllByRecursion P (answered_new outcomes rows)
@@ -89,11 +89,6 @@ admitted head exponent history batch fits names is some within octets =
       fresh = fresh_new history rows;
       within = within;
     }
-
--- what the sorting of a batch needs
-pub sortable : (head : Head) (history : List Item) (batch : Batch) (tables : ℕ) → tables ≡ length head.tables → IsBatch head history batch → AllByRecursion (λ arrival. AllByRecursion (λ table. table < tables) arrival.tables) batch.arrivals
-sortable head history batch tables same is = all_weaker (IsArrival head history batch.rectime) (λ arrival. AllByRecursion (λ table. table < tables) arrival.tables) batch.arrivals
-    (λ arrival a. all_weaker (λ table. table < length head.tables) (λ table. table < tables) arrival.tables (λ t within. omega (arith, within, same)) a.tables) is.each
 
 -- the tables of rows that are placed
 pub placed_tables : (head : Head) (history : List Item) (rows : List Row) (tables : ℕ) → tables ≡ length head.tables → AllByRecursion (IsPlaced head history) rows → AllByRecursion (λ row. row.table < tables) rows

@@ -1,23 +1,31 @@
 -- What the words on a store's calls say, one fact at a time.
 use Rattle.std.proofs.Common.{◌≡◌, ◌≢◌, ◌⊎◌, inl, inr, ⊎_elim, ◌≤◌, ℕ, List, [], true, Option, Some, None, refl, sym, ◌∙◌, ap, subst, arith}
-use Rattle.std.specs.Prelude.{IsTrue, Result, Ok, Err, OnOk, IfErr, IsErrAnd, MatchResult}
+use Rattle.std.specs.Prelude.{IsTrue, Result, Ok, Err, OnOk, IfErr, IsErrAnd}
 use Rattle.arch_disk.specs.Image.{Image}
 use Rattle.arch_disk.specs.Disk.{Device, HasCause, CountsFailure, raised}
 use Rattle.refusals.specs.declared.refusal.Refusal.{Refusal}
 use Rattle.refusals.specs.declared.refusal.Refusal.TheVariants.{Usage, Missing, ReadFault, WriteFault, BadPacket, BadSheet, BadSql, NoArchive, Exists, Damaged, DiskFault, NeedsReopen, UnknownParameter, BadRange, UnknownTable, Limit, Mismatch, Late, OutOfMemory}
 use Rattle.refusals.specs.declared.refusal.Which.{Which}
+use Rattle.arch_types.specs.declared.inserted.Inserted.{Inserted}
 use Rattle.arch_types.specs.declared.row.Row.{Row}
+use Rattle.arch_types.specs.declared.row_fault.RowFault.{RowFault}
+use Rattle.arch_types.specs.declared.row_fault.RowFault.TheVariants as unread
+use Rattle.refusals.specs.Refusal.{refusal_of_rows}
+use Rattle.history_items.specs.declared.items.Item.{Item}
+use Rattle.replay_merge.specs.RowSource.{IsRowFault}
 use Rattle.history_items.specs.Items.{after_rows}
-use Rattle.refusals.specs.Limits.{limit_of}
 use Rattle.history_items.specs.declared.fills.Addition.TheVariants.{Rows}
 use Rattle.history_items.specs.Fills.{pending_fault_of}
 use Rattle.history_items.specs.Outcomes.{fresh_of}
-use Rattle.archive_store.specs.Limits.{IsLimit, IsBelowLimits}
+use Rattle.archive_store.specs.Limits.{IsBelowLimits}
 use Rattle.disk_journal.specs.Calls.{IsJournalCreateFailed, CountsNeverFall}
-use Rattle.archive_store.specs.Calls.{IsOutsideRefusal, IsIngestRefusal, IsRowsRefusal, IsStoreReopened, IsStoreReopenRefusal, IsStoreOpenRefusal, IsStoreCreateRefusal, IsDecidedByImage}
-use Rattle.archive_store.specs.Stands.{StandsFor}
+use Rattle.archive_store.specs.Calls.{AreIngested, IsBatchUnread, IsOutsideRefusal, IsIngestFailed, IsIngestRefusal, IsRowsRefusal, IsStoreReopened, IsStoreReopenRefusal, IsStoreOpenRefusal, IsStoreCreateRefusal, IsDecidedByImage}
+use Rattle.archive_store.specs.Replays.{memory_state}
+use Rattle.archive_images.specs.Stands.{StandsFor}
 use Rattle.archive_store.specs.StoreView.{StoreView, AddsFault, archive_of}
-use Rattle.archive_store.proofs.Exact.{stands_once, stands_not_damaged, damaged_once, none_not_damaged, none_not_stands}
+use Rattle.archive_store.proofs.Ingesting.{added}
+use Rattle.archive_store.proofs.UnreadRows.{read_same, refusal_is_memory, told_in_memory}
+use Rattle.archive_images.proofs.Exact.{stands_once, stands_not_damaged, damaged_once, none_not_damaged, none_not_stands}
 
 -- what holds of the refusal that a `?` hands on
 pub passed_on : {T E : Type 0} (r : Result T E) (refusal : E) (P : E → Type 0) → IsErrAnd r (λ e. e ≡ refusal) → P refusal → IfErr r P
@@ -35,94 +43,54 @@ module _ {D : Type 0} (device : Device D) where
   -- rows that were not appended are those of a batch
   pub rows_refused : (old new : StoreView D) (rows fresh : List Row) (e : Refusal) → fresh ≡ fresh_of old.history rows → pending_fault_of old.fills ≡ None → fresh_of old.history rows ≢ []
       → IsBelowLimits old.exponent old.records old.history rows → IsRowsRefusal device old new fresh e → IsIngestRefusal device old new rows e
-  rows_refused old new rows fresh DiskFault is healed some_new below refusal = record { healed = healed; some_new = some_new; below = below; fault = subst (λ (l : List Row). AddsFault device old new true (Rows l)) is refusal }
-  rows_refused old new rows fresh OutOfMemory is healed some_new below refusal = (healed, refusal)
+  rows_refused old new rows fresh DiskFault is healed some_new below refusal = inl (record { healed = healed; fresh = fresh; some_new = λ none. some_new (sym is ∙ none); told = λ _. record { fresh_is = is; below = below }; fault = refusal })
+  rows_refused old new rows fresh OutOfMemory is healed some_new below refusal = (healed, inl refusal)
   rows_refused old new rows fresh _ is healed some_new below refusal = absurd refusal
 
-  -- an ingest is refused by one of four
+  -- rows in memory of which the batch wasn't classified
+  pub batch_unread : (store : StoreView D) (rows : List Row) (before after : List Item) (fault : RowFault) → pending_fault_of store.fills ≡ None → IsRowFault (memory_state before) (memory_state after) fault → IsIngestRefusal device store store rows (refusal_of_rows fault)
+  batch_unread store rows before after unread.DiskFault healed is = absurd (omega (arith, is))
+  batch_unread store rows before after (unread.Damaged file at) healed is = absurd cc
+  batch_unread store rows before after unread.OutOfMemory healed is = (healed, inl refl)
+
+  -- rows in memory are read unless memory is wanting
+  read_in_memory : (old new : StoreView D) (e : Refusal) → IsBatchUnread device old new e → (e ≡ OutOfMemory → ⊥) → ⊥
+  read_in_memory old new e is other = other (refusal_is_memory device old new e is.unread)
+
+  -- so an ingest is refused by one of four,
   pub ingest_cases : (old new : StoreView D) (rows : List Row) (P : Refusal → Type 0) (e : Refusal) → IsIngestRefusal device old new rows e
       → ((faults : ℕ) → IsIngestRefusal device old new rows (NeedsReopen faults) → P (NeedsReopen faults))
       → ((which : Which) (number : ℕ) → IsIngestRefusal device old new rows (Limit which number) → P (Limit which number))
-      → (IsIngestRefusal device old new rows DiskFault → P DiskFault)
+      → (IsIngestFailed device old new rows → P DiskFault)
       → (IsIngestRefusal device old new rows OutOfMemory → P OutOfMemory) → P e
-  ingest_cases old new rows P Usage is reopen limit fault memory = absurd is
-  ingest_cases old new rows P (Missing name) is reopen limit fault memory = absurd is
-  ingest_cases old new rows P ReadFault is reopen limit fault memory = absurd is
-  ingest_cases old new rows P WriteFault is reopen limit fault memory = absurd is
-  ingest_cases old new rows P (BadPacket at kind) is reopen limit fault memory = absurd is
-  ingest_cases old new rows P (BadSheet sheet row rule) is reopen limit fault memory = absurd is
-  ingest_cases old new rows P (BadSql at rule) is reopen limit fault memory = absurd is
-  ingest_cases old new rows P NoArchive is reopen limit fault memory = absurd is
-  ingest_cases old new rows P Exists is reopen limit fault memory = absurd is
-  ingest_cases old new rows P (Damaged file at) is reopen limit fault memory = absurd is
-  ingest_cases old new rows P DiskFault is reopen limit fault memory = fault is
+  ingest_cases old new rows P (Damaged file at) is reopen limit fault memory = absurd (read_in_memory old new (Damaged file at) is (λ same. cc))
+  ingest_cases old new rows P DiskFault (inl failed) reopen limit fault memory = fault failed
+  ingest_cases old new rows P DiskFault (inr unread) reopen limit fault memory = absurd (read_in_memory old new DiskFault unread (λ same. cc))
   ingest_cases old new rows P (NeedsReopen faults) is reopen limit fault memory = reopen faults is
-  ingest_cases old new rows P UnknownParameter is reopen limit fault memory = absurd is
-  ingest_cases old new rows P (BadRange from to) is reopen limit fault memory = absurd is
-  ingest_cases old new rows P (UnknownTable name) is reopen limit fault memory = absurd is
   ingest_cases old new rows P (Limit which number) is reopen limit fault memory = limit which number is
-  ingest_cases old new rows P (Mismatch interval parameter key stored replayed) is reopen limit fault memory = absurd is
-  ingest_cases old new rows P (Late interval) is reopen limit fault memory = absurd is
   ingest_cases old new rows P OutOfMemory is reopen limit fault memory = memory is
+  ingest_cases old new rows P _ is reopen limit fault memory = absurd is
 
-  -- it leaves the history
-  pub ingest_history : (old new : StoreView D) (rows : List Row) (e : Refusal) → IsIngestRefusal device old new rows e → new.history ≡ old.history
-  ingest_history old new rows e is =
-      ingest_cases old new rows (λ _. new.history ≡ old.history) e is (λ faults r. ap (λ (s : StoreView D). s.history) r.1) (λ which number r. ap (λ (s : StoreView D). s.history) r.1) (λ r. r.fault.history)
-      (λ r. ap (λ (s : StoreView D). s.history) r.1)
+  -- which holds the new rows of the batch,
+  pub failed_fault : (old new : StoreView D) (rows : List Row) → IsIngestFailed device old new rows → AddsFault device old new true (Rows (fresh_of old.history rows))
+  failed_fault old new rows failed = subst (λ (l : List Row). AddsFault device old new true (Rows l)) (failed.told (told_in_memory device old)).fresh_is failed.fault
 
-  -- the fills that are there,
-  pub ingest_filled : (old new : StoreView D) (rows : List Row) (e : Refusal) → IsIngestRefusal device old new rows e → new.filled ≡ old.filled
-  ingest_filled old new rows e is =
-      ingest_cases old new rows (λ _. new.filled ≡ old.filled) e is (λ faults r. ap (λ (s : StoreView D). s.filled) r.1) (λ which number r. ap (λ (s : StoreView D). s.filled) r.1) (λ r. r.fault.filled)
-      (λ r. ap (λ (s : StoreView D). s.filled) r.1)
+  -- as the history does once they came,
+  pub ingested_rows : (old new : StoreView D) (rows : List Row) (outcomes : List Inserted) → AreIngested device old new rows outcomes → new.history ≡ after_rows old.history rows
+  ingested_rows old new rows outcomes is = is.history ∙ added old.history rows is.fresh (is.told (told_in_memory device old)).fresh_is
 
-  -- and the number of records,
-  pub ingest_records : (old new : StoreView D) (rows : List Row) (e : Refusal) → IsIngestRefusal device old new rows e → new.records ≡ old.records
-  ingest_records old new rows e is =
-      ingest_cases old new rows (λ _. new.records ≡ old.records) e is (λ faults r. ap (λ (s : StoreView D). s.records) r.1) (λ which number r. ap (λ (s : StoreView D). s.records) r.1) (λ r. r.fault.records)
-      (λ r. ap (λ (s : StoreView D). s.records) r.1)
-
-  -- all else too but where the disk failed,
+  -- and leaves all but where a write failed,
   pub ingest_untouched : (old new : StoreView D) (rows : List Row) (e : Refusal) → IsIngestRefusal device old new rows e → (e ≡ DiskFault) ⊎ (new ≡ old)
-  ingest_untouched old new rows e is = ingest_cases old new rows (λ r. (r ≡ DiskFault) ⊎ (new ≡ old)) e is (λ faults r. inr r.1) (λ which number r. inr r.1) (λ r. inl refl) (λ r. inr r.1)
+  ingest_untouched old new rows e is =
+      ingest_cases old new rows (λ r. (r ≡ DiskFault) ⊎ (new ≡ old)) e is (λ faults r. inr r.1) (λ which number r. inr (read_same device old new r.2)) (λ r. inl refl) (λ r. inr (read_same device old new r.1))
 
-  -- which then leaves the new rows in a fault
-  pub ingest_fault : (old new : StoreView D) (rows : List Row) (e : Refusal) → IsIngestRefusal device old new rows e → e ≡ DiskFault → AddsFault device old new true (Rows (fresh_of old.history rows))
-  ingest_fault old new rows e is fault = (subst (IsIngestRefusal device old new rows) fault is).fault
-
-  -- a limit is named rightly, and only where rows are new
-  pub ingest_limit : (old new : StoreView D) (rows : List Row) (e : Refusal) (which : Which) (number : ℕ) → IsIngestRefusal device old new rows e → e ≡ Limit which number
-      → (number ≡ limit_of which) × IsLimit old.exponent which old.records (after_rows old.history rows)
-  ingest_limit old new rows e which number is limit = let passes = (subst (IsIngestRefusal device old new rows) limit is).0 in (passes.number_is, passes.first)
-
-  pub ingest_some : (old new : StoreView D) (rows : List Row) (e : Refusal) (which : Which) (number : ℕ) → IsIngestRefusal device old new rows e → e ≡ Limit which number → fresh_of old.history rows ≢ []
-  ingest_some old new rows e which number is limit = (subst (IsIngestRefusal device old new rows) limit is).0.some_new
-
-  -- where the disk was asked no limit is passed
-  pub ingest_below : (old new : StoreView D) (rows : List Row) (e : Refusal) → IsIngestRefusal device old new rows e → e ≡ DiskFault → IsBelowLimits old.exponent old.records old.history rows
-  ingest_below old new rows e is fault = (subst (IsIngestRefusal device old new rows) fault is).below
-
-  -- a batch without new rows changes nothing
-  pub ingest_no_call : (old new : StoreView D) (rows : List Row) (e : Refusal) → IsIngestRefusal device old new rows e → fresh_of old.history rows ≡ [] → new ≡ old
-  ingest_no_call old new rows e is none = ingest_cases old new rows (λ _. new ≡ old) e is (λ faults r. r.1) (λ which number r. r.1) (λ r. absurd (r.some_new none)) (λ r. r.1)
-
-  -- a reopen is asked for exactly where a failed write is pending
-  pub ingest_asks : (T : Type 0) (old new : StoreView D) (rows : List Row) (e : Refusal) → IsIngestRefusal device old new rows e → store_asks_reopen {T = T} (Err e) ≡ pending_fault_of old.fills
-  ingest_asks T old new rows e is =
-      ingest_cases old new rows (λ r. store_asks_reopen {T = T} (Err r) ≡ pending_fault_of old.fills) e is (λ faults r. sym r.0) (λ which number r. sym r.0.healed) (λ r. sym r.healed) (λ r. sym r.0)
-
-  -- each answer comes exactly where its cause is: a failed write that is pending,
-  pub ingest_asks_exactly : {T : Type 0} (old new : StoreView D) (rows : List Row) (result : Result T Refusal) → OnOk result (pending_fault_of old.fills ≡ None) → IfErr result (IsIngestRefusal device old new rows)
-      → store_asks_reopen result ≡ pending_fault_of old.fills
-  ingest_asks_exactly old new rows (Ok x) ok err = sym ok
-  ingest_asks_exactly {T = T} old new rows (Err e) ok err = ingest_asks T old new rows e err
-
-  -- or a limit that is passed: else none is, or memory was wanting before it was looked for
-  pub ingest_below_exactly : {T : Type 0} (old new : StoreView D) (rows : List Row) (result : Result T Refusal) → OnOk result (IsBelowLimits old.exponent old.records old.history rows) → IfErr result (IsIngestRefusal device old new rows)
-      → MatchResult result (λ _. IsBelowLimits old.exponent old.records old.history rows) (λ e. e ≡ DiskFault → IsBelowLimits old.exponent old.records old.history rows)
-  ingest_below_exactly old new rows (Ok x) ok err = ok
-  ingest_below_exactly old new rows (Err e) ok err = λ fault. ingest_below old new rows e err fault
+  -- which then leaves rows in a fault
+  pub ingest_fault : (old new : StoreView D) (rows : List Row) (e : Refusal) → IsIngestRefusal device old new rows e → e ≡ DiskFault → (fresh : List Row) × AddsFault device old new true (Rows fresh)
+  ingest_fault old new rows e is fault = by (subst (IsIngestRefusal device old new rows) fault is)
+    where
+      by : IsIngestRefusal device old new rows DiskFault → (fresh : List Row) × AddsFault device old new true (Rows fresh)
+      by (inl failed) = (failed.fresh, failed.fault)
+      by (inr unread) = absurd (read_in_memory old new DiskFault unread (λ same. cc))
 
   -- ---- reopens
 

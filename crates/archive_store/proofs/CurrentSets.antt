@@ -25,13 +25,13 @@ use Rattle.param_segments.specs.Extracted.{IsSetOf}
 use Rattle.late_marks.specs.Mark.{is_late_by}
 use Rattle.std.proofs.lemmas.Bool.{false_from_ne_true}
 use Rattle.archive_store.specs.LateFills.{is_late_by_fill}
-use Rattle.archive_store.specs.declared.head.Head.{Head}
+use Rattle.archive_images.specs.declared.head.Head.{Head}
 use Rattle.archive_store.specs.CurrentSets.{IsCurrentSet}
-use Rattle.archive_store.specs.Entries.{IsArchivedRow, IsSoundArchive, filled_archive}
-use Rattle.archive_store.specs.Inside.{HoldsFills}
+use Rattle.archive_images.specs.Entries.{IsArchivedRow, IsSoundArchive, filled_archive}
+use Rattle.archive_reading.specs.PartialArchive.{HoldsFills}
 use Rattle.archive_store.specs.StoreView.{StoreView}
 use Rattle.intervals.specs.Interval.{HasClockTime}
-use Rattle.archive_store.proofs.Times.{stands_in_clock}
+use Rattle.archive_images.proofs.Times.{stands_in_clock}
 
 -- what holds whatever an option has holds of what it has
 pub if_any : {T : Type 0} (o : Option T) (P : Type 0) → P → IfSome o (λ _. P)

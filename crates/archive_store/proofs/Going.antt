@@ -4,7 +4,7 @@ use mathlib.Core.List.{IsPrefix}
 use Rattle.history_items.specs.declared.fills.Fill.{Fill}
 use Rattle.history_items.specs.declared.items.Item.{Item}
 use Rattle.archive_store.specs.StoreView.{StoreView, OnlyAppends}
-use Rattle.archive_store.proofs.PendingFaults.{prefix_self}
+use Rattle.archive_images.proofs.PendingFaults.{prefix_self}
 
 same_prefix : {A : Type 0} (old new : List A) → new ≡ old → IsPrefix old new
 same_prefix {A = A} old new is = subst (λ (l : List A). IsPrefix old l) (sym is) (prefix_self old)

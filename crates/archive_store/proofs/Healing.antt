@@ -13,17 +13,18 @@ use Rattle.disk_journal.specs.State.{HasOnDisk as JournalHasOnDisk}
 use Rattle.disk_journal.specs.State.{unhealed_fault, file_of}
 use Rattle.disk_journal.specs.declared.journal.Journal.{Journal}
 use Rattle.field_codec.specs.Spelling.{entry_octets}
-use Rattle.archive_store.specs.declared.head.Head.{Head}
+use Rattle.archive_images.specs.declared.head.Head.{Head}
 use Rattle.store_fills.specs.LastFills.{PlacedFills, fillings_in}
-use Rattle.archive_store.specs.Entries.{FilledArchive, archive, filled_archive, Applies}
-use Rattle.archive_store.specs.Images.{ArchiveInvariant, IsPlainLog}
+use Rattle.archive_images.specs.Entries.{FilledArchive, archive, filled_archive, Applies}
+use Rattle.archive_images.specs.Images.{ArchiveInvariant, IsPlainLog}
 use Rattle.archive_store.specs.Inside.{StoreInvariant}
 use Rattle.archive_store.specs.PlainLog.{IsSinceArchive}
-use Rattle.archive_store.specs.Unacknowledged.{IsUnacknowledged}
+use Rattle.archive_images.specs.Unacknowledged.{IsUnacknowledged}
 use Rattle.archive_store.specs.StoreView.{IsNow}
 use Rattle.archive_store.proofs.Kept.{unacknowledged_in_faults}
-use Rattle.archive_store.proofs.OneJournal as one
-use Rattle.archive_store.proofs.PlainLog.{PlainNow, plain_lower, now_for, found_whole, found_unacknowledged}
+use Rattle.archive_images.proofs.OneJournal as one
+use Rattle.archive_images.proofs.PlainImages.{plain_lower}
+use Rattle.archive_store.proofs.PlainLog.{PlainNow, now_for, found_whole, found_unacknowledged}
 
 module _ {D : Type 0} (device : Device D) where
   -- a crash during the call leaves what it might have left before

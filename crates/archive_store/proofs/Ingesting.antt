@@ -16,7 +16,7 @@ use Rattle.archive_store.specs.Limits.{IsBelowLimits}
 pub added : (history : List Item) (rows fresh : List Row) → fresh ≡ fresh_of history rows → history ++ items_of fresh ≡ after_rows history rows
 added history rows fresh is = ap (λ (l : List Row). history ++ items_of l) is ∙ sym (fresh_added history rows)
 
-no_row : (fresh : List Row) → length fresh ≡ 0 → fresh ≡ []
+pub no_row : (fresh : List Row) → length fresh ≡ 0 → fresh ≡ []
 no_row [] none = refl
 no_row (row ∷ fresh) none = absurd (omega (arith, none))
 

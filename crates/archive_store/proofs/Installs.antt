@@ -21,8 +21,8 @@ use Rattle.interval_fills.specs.Steps.{all_freed, freed}
 use Rattle.store_fills.specs.Built.{BuiltFill}
 use Rattle.archive_store.specs.Installs.{IsFillRefusal, IsAbandoned, IsInstallable, IsInstallRefusal}
 use Rattle.archive_store.specs.StoreView.{OnlyAppends, StoreView}
-use Rattle.archive_store.proofs.PendingFaults.{prefix_self}
-use Rattle.archive_store.proofs.RowsAlone.{never_database}
+use Rattle.archive_images.proofs.PendingFaults.{prefix_self}
+use Rattle.archive_images.proofs.RowsAlone.{never_database}
 
 -- ---- rows since a base
 

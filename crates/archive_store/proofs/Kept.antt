@@ -20,20 +20,21 @@ use Rattle.disk_journal.specs.State.{unhealed_fault, file_of, faults_of, IsSame}
 use Rattle.disk_journal.specs.declared.journal.Journal.{Journal}
 use Rattle.field_codec.specs.declared.entry.Entry.TheVariants as entries
 use Rattle.field_codec.specs.Spelling.{entry_octets}
-use Rattle.archive_store.specs.declared.head.Head.{Head}
+use Rattle.archive_images.specs.declared.head.Head.{Head}
 use Rattle.param_segments.specs.Rows.{SetRow}
 use Rattle.store_fills.specs.LastFills.{PlacedFills, fillings_in}
 use Rattle.store_fills.specs.Sound.{Fillings}
-use Rattle.archive_store.specs.Entries.{FilledArchive, IsSoundArchive, archive, filled_archive, AreAdmitted, Applies}
-use Rattle.archive_store.specs.Images.{IsPlainLog}
+use Rattle.archive_images.specs.Entries.{FilledArchive, IsSoundArchive, archive, filled_archive, AreAdmitted, Applies}
+use Rattle.archive_images.specs.Images.{IsPlainLog}
 use Rattle.archive_store.specs.Inside.{StoreInvariant}
 use Rattle.archive_store.specs.PlainLog.{IsSinceArchive}
-use Rattle.archive_store.specs.Unacknowledged.{IsUnacknowledged}
-use Rattle.archive_store.proofs.Archived.{more_archived}
-use Rattle.archive_store.proofs.OneJournal as one
-use Rattle.archive_store.proofs.PendingFaults.{prefix_self, prefix_more}
-use Rattle.archive_store.proofs.RowsAlone.{more_alone}
-use Rattle.archive_store.proofs.PlainLog.{StandsPlain, plain_lower, found_whole, found_with, found_on, rows_sound}
+use Rattle.archive_images.specs.Unacknowledged.{IsUnacknowledged}
+use Rattle.archive_images.proofs.Archived.{more_archived}
+use Rattle.archive_images.proofs.OneJournal as one
+use Rattle.archive_images.proofs.PendingFaults.{prefix_self, prefix_more}
+use Rattle.archive_images.proofs.RowsAlone.{more_alone}
+use Rattle.archive_images.proofs.PlainImages.{StandsPlain, plain_lower}
+use Rattle.archive_store.proofs.PlainLog.{found_whole, found_with, found_on, rows_sound}
 
 -- one fault more
 abbrev pub fault : ℕ → List Row → Fill

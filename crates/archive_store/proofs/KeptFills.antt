@@ -31,18 +31,19 @@ use Rattle.param_segments.specs.Rows.{SetRow}
 use Rattle.store_fills.specs.Filled.{IsRightFill}
 use Rattle.store_fills.specs.LastFills.{PlacedFills, fill_over, fillings_in}
 use Rattle.store_fills.specs.Sound.{Fillings, with_filling}
-use Rattle.archive_store.specs.declared.head.Head.{Head}
-use Rattle.archive_store.specs.Entries.{FilledArchive, IsSoundArchive, archive, filled_archive, Applies}
-use Rattle.archive_store.specs.Images.{ArchiveInvariant, IsPlainLog}
+use Rattle.archive_images.specs.declared.head.Head.{Head}
+use Rattle.archive_images.specs.Entries.{FilledArchive, IsSoundArchive, archive, filled_archive, Applies}
+use Rattle.archive_images.specs.Images.{ArchiveInvariant, IsPlainLog}
 use Rattle.archive_store.specs.Inside.{StoreInvariant, view_of}
 use Rattle.archive_store.specs.PlainLog.{IsSinceArchive}
-use Rattle.archive_store.specs.Unacknowledged.{IsFilledOnce, IsUnacknowledged}
-use Rattle.archive_store.specs.Stands.{HasRecordCount, StandsFilled}
+use Rattle.archive_images.specs.Unacknowledged.{IsFilledOnce, IsUnacknowledged}
+use Rattle.archive_images.specs.Stands.{HasRecordCount, StandsFilled}
 use Rattle.archive_store.specs.StoreView.{StoreView, filled_of}
 use Rattle.archive_store.proofs.Kept.{hand-append, healthy}
-use Rattle.archive_store.proofs.OneJournal as one
-use Rattle.archive_store.proofs.PendingFaults.{keeps_either, keeps_without_fault}
-use Rattle.archive_store.proofs.PlainLog.{StandsPlain, plain_lower, fill_sound, found_whole, stands_filled}
+use Rattle.archive_images.proofs.OneJournal as one
+use Rattle.archive_images.proofs.PendingFaults.{keeps_either, keeps_without_fault}
+use Rattle.archive_images.proofs.PlainImages.{StandsPlain, plain_lower, stands_filled}
+use Rattle.archive_store.proofs.PlainLog.{fill_sound, found_whole}
 
 -- the fault of a fill that wasn't written
 abbrev pub fill_fault : ℕ → Interval → ℕ → Fill

@@ -21,18 +21,19 @@ use Rattle.field_codec.specs.declared.entry.Entry.TheVariants as entries
 use Rattle.field_codec.specs.Entries.{IsArchiveEntry}
 use Rattle.intervals.specs.Interval.{format_1_exponent}
 use Rattle.field_codec.specs.Spelling.{entry_octets}
-use Rattle.archive_store.specs.declared.head.Head.{Head}
+use Rattle.archive_images.specs.declared.head.Head.{Head}
 use Rattle.param_segments.specs.Rows.{SetRow}
 use Rattle.store_fills.specs.LastFills.{PlacedFills, fillings_in}
 use Rattle.store_fills.specs.Sound.{Filling, Fillings, no_fillings}
-use Rattle.archive_store.specs.Entries.{FilledArchive, IsSoundArchive, filled_archive, HasArchivedRows, Replays}
-use Rattle.archive_store.specs.Stands.{IsSoundImage, StandsFilled}
+use Rattle.archive_images.specs.Entries.{FilledArchive, IsSoundArchive, filled_archive, HasArchivedRows, Replays}
+use Rattle.archive_images.specs.Stands.{IsSoundImage, StandsFilled}
 use Rattle.archive_store.specs.Calls.{IsCreateImage}
-use Rattle.archive_store.specs.PartialArchive.{IsReadArchive}
+use Rattle.archive_reading.specs.PartialArchive.{IsReadArchive}
 use Rattle.archive_store.specs.Inside.{StoreInvariant}
-use Rattle.archive_store.proofs.PendingFaults.{without_fault_state, keeps_without_fault, prefix_self}
-use Rattle.archive_store.proofs.Exact.{filled_once}
-use Rattle.archive_store.proofs.PlainLog.{StandsPlain, stands_over, found_whole}
+use Rattle.archive_images.proofs.PendingFaults.{without_fault_state, keeps_without_fault, prefix_self}
+use Rattle.archive_images.proofs.Exact.{filled_once}
+use Rattle.archive_images.proofs.PlainImages.{StandsPlain, stands_over}
+use Rattle.archive_store.proofs.PlainLog.{found_whole}
 
 pub stands_found : (image : Image) (content : List ℕ) (journal : Journal) (a : FilledArchive) → image 0 ≡ content → IsReadArchive content journal a → StandsFilled image a
 stands_found image content journal a is found = record { entries = found.entries; has = subst (λ (l : List ℕ). HasRecords l (map entry_octets found.entries)) (sym is) found.has; replays = found.replays }

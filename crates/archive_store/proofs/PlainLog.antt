@@ -1,5 +1,5 @@
 -- What the store keeps of images is the general form over one file.
-use Rattle.std.proofs.Common.{◌≡◌, ◌⊎◌, inl, inr, ⊎_elim, ℕ, List, [], ◌++◌, map, Option, Some, None, refl, sym, ◌∙◌, ap, subst}
+use Rattle.std.proofs.Common.{◌≡◌, ◌⊎◌, inl, inr, ⊎_elim, ℕ, List, ◌++◌, Option, Some, None, refl, sym, ◌∙◌, ap, subst}
 use Rattle.std.specs.Prelude.{IsTrue, Contains}
 use mathlib.Core.List.{IsPrefix}
 use Rattle.arch_disk.specs.Image.{Image}
@@ -12,7 +12,6 @@ use Rattle.history_items.specs.declared.fills.Addition.{Addition}
 use Rattle.history_items.specs.declared.fills.Addition.TheVariants as additions
 use Rattle.history_items.specs.declared.items.Item.{Item}
 use Rattle.history_items.specs.Items.{items_of}
-use Rattle.disk_journal.specs.Format.{HasRecords}
 use Rattle.disk_journal.specs.declared.journal.Journal.{Journal}
 use Rattle.field_codec.specs.Spelling.{entry_octets}
 use Rattle.param_segments.specs.Rows.{SetRow}
@@ -21,48 +20,23 @@ use Rattle.store_fills.specs.Filled.{IsRightFill}
 use Rattle.store_fills.specs.Sound.{Fillings, with_filling}
 use Rattle.store_fills.proofs.RightFills.{right_fill_leaves, rows_leave_right}
 use Rattle.arch_types.specs.declared.row.Row.{Row}
-use Rattle.archive_store.specs.declared.head.Head.{Head}
-use Rattle.archive_store.specs.Entries.{Archive, FilledArchive, IsSoundArchive, archive, filled_archive, Applies, Replays}
-use Rattle.archive_store.specs.Images.{IsSaidByLowerFiles, StandsOver, StandsForSome, StandsNow, IsPlainLog}
+use Rattle.archive_images.specs.declared.head.Head.{Head}
+use Rattle.archive_images.specs.Entries.{Archive, FilledArchive, IsSoundArchive, archive, filled_archive, Applies}
+use Rattle.archive_images.specs.Images.{StandsForSome, StandsNow, IsPlainLog}
 use Rattle.archive_store.specs.Inside.{StoreInvariant, view_of}
 use Rattle.archive_store.specs.PlainLog.{IsSinceArchive}
-use Rattle.archive_store.specs.Unacknowledged.{IsUnacknowledged}
-use Rattle.archive_store.specs.Stands.{IsSoundImage, StandsFilled, StandsFor}
+use Rattle.archive_images.specs.Unacknowledged.{IsUnacknowledged}
+use Rattle.archive_images.specs.Stands.{IsSoundImage, StandsFilled, StandsFor}
 use Rattle.archive_store.specs.StoreView.{CrashInvariant, IsNow, IsSince, StoreView, archive_of, filled_of}
-use Rattle.archive_store.proofs.Exact.{filled_once}
-use Rattle.archive_store.proofs.PendingFaults.{prefix_self}
-
--- the form over one file
-abbrev pub StandsPlain : Image → FilledArchive → Type 0
-StandsPlain c a = StandsOver entry_octets Applies IsPlainLog c a
+use Rattle.archive_images.proofs.Exact.{filled_once}
+use Rattle.archive_images.proofs.PlainImages.{StandsPlain, stands_filled, stands_unfilled, stands_for}
+use Rattle.archive_images.proofs.PendingFaults.{prefix_self}
 
 abbrev pub PlainNow : FilledArchive → Option Addition → Image → Type 0
 PlainNow now o c = StandsNow entry_octets Applies IsPlainLog now (IsUnacknowledged now o) c
 
 abbrev PlainSince : FilledArchive → Archive → List (List Item) → Image → Type 0
 PlainSince before now in_faults c = StandsForSome entry_octets Applies IsPlainLog (IsSinceArchive before now in_faults) c
-
--- the base of a plain log is said by no other file
-pub plain_lower : IsSaidByLowerFiles {A = FilledArchive} IsPlainLog
-plain_lower = λ c d log beginning base same has_base. has_base
-
--- an image stands for an archive in either form
-pub stands_over : (c : Image) (a : FilledArchive) → StandsFilled c a → StandsPlain c a
-stands_over c a s = record { log = 0; beginning = []; base = None; entries = s.entries; has_base = (refl, refl, refl); has = s.has; replays = s.replays }
-
-pub stands_filled : (c : Image) (a : FilledArchive) → StandsPlain c a → StandsFilled c a
-stands_filled c a s = record {
-  entries = s.entries;
-  has = subst (λ (l : List (List ℕ)). HasRecords (c 0) (l ++ map entry_octets s.entries)) s.has_base.1 (subst (λ (f : ℕ). HasRecords (c f) (s.beginning ++ map entry_octets s.entries)) s.has_base.0 s.has);
-  replays = subst (λ (o : Option FilledArchive). Replays o s.entries (Some a)) s.has_base.2 s.replays;
-}
-
--- whatever its fills are
-pub stands_unfilled : (c : Image) (a : FilledArchive) → StandsFilled c a → StandsFor c a.plain
-stands_unfilled c a s = record { filled = a; plain_is = refl; stands = s }
-
-pub stands_for : (c : Image) (a : FilledArchive) → StandsPlain c a → StandsFor c a.plain
-stands_for c a s = stands_unfilled c a (stands_filled c a s)
 
 -- ---- soundness
 

@@ -5,6 +5,7 @@ use Rattle.std.specs.Arc.{arc_value}
 use Rattle.std.specs.List.{AllByRecursion}
 use Rattle.std.proofs.lemmas.Bool.{false_from_ne_true}
 use Rattle.std.proofs.lemmas.Int.{ints}
+use Rattle.arch_disk.specs.Disk.{Device}
 use Rattle.intervals.specs.declared.interval.Interval.{Interval}
 use Rattle.arch_types.specs.declared.row.Row.{Row}
 use Rattle.arch_types.specs.Table.{is_in_time_range, range_of, table_of}
@@ -28,10 +29,11 @@ use Rattle.param_segments.specs.declared.plan.Plan.{Plan}
 use Rattle.param_segments.specs.Plans.{ArePartsOver, HasValuesOf, part_interval, rows_of_parts}
 use Rattle.store_fills.specs.LastFills.{fillings_in}
 use Rattle.store_fills.specs.Sound.{base_of_filling}
-use Rattle.archive_store.specs.Entries.{IsArchivedRow, IsSoundArchive}
+use Rattle.archive_images.specs.Entries.{IsArchivedRow, IsSoundArchive}
+use Rattle.archive_store.specs.Pages.{TellsRows}
 use Rattle.archive_store.specs.Plans.{IsPlan, IsPlanOver, IsPlanPart, IsRangeInterval, interval_of_part, is_late_of_range, late_rows_of_range, plan_intervals}
 use Rattle.archive_store.specs.StoreView.{StoreView, filled_of}
-use Rattle.archive_store.proofs.Archived.{all_filtered, all_more, range_archived}
+use Rattle.archive_images.proofs.Archived.{all_filtered, all_more}
 use Rattle.archive_store.proofs.CurrentSets.{current_holds, last_row, marked_last}
 
 -- ---- the intervals that are asked
@@ -63,36 +65,34 @@ intervals_push parts next part i rest is same = ap (λ (l : List Part). plan_int
 
 -- ---- what parts have
 
-module _ {D : Type 0} (store : StoreView D) where
-  pub plan_values : (parts : List Part) → AllByRecursion (IsPlanPart store) parts → AllByRecursion (HasValuesOf (database_in store.head.mdb store.history)) parts
+module _ {D : Type 0} (device : Device D) (store : StoreView D) where
+  pub plan_values : (parts : List Part) → AllByRecursion (IsPlanPart device store) parts → AllByRecursion (HasValuesOf (database_in store.head.mdb store.history)) parts
   plan_values [] all = tt
   plan_values (Set interval set ∷ parts) all = (all.0.fits.values, plan_values parts all.1)
   plan_values (Rows interval rows ∷ parts) all = (tt, plan_values parts all.1)
 
-  pub plan_archived : AllByRecursion (IsArchivedRow store.head store.history) (rows_in store.history) → (parts : List Part) → AllByRecursion (IsPlanPart store) parts → AllByRecursion (IsArchivedRow store.head store.history) (rows_of_parts parts)
-  plan_archived archived [] all = tt
-  plan_archived archived (Set interval set ∷ parts) all = plan_archived archived parts all.1
-  plan_archived archived (Rows interval rows ∷ parts) all =
-      let here = range_archived store.head store.history 0 (interval_start store.exponent interval) (interval_end store.exponent interval) (rows_in store.history) archived in
-      all_more (IsArchivedRow store.head store.history) rows (rows_of_parts parts) (subst (AllByRecursion (IsArchivedRow store.head store.history)) (sym all.0.1) here) (plan_archived archived parts all.1)
+  pub plan_archived : (parts : List Part) → AllByRecursion (IsPlanPart device store) parts → AllByRecursion (IsArchivedRow store.head store.history) (rows_of_parts parts)
+  plan_archived [] all = tt
+  plan_archived (Set interval set ∷ parts) all = plan_archived parts all.1
+  plan_archived (Rows interval rows ∷ parts) all = all_more (IsArchivedRow store.head store.history) rows (rows_of_parts parts) all.0.1 (plan_archived parts all.1)
 
-  -- each part is over the rows of its interval, where the fills are sound
-  parts_over : ((i : Interval) → base_in i store.fills ≡ base_of_filling (fillings_in store.filled) i) → IsSoundArchive (filled_of store) → (parts : List Part) → AllByRecursion (IsPlanPart store) parts → AllByRecursion (λ i. IsSome (last_in store.exponent i store.history)) (plan_intervals parts)
+  -- each part is over the rows of its interval, where the rows are told and the fills are sound
+  parts_over : TellsRows device store → ((i : Interval) → base_in i store.fills ≡ base_of_filling (fillings_in store.filled) i) → IsSoundArchive (filled_of store) → (parts : List Part) → AllByRecursion (IsPlanPart device store) parts → AllByRecursion (λ i. IsSome (last_in store.exponent i store.history)) (plan_intervals parts)
       → ArePartsOver (database_in store.head.mdb store.history) parts (rows_in_turn store.exponent (plan_intervals parts) store.history)
-  parts_over bases sound [] all have = refl
-  parts_over bases sound (Set interval set ∷ parts) all have = (
+  parts_over told bases sound [] all have = refl
+  parts_over told bases sound (Set interval set ∷ parts) all have = (
     rows_of_interval store.exponent interval store.history,
     rows_in_turn store.exponent (plan_intervals parts) store.history,
     refl,
     current_holds store.head store.exponent store.history store.fills store.filled interval all.0.base (arc_value set) bases all.0.filled all.0.current (last_row store.exponent store.history interval have.0) sound,
-    parts_over bases sound parts all.1 have.1,
+    parts_over told bases sound parts all.1 have.1,
   )
-  parts_over bases sound (Rows interval rows ∷ parts) all have = (
+  parts_over told bases sound (Rows interval rows ∷ parts) all have = (
     rows_of_interval store.exponent interval store.history,
     rows_in_turn store.exponent (plan_intervals parts) store.history,
     refl,
-    all.0.1,
-    parts_over bases sound parts all.1 have.1,
+    all.0.2 told,
+    parts_over told bases sound parts all.1 have.1,
   )
 
 -- ---- the rows of a range
@@ -116,12 +116,12 @@ turns_in_range exponent is low high history rising cover = go (int_lt low high) 
         let empty : high ≤ℤ low = grind (arith, ints, test) in
         none_in_range low high empty (rows_in_turn exponent is history) ∙ sym (none_in_range low high empty (table_of 0 (rows_in history)))
 
--- a plan is over the rows of its intervals, where the fills are sound
-pub planned_over : {D : Type 0} (store : StoreView D) (low high : ℤ) (plan : Plan) → ((i : Interval) → base_in i store.fills ≡ base_of_filling (fillings_in store.filled) i) → IsSoundArchive (filled_of store) → IsPlan store low high plan
+-- a plan is over the rows of its intervals, where the rows are told and the fills are sound
+pub planned_over : {D : Type 0} (device : Device D) (store : StoreView D) (low high : ℤ) (plan : Plan) → TellsRows device store → ((i : Interval) → base_in i store.fills ≡ base_of_filling (fillings_in store.filled) i) → IsSoundArchive (filled_of store) → IsPlan device store low high plan
     → IsPlanOver store.head store.history low high plan
-planned_over store low high plan bases sound planned = record {
+planned_over device store low high plan told bases sound planned = record {
   rows = rows_in_turn store.exponent (plan_intervals plan.parts) store.history;
-  over = parts_over store bases sound plan.parts planned.each (asked_have_rows store.exponent store.history low high (plan_intervals plan.parts) planned.meets);
+  over = parts_over device store told bases sound plan.parts planned.each (asked_have_rows store.exponent store.history low high (plan_intervals plan.parts) planned.meets);
   in_range = turns_in_range store.exponent (plan_intervals plan.parts) low high store.history planned.rising planned.cover;
 }
 
@@ -152,12 +152,12 @@ meets_is exponent low high i meets =
     less_is : (a b : ℤ) → a <ℤ b → int_lt a b ≡ true
     less_is a b less = grind (arith, ints, less)
 
-module _ {D : Type 0} (store : StoreView D) (low high : ℤ) where
+module _ {D : Type 0} (device : Device D) (store : StoreView D) (low high : ℤ) (told : TellsRows device store) where
   abbrev test : Interval → Bool
   test = is_late_of_range store.exponent store.history store.fills low high
 
   -- the rows that parts leave are those of their intervals that are late
-  rows_left : (parts : List Part) → AllByRecursion (IsPlanPart store) parts → AllByRecursion (IsRangeInterval store.exponent store.history low high) (plan_intervals parts)
+  rows_left : (parts : List Part) → AllByRecursion (IsPlanPart device store) parts → AllByRecursion (IsRangeInterval store.exponent store.history low high) (plan_intervals parts)
       → rows_of_parts parts ≡ rows_in_turn store.exponent (filter test (plan_intervals parts)) store.history
   rows_left [] all asked = refl
   rows_left (Set interval set ∷ parts) all asked =
@@ -169,10 +169,10 @@ module _ {D : Type 0} (store : StoreView D) (low high : ℤ) where
       let js = filter test (plan_intervals parts) in
       let late : is_late_in store.exponent interval store.history store.fills ≡ true = (late_by_last store.exponent interval store.history store.fills).1 all.0.0 in
       let passes : test interval ≡ true = ap (λ (b : Bool). b && meets_range store.exponent low high interval) late ∙ meets_is store.exponent low high interval asked.0.0 in
-      ap (λ (l : List Row). l ++ rows_of_parts parts) all.0.1 ∙ ap (λ (l : List Row). rows_of_interval store.exponent interval store.history ++ l) (rows_left parts all.1 asked.1)
+      ap (λ (l : List Row). l ++ rows_of_parts parts) (all.0.2 told) ∙ ap (λ (l : List Row). rows_of_interval store.exponent interval store.history ++ l) (rows_left parts all.1 asked.1)
       ∙ ap (λ (b : Bool). rows_in_turn store.exponent (cond b (interval ∷ js) js) store.history) (sym passes)
 
-  pub few_left : (plan : Plan) → IsPlan store low high plan → length (rows_of_parts plan.parts) ≤ length (late_rows_of_range store.exponent store.history store.fills low high)
+  pub few_left : (plan : Plan) → IsPlan device store low high plan → length (rows_of_parts plan.parts) ≤ length (late_rows_of_range store.exponent store.history store.fills low high)
   few_left plan planned =
       let is = plan_intervals plan.parts in
       let left = ap length (rows_left plan.parts planned.each planned.meets) in

@@ -25,8 +25,8 @@ use Rattle.replay_merge.proofs.Tied.{first_rows}
 use Rattle.history_items.specs.declared.items.Item.{Item}
 use Rattle.history_items.specs.Items.{rows_in}
 use Rattle.history_items.proofs.ItemLists.{rows_in-append}
-use Rattle.archive_store.specs.declared.head.Head.{Head}
-use Rattle.archive_store.specs.Entries.{IsArchivedRow}
+use Rattle.archive_images.specs.declared.head.Head.{Head}
+use Rattle.archive_images.specs.Entries.{IsArchivedRow}
 use Rattle.archive_store.specs.Replays.{IsNamedPartition, rows_below}
 
 -- ---- the rows below a front

@@ -14,13 +14,13 @@ use Rattle.history_items.proofs.FillLists.{noted_faults-append}
 use Rattle.interval_fills.specs.Steps.{freed, all_freed}
 use Rattle.disk_journal.specs.declared.journal.Journal.{Journal}
 use Rattle.field_codec.specs.Spelling.{entry_octets}
-use Rattle.archive_store.specs.declared.head.Head.{Head}
+use Rattle.archive_images.specs.declared.head.Head.{Head}
 use Rattle.store_fills.specs.LastFills.{PlacedFills, fillings_in}
-use Rattle.archive_store.specs.Entries.{FilledArchive, archive, filled_archive, Applies}
-use Rattle.archive_store.specs.Images.{ArchiveInvariant, IsPlainLog}
+use Rattle.archive_images.specs.Entries.{FilledArchive, archive, filled_archive, Applies}
+use Rattle.archive_images.specs.Images.{ArchiveInvariant, IsPlainLog}
 use Rattle.archive_store.specs.Inside.{StoreInvariant}
 use Rattle.archive_store.specs.PlainLog.{IsSinceArchive}
-use Rattle.archive_store.specs.Unacknowledged.{IsUnacknowledged}
+use Rattle.archive_images.specs.Unacknowledged.{IsUnacknowledged}
 use Rattle.archive_store.specs.StoreView.{StoreView}
 
 -- two fill lists tell the same of faults

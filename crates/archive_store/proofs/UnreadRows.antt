@@ -8,10 +8,17 @@ use Rattle.refusals.specs.declared.refusal.Refusal.{Refusal}
 use Rattle.refusals.specs.declared.refusal.Refusal.TheVariants as refused
 use Rattle.refusals.specs.Refusal.{refusal_of_rows}
 use Rattle.history_items.specs.declared.items.Item.{Item}
+use Rattle.store_fills.specs.declared.task.FillTask.{FillTask}
 use Rattle.replay_merge.specs.RowSource.{IsRowFault}
 use Rattle.archive_store.specs.UnreadRows.{IsLeftByAnswer, IsLeftByRead, IsLeftByRefusal, IsReadFault, IsReadRefusal, ReadsRows}
+use Rattle.archive_store.specs.Pages.{TellsRows}
 use Rattle.archive_store.specs.Replays.{memory_state}
 use Rattle.archive_store.specs.StoreView.{StoreView}
+use Rattle.archive_store.specs.Tasks.{BeginsTask}
+
+-- rows in memory are told
+pub told_in_memory : {D : Type 0} (device : Device D) (store : StoreView D) → TellsRows device store
+told_in_memory device store paged = absurd paged
 
 module _ {D : Type 0} (device : Device D) (old new : StoreView D) where
   -- ---- why
@@ -31,11 +38,14 @@ module _ {D : Type 0} (device : Device D) (old new : StoreView D) where
   memory_unread (Err e) is = subst (IsReadFault device old new) (sym is) tt
 
   -- rows in memory are refused for nothing else
+  pub fault_unread : (fault : RowFault) (before after : List Item) → IsRowFault (memory_state before) (memory_state after) fault → IsReadFault device old new fault
+  fault_unread DiskFault before after is = absurd (omega (arith, is))
+  fault_unread (Damaged file at) before after is = absurd cc
+  fault_unread OutOfMemory before after is = tt
+
   pub rows_unread : {X : Type 0} (r : Result X RowFault) (before after : List Item) → IfErr r (IsRowFault (memory_state before) (memory_state after)) → IfErr r (IsReadFault device old new)
   rows_unread (Ok x) before after is = tt
-  rows_unread (Err DiskFault) before after is = absurd (omega (arith, is))
-  rows_unread (Err (Damaged file at)) before after is = absurd cc
-  rows_unread (Err OutOfMemory) before after is = tt
+  rows_unread (Err fault) before after is = fault_unread fault before after is
 
   -- ---- what is left
 
@@ -43,6 +53,14 @@ module _ {D : Type 0} (device : Device D) (old new : StoreView D) where
   pub read_same : ReadsRows device old new → new ≡ old
   read_same (inl same) = same
   read_same (inr pages) = absurd pages.0.paged
+
+  -- but for the fill list, where a fill began
+  pub begun_same : (task : FillTask) → BeginsTask device old new task → new ≡ record old { fills = new.fills }
+  begun_same task begun = ap (λ (s : StoreView D). record s { fills = new.fills }) (reads_none (record new { fills = old.fills }) begun.reads)
+    where
+      reads_none : (store : StoreView D) → ReadsRows device old store → store ≡ old
+      reads_none store (inl same) = same
+      reads_none store (inr pages) = absurd pages.0.paged
 
   pub refusal_same : (refusal : Refusal) → IsLeftByRefusal device old new refusal → new ≡ old
   refusal_same refused.DiskFault left = absurd left.paged
@@ -65,6 +83,9 @@ module _ {D : Type 0} (device : Device D) (old new : StoreView D) where
   left_by_memory (Ok x) is same = inl same
   left_by_memory (Err refusal) is same = subst (IsLeftByRefusal device old new) (sym is) (inl same)
 
+  pub memory_left : (fault : RowFault) → IsReadFault device old new fault → new ≡ old → IsLeftByRefusal device old new (refusal_of_rows fault)
+  memory_left fault is same = subst (λ (f : RowFault). IsLeftByRefusal device old new (refusal_of_rows f)) (sym (unread_is_memory fault is)) (inl same)
+
   pub left_by_read : {X : Type 0} (answer : Result X RowFault) → IfErr answer (IsReadFault device old new) → new ≡ old → IsLeftByRead device old new answer
   left_by_read (Ok x) is same = inl same
-  left_by_read (Err fault) is same = subst (λ (f : RowFault). IsLeftByRefusal device old new (refusal_of_rows f)) (sym (unread_is_memory fault is)) (inl same)
+  left_by_read (Err fault) is same = memory_left fault is same

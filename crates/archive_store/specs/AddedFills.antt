@@ -10,7 +10,7 @@ use Rattle.param_segments.specs.Rows.{SetRow}
 use Rattle.store_fills.specs.Filled.{HoldsRows}
 use Rattle.store_fills.specs.LastFills.{fill_over}
 use Rattle.store_fills.specs.Sound.{Filling, Fillings}
-use Rattle.archive_store.specs.declared.head.Head.{Head}
+use Rattle.archive_images.specs.declared.head.Head.{Head}
 use Rattle.archive_store.specs.LateFills.{is_late_by_fill}
 
 -- the fill of an interval that was late by these fills: its base is one that a fill may have, and its set holds the

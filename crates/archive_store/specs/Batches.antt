@@ -9,7 +9,7 @@ use Rattle.refusals.specs.declared.refusal.Which.TheVariants.{Links, Tables}
 use Rattle.refusals.specs.Limits.{limit_of}
 use Rattle.history_items.specs.declared.items.Item.{Item}
 use Rattle.history_items.specs.Databases.{names_in}
-use Rattle.archive_store.specs.declared.head.Head.{Head}
+use Rattle.archive_images.specs.declared.head.Head.{Head}
 use Rattle.archive_store.specs.declared.batch.Arrival.{Arrival}
 use Rattle.archive_store.specs.declared.batch.Batch.{Batch}
 

@@ -1,5 +1,5 @@
 -- What the calls of a store answer, and what each answer leaves of the store and of its disk.
-use Rattle.std.specs.Prelude.{◌≡◌, ◌≢◌, ◌≤◌, ◌⊎◌, ℕ, ◌+◌, ◌++◌, List, [], length, map, true, IsTrue, None, Some, Result, Ok, Err, IsErrAnd, MatchResult}
+use Rattle.std.specs.Prelude.{◌≡◌, ◌≢◌, ◌≤◌, ◌⊎◌, ℕ, ◌+◌, ◌++◌, List, [], map, true, IsTrue, None, Some, Result, Ok, Err, IsErrAnd, MatchResult}
 use Rattle.std.specs.List.{AllByRecursion}
 use Rattle.arch_disk.specs.Image.{Image}
 use Rattle.arch_disk.specs.Disk.{Device, LeavesOnly, NoFault, NoWriteFailed, raised}
@@ -22,10 +22,12 @@ use Rattle.disk_journal.specs.Calls.{BeginsOpen, IsJournalCreateFailed, IsJourna
 use Rattle.disk_journal.specs.Format.{HasRecords, HoldsNone}
 use Rattle.store_fills.specs.LastFills.{fillings_in}
 use Rattle.store_fills.specs.Sound.{no_fillings}
-use Rattle.archive_store.specs.declared.head.Head.{Head}
-use Rattle.archive_store.specs.Entries.{Archive, FilledArchive, archive, dones_of, filled_archive}
-use Rattle.archive_store.specs.Stands.{HasRecordCount, IsSoundImage, StandsFilled, StandsFor, IsArchiveDamagedAt}
+use Rattle.archive_images.specs.declared.head.Head.{Head}
+use Rattle.archive_images.specs.Entries.{Archive, FilledArchive, archive, dones_of, filled_archive}
+use Rattle.archive_store.specs.Pages.{TellsRows}
+use Rattle.archive_images.specs.Stands.{HasRecordCount, IsSoundImage, StandsFilled, StandsFor, IsArchiveDamagedAt}
 use Rattle.archive_store.specs.StoreView.{StoreView, AddsFault, IsKeptWithFills, IsNow, archive_of, filled_of}
+use Rattle.archive_store.specs.UnreadRows.{IsLeftByRefusal, IsReadRefusal, ReadsRows}
 
 -- ---- crashes
 
@@ -60,24 +62,28 @@ CrashLeavesHead device before after head =
 
 -- ---- ingests
 
--- those of the rows whose key their table lacked stand behind the history, in one record more; without such rows
--- nothing changed
+-- what a store that tells its rows finds of a batch: these are its new rows, and no limit is passed with them
+pub record IsFreshBatch {D : Type 0} (old : StoreView D) (rows fresh : List Row) : Type 0 where
+  pub fresh_is : fresh ≡ fresh_of old.history rows
+  pub below : IsBelowLimits old.exponent old.records old.history rows
+
+-- the new rows stand behind the history, in one record more; without such rows nothing was written
 pub record AreIngested {D : Type 0} (device : Device D) (old new : StoreView D) (rows : List Row)
     (outcomes : List Inserted) : Type 0 where
   pub healed : pending_fault_of old.fills ≡ None
-  pub below : IsBelowLimits old.exponent old.records old.history rows
-  pub outcomes_are : outcomes ≡ outcomes_of old.history rows
-  pub history : new.history ≡ after_rows old.history rows
+  pub fresh : List Row
+  pub told : TellsRows device old → IsFreshBatch old rows fresh
+  pub outcomes_are : TellsRows device old → outcomes ≡ outcomes_of old.history rows
+  pub history : new.history ≡ old.history ++ items_of fresh
   pub fills : new.fills ≡ old.fills
   pub filled : new.filled ≡ old.filled
-  pub one_record : fresh_of old.history rows ≢ [] → new.records ≡ old.records + 1
-  pub no_call : fresh_of old.history rows ≡ [] → new ≡ old
+  pub one_record : fresh ≢ [] → new.records ≡ old.records + 1
+  pub no_write : fresh ≡ [] → ReadsRows device old new
   pub no_failed_write : NoWriteFailed device old.disk new.disk
   pub no_fault : NoFault device old.disk new.disk
 
 -- some rows are new, and this is the first limit that is passed with them
 pub record PassesLimit {D : Type 0} (old : StoreView D) (rows : List Row) (which : Which) (number : ℕ) : Type 0 where
-  pub healed : pending_fault_of old.fills ≡ None
   pub some_new : fresh_of old.history rows ≢ []
   pub number_is : number ≡ limit_of which
   pub first : IsLimit old.exponent which old.records (after_rows old.history rows)
@@ -85,16 +91,28 @@ pub record PassesLimit {D : Type 0} (old : StoreView D) (rows : List Row) (which
 -- the disk failed at the record of the new rows: one fault more holds these, and all else but the disk is as before
 pub record IsIngestFailed {D : Type 0} (device : Device D) (old new : StoreView D) (rows : List Row) : Type 0 where
   pub healed : pending_fault_of old.fills ≡ None
-  pub some_new : fresh_of old.history rows ≢ []
-  pub below : IsBelowLimits old.exponent old.records old.history rows
-  pub fault : AddsFault device old new true (Rows (fresh_of old.history rows))
+  pub fresh : List Row
+  pub some_new : fresh ≢ []
+  pub told : TellsRows device old → IsFreshBatch old rows fresh
+  pub fault : AddsFault device old new true (Rows fresh)
 
--- why a batch is refused, in the order in which it looks, and what that leaves
+-- what tells which rows are new wasn't read
+pub record IsBatchUnread {D : Type 0} (device : Device D) (old new : StoreView D) (refusal : Refusal) : Type 0 where
+  pub healed : pending_fault_of old.fills ≡ None
+  pub unread : IsReadRefusal device old new refusal
+  pub left : IsLeftByRefusal device old new refusal
+
+-- Why a batch is refused, in the order in which it looks, and what that leaves: NeedsReopen, rows that aren't read, the
+-- limits, want of memory, and then a failed write.
 abbrev pub IsIngestRefusal : {D : Type 0} → Device D → StoreView D → StoreView D → List Row → Refusal → Type 0
 IsIngestRefusal device old new rows (NeedsReopen faults) = (pending_fault_of old.fills ≡ Some faults) × (new ≡ old)
-IsIngestRefusal device old new rows (Limit which number) = PassesLimit old rows which number × (new ≡ old)
-IsIngestRefusal device old new rows DiskFault = IsIngestFailed device old new rows
-IsIngestRefusal device old new rows OutOfMemory = (pending_fault_of old.fills ≡ None) × (new ≡ old)
+IsIngestRefusal device old new rows (Damaged file at) = IsBatchUnread device old new (Damaged file at)
+IsIngestRefusal device old new rows (Limit which number) =
+    (pending_fault_of old.fills ≡ None) × (TellsRows device old → PassesLimit old rows which number)
+    × ReadsRows device old new
+IsIngestRefusal device old new rows OutOfMemory = (pending_fault_of old.fills ≡ None) × ReadsRows device old new
+IsIngestRefusal device old new rows DiskFault =
+    IsIngestFailed device old new rows ⊎ IsBatchUnread device old new DiskFault
 IsIngestRefusal device old new rows _ = ⊥
 
 -- the rows stand behind the history, in one record more

@@ -1,5 +1,5 @@
 -- The rows of a batch, classified as new ones and duplicates.
-use Rattle.std.specs.Prelude.{◌≡◌, ℕ, List, [], Bool, Option, Some, None, slice_get, true, false}
+use Rattle.std.specs.Prelude.{◌≡◌, ℕ, List, [], length, Bool, Option, Some, None, slice_get, true, false}
 use Rattle.std.specs.List.{list_any, AllByRecursion}
 use Rattle.std.specs.Ordering.{nat_cmp, ordering_then, is_gt}
 use Rattle.std.specs.declared.cmp.Ordering.{Ordering}
@@ -10,8 +10,10 @@ use Rattle.history_items.specs.declared.items.Item.{Item}
 use Rattle.history_items.specs.Items.{items_of, row_item}
 use Rattle.history_items.specs.Outcomes.{outcomes_of, fresh_of}
 use Rattle.archive_history.specs.History.{is_at_key}
+use Rattle.replay_merge.specs.RowSource.{RowSourceState}
 use Rattle.archive_store.specs.declared.classifying.ClassifiedBatch.{ClassifiedBatch}
 use Rattle.archive_store.specs.declared.classifying.TableKey.{TableKey}
+use Rattle.archive_store.specs.Replays.{rows_below}
 
 -- the table and key of a row
 abbrev pub table_key_of : Row → TableKey
@@ -36,6 +38,11 @@ abbrev pub IsFoundAt : List Row → TableKey → Option ℕ → Type 0
 IsFoundAt rows at (Some i) =
     (there : Row) × (slice_get rows i ≡ Some there) × (is_at_key at.table at.key (row_item there) ≡ true)
 IsFoundAt rows at None = list_any (is_at_key at.table at.key) (items_of rows) ≡ false
+
+-- a source tells the rows of items, of which there are so many
+pub record TellsItems (source : RowSourceState) (items : List Item) (count : ℕ) : Type 0 where
+  pub told : source.history ≡ Some (rows_below items)
+  pub all : count ≡ length items
 
 -- what became of rows that came to a history, and those of them that are new, with the last of their keys; their
 -- packets are octets

@@ -1,28 +1,23 @@
 -- What a store keeps of its fields.
-use Rattle.std.specs.Prelude.{◌≡◌, ℕ, IsTrue, List, [], Option, Some, length}
+use Rattle.std.specs.Prelude.{◌≡◌, ℕ, IsTrue, List, [], Option, Some}
 use Rattle.std.specs.List.{AllByRecursion}
 use mathlib.Core.List.{IsPrefix}
 use Rattle.arch_disk.specs.Disk.{Device}
-use Rattle.intervals.specs.declared.interval.Interval.{Interval}
-use Rattle.intervals.specs.Interval.{format_1_exponent}
 use Rattle.history_items.specs.declared.fills.Fill.{Fill}
 use Rattle.history_items.specs.declared.items.Item.{Item}
-use Rattle.history_items.specs.Items.{databases_in, prefix, rows_in}
-use Rattle.history_items.specs.Databases.{database_in}
-use Rattle.history_items.specs.Fills.{base_in, pending_fault_of}
+use Rattle.history_items.specs.Items.{databases_in, rows_in}
+use Rattle.history_items.specs.Fills.{pending_fault_of}
 use Rattle.disk_journal.specs.State.{unhealed_fault, count_of}
 use Rattle.disk_journal.specs.declared.journal.Journal.{Journal}
 use Rattle.field_codec.specs.declared.entry.Entry.TheVariants as kinds
 use Rattle.field_codec.specs.Entries.{IsArchiveEntry}
-use Rattle.param_segments.specs.Extracted.{IsSetOf}
 use Rattle.param_segments.specs.Rows.{SetRow}
 use Rattle.store_fills.specs.LastFills.{PlacedFills, fillings_in}
-use Rattle.store_fills.specs.Sound.{Filling, Fillings, base_of_filling}
-use Rattle.archive_history.specs.History.{HistoryView}
-use Rattle.archive_store.specs.declared.head.Head.{Head}
-use Rattle.archive_store.specs.Entries.{IsArchivedRow, IsSoundArchive, filled_archive}
+use Rattle.store_fills.specs.Sound.{Fillings}
+use Rattle.archive_images.specs.declared.head.Head.{Head}
+use Rattle.archive_images.specs.Entries.{IsArchivedRow, IsSoundArchive, filled_archive}
 use Rattle.archive_store.specs.PlainLog.{RowsInvariant}
-use Rattle.archive_store.specs.Stands.{StandsFilled}
+use Rattle.archive_images.specs.Stands.{StandsFilled}
 use Rattle.archive_store.specs.StoreView.{StoreView, FaultInvariant}
 
 -- what contracts see of a store: the disk now and as it was opened, the journal's records, the head, the exponent of
@@ -60,15 +55,3 @@ pub record StoreInvariant {D : Type 0} (device : Device D) (disk opened : D) (jo
   pub head_is : IsArchiveEntry (kinds.Head head.tables head.mdb)
   pub rows : AllByRecursion (IsArchivedRow head history) (rows_in history)
   pub alone : databases_in history ≡ []
-
--- the history has a table for each name of the head, and its intervals are those of the head's format
-abbrev pub IsHistoryOf : Head → HistoryView → Type 0
-IsHistoryOf head history = (history.tables ≡ length head.tables) × (history.exponent ≡ format_1_exponent)
-
--- The fill list and the fills that are there tell one base of each interval, and each set is one of its interval and of
--- the database that is in force below its base.
-pub record HoldsFills (head : Head) (exponent : ℕ) (history : List Item) (fills : List Fill) (filled : PlacedFills)
-    : Type 0 where
-  pub bases : (i : Interval) → base_in i fills ≡ base_of_filling (fillings_in filled) i
-  pub fits : (i : Interval) (f : Filling (List SetRow)) → fillings_in filled i ≡ Some f →
-      IsSetOf (database_in head.mdb (prefix f.base history)) exponent i.0 f.set

@@ -18,7 +18,7 @@ use Rattle.store_fills.specs.Built.{BuiltFill}
 use Rattle.store_fills.specs.Filled.{IsRightFill}
 use Rattle.store_fills.specs.LastFills.{fill_over, fillings_in}
 use Rattle.store_fills.specs.Sound.{with_filling}
-use Rattle.archive_store.specs.Entries.{FilledArchive, filled_archive}
+use Rattle.archive_images.specs.Entries.{FilledArchive, filled_archive}
 use Rattle.archive_store.specs.StoreView.{StoreView, AddsFault}
 use Rattle.archive_store.specs.Tasks.{machine_state}
 

@@ -12,8 +12,8 @@ use Rattle.history_items.specs.Items.{rows_in}
 use Rattle.archive_history.specs.Limits.{IsWithin}
 use Rattle.store_fills.specs.LastFills.{fillings_in}
 use Rattle.store_fills.specs.Sound.{base_of_filling}
-use Rattle.archive_store.specs.Entries.{IsArchivedRow, IsSoundArchive}
-use Rattle.archive_store.specs.Stands.{HasRecordCount, IsSoundImage}
+use Rattle.archive_images.specs.Entries.{IsArchivedRow, IsSoundArchive}
+use Rattle.archive_images.specs.Stands.{HasRecordCount, IsSoundImage}
 use Rattle.archive_store.specs.StoreView.{CrashInvariant, FaultInvariant, IsKeptWithFills, StoreView, filled_of}
 
 -- the journal's file has as many records as are counted, or, while a failed write is pending, one more

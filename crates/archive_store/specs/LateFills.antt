@@ -8,7 +8,7 @@ use Rattle.late_marks.specs.Mark.{is_late_by}
 use Rattle.param_segments.specs.Rows.{SetRow}
 use Rattle.store_fills.specs.Sound.{Fillings, base_of_filling}
 use Rattle.interval_walks.specs.Counts.{intervals_in}
-use Rattle.archive_store.specs.Entries.{FilledArchive}
+use Rattle.archive_images.specs.Entries.{FilledArchive}
 
 -- whether an interval is late by the base of its last fill
 abbrev pub is_late_by_fill : ℕ → List Item → Fillings (List SetRow) → Interval → Bool

@@ -7,10 +7,10 @@ use Rattle.history_items.specs.Fills.{rows_of_faults, unacknowledged_in}
 use Rattle.history_items.specs.declared.items.Item.{Item}
 use Rattle.disk_journal.specs.declared.journal.Journal.{Journal}
 use Rattle.field_codec.specs.Spelling.{entry_octets}
-use Rattle.archive_store.specs.Entries.{Archive, FilledArchive, IsSoundArchive, archive, Applies}
-use Rattle.archive_store.specs.Images.{ArchiveInvariant, IsPlainLog}
+use Rattle.archive_images.specs.Entries.{Archive, FilledArchive, IsSoundArchive, archive, Applies}
+use Rattle.archive_images.specs.Images.{ArchiveInvariant, IsPlainLog}
 use Rattle.archive_store.specs.StoreView.{StoreView, archive_of, filled_of}
-use Rattle.archive_store.specs.Unacknowledged.{IsUnacknowledged}
+use Rattle.archive_images.specs.Unacknowledged.{IsUnacknowledged}
 
 -- An archive of a prefix of the history that holds the history of the opening, or of such a prefix followed by the rows
 -- that one fault holds. Its fills are sound if those of the opening were.

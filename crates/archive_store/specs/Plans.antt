@@ -3,6 +3,7 @@ use Rattle.std.specs.Prelude.{◌≡◌, ◌<ℤ◌, ℕ, ℤ, List, Bool, ◌&&
 use Rattle.std.specs.List.{AllByRecursion}
 use Rattle.std.specs.Arc.{arc_value}
 use Rattle.intervals.specs.declared.interval.Interval.{Interval}
+use Rattle.arch_disk.specs.Disk.{Device}
 use Rattle.arch_types.specs.declared.row.Row.{Row}
 use Rattle.arch_types.specs.Table.{is_in_time_range, range_of, table_of}
 use Rattle.history_items.specs.declared.fills.Fill.{Fill}
@@ -17,17 +18,20 @@ use Rattle.param_segments.specs.declared.plan.Part.{Part}
 use Rattle.param_segments.specs.declared.plan.Part.TheVariants.{Rows, Set}
 use Rattle.param_segments.specs.declared.plan.Plan.{Plan}
 use Rattle.param_segments.specs.Plans.{ArePartsOver, part_interval, rows_of_parts}
-use Rattle.archive_store.specs.declared.head.Head.{Head}
+use Rattle.archive_images.specs.declared.head.Head.{Head}
 use Rattle.archive_store.specs.CurrentSets.{IsCurrentSet}
-use Rattle.archive_store.specs.Entries.{IsArchivedRow}
+use Rattle.archive_images.specs.Entries.{IsArchivedRow}
+use Rattle.archive_store.specs.Pages.{TellsRows}
 use Rattle.archive_store.specs.StoreView.{StoreView}
 
--- what a plan has of an interval: the set that stands for it, or, where it is late, its rows
-abbrev pub IsPlanPart : {D : Type 0} → StoreView D → Part → Type 0
-IsPlanPart store (Set interval set) = IsCurrentSet store interval (arc_value set)
-IsPlanPart store (Rows interval rows) =
+-- what a plan has of an interval: the set that stands for it, or, where it is late, rows of the archive, which are its
+-- own where the store tells its rows
+abbrev pub IsPlanPart : {D : Type 0} → Device D → StoreView D → Part → Type 0
+IsPlanPart device store (Set interval set) = IsCurrentSet store interval (arc_value set)
+IsPlanPart device store (Rows interval rows) =
     IsLate store.exponent interval store.history store.fills
-    × (rows ≡ rows_of_interval store.exponent interval store.history)
+    × AllByRecursion (IsArchivedRow store.head store.history) rows
+    × (TellsRows device store → rows ≡ rows_of_interval store.exponent interval store.history)
 
 -- the interval of a part
 abbrev pub interval_of_part : Part → Interval
@@ -45,11 +49,11 @@ IsRangeInterval exponent history low high interval =
 -- A part for each interval that has rows of `tm` and meets a range, the intervals rising, over the whole history, and
 -- the database in force. Each row that is left to extract is one that a store gives, also over a disk that isn't
 -- transparent.
-pub record IsPlan {D : Type 0} (store : StoreView D) (low high : ℤ) (plan : Plan) : Type 0 where
+pub record IsPlan {D : Type 0} (device : Device D) (store : StoreView D) (low high : ℤ) (plan : Plan) : Type 0 where
   pub front : plan.front ≡ length store.history
   pub mdb : arc_value plan.mdb ≡ database_in store.head.mdb store.history
   pub exponent : plan.exponent ≡ store.exponent
-  pub each : AllByRecursion (IsPlanPart store) plan.parts
+  pub each : AllByRecursion (IsPlanPart device store) plan.parts
   pub rising : IntervalsRise (plan_intervals plan.parts)
   pub meets : AllByRecursion (IsRangeInterval store.exponent store.history low high) (plan_intervals plan.parts)
   pub cover : low <ℤ high → CoverRange store.exponent (plan_intervals plan.parts) low high store.history

@@ -18,8 +18,8 @@ use Rattle.partitions.specs.Partitions.{AreRising}
 use Rattle.replay_merge.specs.Cursor.{CursorView, rest_of}
 use Rattle.replay_merge.specs.Replay.{replay_of}
 use Rattle.replay_merge.specs.RowSource.{RowSourceState}
-use Rattle.archive_store.specs.declared.head.Head.{Head}
-use Rattle.archive_store.specs.Entries.{IsArchivedRow}
+use Rattle.archive_images.specs.declared.head.Head.{Head}
+use Rattle.archive_images.specs.Entries.{IsArchivedRow}
 use Rattle.archive_store.specs.StoreView.{StoreView}
 
 -- ---- the store as a source of rows

@@ -8,11 +8,11 @@ use Rattle.history_items.specs.declared.fills.Addition.{Addition}
 use Rattle.history_items.specs.declared.fills.Fill.TheVariants.{Fault}
 use Rattle.history_items.specs.declared.items.Item.{Item}
 use Rattle.history_items.specs.Fills.{rows_of_faults, pending_fault_of, unacknowledged_in, Rising, above}
-use Rattle.archive_store.specs.declared.head.Head.{Head}
+use Rattle.archive_images.specs.declared.head.Head.{Head}
 use Rattle.store_fills.specs.LastFills.{PlacedFills, fillings_in}
-use Rattle.archive_store.specs.Entries.{Archive, FilledArchive, archive, filled_archive}
-use Rattle.archive_store.specs.Stands.{StandsFilled, StandsFor, IsSoundImage}
-use Rattle.archive_store.specs.Unacknowledged.{IsUnacknowledged}
+use Rattle.archive_images.specs.Entries.{Archive, FilledArchive, archive, filled_archive}
+use Rattle.archive_images.specs.Stands.{StandsFilled, StandsFor, IsSoundImage}
+use Rattle.archive_images.specs.Unacknowledged.{IsUnacknowledged}
 
 -- the history and the fill list, the fills that are there, the head, the exponent of the intervals, how many records
 -- the journal has, the disk, and the disk as it was at the opening

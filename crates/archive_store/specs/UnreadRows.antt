@@ -7,12 +7,9 @@ use Rattle.refusals.specs.declared.refusal.Refusal.{Refusal}
 use Rattle.refusals.specs.declared.refusal.Refusal.TheVariants as refused
 use Rattle.refusals.specs.Refusal.{refusal_of_rows}
 use Rattle.history_items.specs.declared.fills.Addition.TheVariants.{Nothing}
+use Rattle.archive_store.specs.Pages.{HasPages}
 use Rattle.archive_store.specs.Replays.{source_state}
 use Rattle.archive_store.specs.StoreView.{AddsFault, StoreView}
-
--- rows of a store stand on pages of its disk: none does yet, all stand in memory
-abbrev pub HasPages : {D : Type 0} → StoreView D → Type 0
-HasPages store = ⊥
 
 -- ---- why rows aren't read
 

@@ -1,12 +1,12 @@
 //! What is new in a batch.
 
-ghost use Rattle.std.specs.Prelude.{◌≡◌, ◌<◌, ◌++◌, [], ◌∷◌, List, IfOk, OnOk};
-ghost use Rattle.std.specs.List.{AllByRecursion};
+ghost use Rattle.std.specs.Prelude.{◌≡◌, ◌≤◌, ◌^◌, ◌++◌, [], ◌∷◌, List, IfErr, IfOk, IfSome, OnOk};
 ghost use Rattle.arch_types.specs.declared.row.Row.{Row as ARow};
-ghost use Rattle.arch_types.specs.History.{IsHistory};
-ghost use Rattle.history_items.specs.Items.{items_of, rows_in};
+ghost use Rattle.history_items.specs.declared.items.Item.{Item as AnItem};
+ghost use Rattle.history_items.specs.Items.{items_of};
 ghost use Rattle.history_items.specs.Outcomes.{Says};
-ghost use Rattle.archive_store.specs.Classifying.{IsClassified, IsFoundAt, NoneAbove, is_above, table_key_of};
+ghost use Rattle.replay_merge.specs.RowSource.{AreRowSourceHistories, IsRowFault, UsedRowSource};
+ghost use Rattle.archive_store.specs.Classifying.{IsClassified, IsFoundAt, NoneAbove, TellsItems, is_above, table_key_of};
 ghost use Rattle.archive_store.specs.Batches.{arrival_rows, batch_rows, in_table};
 
 use crate::batch::{Arrival, Batch};
@@ -14,7 +14,8 @@ use crate::filling::no_rows;
 use arch_types::inserted::{Inserted, Outcomes};
 use arch_types::key::Key;
 use arch_types::row::{Row, Rows};
-use archive_history::history::History;
+use arch_types::row_fault::RowFault;
+use replay_merge::row_source::RowSource;
 use std::alloc::{AllocError, Global};
 
 /// A key in a table. Rows mostly come in this order: keys rise from packet to packet, and a packet's tables rise.
@@ -78,23 +79,30 @@ fn fresh_place(classified: &ClassifiedBatch, at: TableKey) -> Option<usize>
     place_of(classified.fresh.as_slice(), at)
 }
 
-/// What becomes of the row of that table and key.
-fn outcome(history: &History, classified: &ClassifiedBatch, at: TableKey) -> Inserted
-    requires table { at.table < history.now.tables }
+/// What becomes of the row of that table and key, behind so many items of a history.
+fn outcome<R: RowSource>(
+    alloc: Global,
+    source: &mut R,
+    classified: &ClassifiedBatch,
+    at: TableKey,
+    known: u64,
+) -> Result<Inserted, RowFault>
+    requires few { known ≤ 2 ^ 32 }
     requires last { NoneAbove classified.now.last classified.now.fresh }
-    ensures says { (row : ARow) → table_key_of row ≡ at →
-        Says (history.now.items ++ items_of classified.now.fresh) row result }
-    ensures history { IsHistory (rows_in history.now.items) }
+    ensures says { IfOk result (λ outcome. (items : List AnItem) (row : ARow) →
+        TellsItems (R.state source.old) items known → table_key_of row ≡ at →
+        Says (items ++ items_of classified.now.fresh) row outcome) }
+    ensures history { IfSome (R.state source.old).history AreRowSourceHistories }
+    ensures refused { IfErr result (IsRowFault (R.state source.old) (R.state source.new)) }
+    ensures source { UsedRowSource (R.state source.old) (R.state source.new) }
 {
-    let known = history.len();
-    let fresh = classified.fresh.as_slice().len();
-    match history.position(at.table, at.key) {
-        Some(position) => return Inserted::Duplicate(position),
-        None => {}
+    if let Some(position) = source.position(alloc, at.table, at.key)? {
+        return Ok(Inserted::Duplicate(position));
     }
+    let fresh = classified.fresh.as_slice().len();
     match fresh_place(classified, at) {
-        Some(i) => Inserted::Duplicate((known + i) as u64),
-        None => Inserted::New((known + fresh) as u64),
+        Some(i) => Ok(Inserted::Duplicate(known + i as u64)),
+        None => Ok(Inserted::New(known + fresh as u64)),
     }
 }
 
@@ -122,46 +130,59 @@ fn copy_in(row: &Row, table: u8) -> Result<Row, AllocError>
 }
 
 /// One row more, as one of a table, whichever it names itself.
-fn classify_row(
-    history: &History,
+fn classify_row<R: RowSource>(
+    alloc: Global,
+    source: &mut R,
     classified: &mut ClassifiedBatch,
     row: &Row,
     table: u8,
-) -> Result<(), AllocError>
-    requires table { table < history.now.tables }
-    requires classified { (rows : List ARow) × IsClassified history.now.items rows classified.old }
-    ensures { (rows : List ARow) → IsClassified history.now.items rows classified.old →
-        OnOk result (IsClassified history.now.items (rows ++ in_table row.now table ∷ []) classified.new) }
+    known: u64,
+) -> Result<(), RowFault>
+    requires few { known ≤ 2 ^ 32 }
+    requires last { NoneAbove classified.old.last classified.old.fresh }
+    ensures classified { (items : List AnItem) (rows : List ARow) → TellsItems (R.state source.old) items known →
+        IsClassified items rows classified.old →
+        OnOk result (IsClassified items (rows ++ in_table row.now table ∷ []) classified.new) }
+    ensures last { OnOk result (NoneAbove classified.new.last classified.new.fresh) }
+    ensures refused { IfErr result (IsRowFault (R.state source.old) (R.state source.new)) }
+    ensures source { UsedRowSource (R.state source.old) (R.state source.new) }
 {
     row.packet.is_octets();
     let at = TableKey {
         key: row.key,
         table,
     };
-    let outcome = outcome(history, classified, at);
+    let outcome = outcome(alloc, source, classified, at, known)?;
     classified.outcomes.push(outcome)?;
     match outcome {
         Inserted::Duplicate(_) => Ok(()),
         Inserted::New(_) => {
             let fresh = copy_in(row, table)?;
-            keep(classified, fresh)
+            keep(classified, fresh)?;
+            Ok(())
         }
     }
 }
 
 /// One arrival more, in each of its tables.
-fn classify_arrival(
-    history: &History,
+fn classify_arrival<R: RowSource>(
+    alloc: Global,
+    source: &mut R,
     classified: &mut ClassifiedBatch,
     arrival: &Arrival,
-) -> Result<(), AllocError>
-    requires tables { AllByRecursion (λ table. table < history.now.tables) arrival.now.tables }
-    requires classified { (rows : List ARow) × IsClassified history.now.items rows classified.old }
-    ensures { (rows : List ARow) → IsClassified history.now.items rows classified.old →
-        OnOk result (IsClassified history.now.items (rows ++ arrival_rows arrival.now) classified.new) }
+    known: u64,
+) -> Result<(), RowFault>
+    requires few { known ≤ 2 ^ 32 }
+    requires last { NoneAbove classified.old.last classified.old.fresh }
+    ensures classified { (items : List AnItem) (rows : List ARow) → TellsItems (R.state source.old) items known →
+        IsClassified items rows classified.old →
+        OnOk result (IsClassified items (rows ++ arrival_rows arrival.now) classified.new) }
+    ensures last { OnOk result (NoneAbove classified.new.last classified.new.fresh) }
+    ensures refused { IfErr result (IsRowFault (R.state source.old) (R.state source.new)) }
+    ensures source { UsedRowSource (R.state source.old) (R.state source.new) }
 {
     for table in arrival.tables.as_slice() {
-        classify_row(history, classified, &arrival.row, *table)?;
+        classify_row(alloc, source, classified, &arrival.row, *table, known)?;
     }
     Ok(())
 }
@@ -173,16 +194,19 @@ fn no_outcomes(alloc: Global, count: usize) -> Result<Outcomes, AllocError>
     Ok(Outcomes::from_vec(Vec::with_capacity(alloc, count)?))
 }
 
-/// What becomes of the rows of a batch, and those of them that are new. There is room for a row of each arrival, as
-/// mostly each goes into one table.
-pub(crate) fn classify(
+/// What becomes of the rows of a batch that comes behind so many items of a history, and those of them that are new. There is
+/// room for a row of each arrival, as mostly each goes into one table.
+pub(crate) fn classify<R: RowSource>(
     alloc: Global,
-    history: &History,
+    source: &mut R,
     batch: &Batch,
-) -> Result<ClassifiedBatch, AllocError>
-    requires { AllByRecursion (λ arrival. AllByRecursion (λ table. table < history.now.tables) arrival.tables)
-        batch.now.arrivals }
-    ensures { IfOk result (λ classified. IsClassified history.now.items (batch_rows batch.now) classified) }
+    known: u64,
+) -> Result<ClassifiedBatch, RowFault>
+    requires { known ≤ 2 ^ 32 }
+    ensures classified { IfOk result (λ classified. (items : List AnItem) → TellsItems (R.state source.old) items known →
+        IsClassified items (batch_rows batch.now) classified) }
+    ensures refused { IfErr result (IsRowFault (R.state source.old) (R.state source.new)) }
+    ensures source { UsedRowSource (R.state source.old) (R.state source.new) }
 {
     let count = batch.arrivals.as_slice().len();
     let mut classified = ClassifiedBatch {
@@ -191,7 +215,7 @@ pub(crate) fn classify(
         last: None,
     };
     for arrival in batch.arrivals.as_slice() {
-        classify_arrival(history, &mut classified, arrival)?;
+        classify_arrival(alloc, source, &mut classified, arrival, known)?;
     }
     Ok(classified)
 }

@@ -2,25 +2,29 @@
 
 ghost use Rattle.std.specs.Prelude.{◌≡◌, ◌↔◌, ◌<◌, ◌≤◌, [], ◌∷◌, ◌++◌, length, IfOk, IfErr, IfSome, OnErr, OnOk, IsTrue};
 ghost use Rattle.std.specs.Arc.{arc_value};
+ghost use Rattle.std.specs.List.{AllByRecursion};
+ghost use Rattle.arch_types.specs.Table.{range_of};
 ghost use Rattle.history_items.specs.Late.{IsLate};
 ghost use Rattle.history_items.specs.declared.fills.Fill.TheVariants as noted;
-ghost use Rattle.interval_fills.specs.Intervals.{rows_of_interval};
 ghost use Rattle.intervals.specs.Interval.{interval_end, interval_start, HasClockTime};
 ghost use Rattle.interval_fills.specs.Steps.{all_freed, freed};
+ghost use Rattle.replay_merge.specs.RowSource.{IsRowFault, UsedRowSource};
 ghost use Rattle.store_fills.specs.Built.{IsTaskRows};
 
+use crate::history_source::HistorySource;
 use crate::store::Store;
 use arch_disk::Disk;
 use arch_types::row::Rows;
-use archive_history::history::History;
+use arch_types::row_fault::RowFault;
+use archive_history::history::TM;
 use fill_tracker::FillTracker;
-use intervals::Interval;
+use intervals::{Exponent, Interval};
 use mdb_model::Mdb;
 use refusals::Refusal;
+use replay_merge::row_source::RowSource;
 use std::alloc::{AllocError, Global};
 use std::sync::Arc;
 use store_fills::FillTask;
-use yarch_table::rows::TableRows;
 
 /// No row, with room for so many.
 pub(crate) fn no_rows(alloc: Global, count: usize) -> Result<Rows, AllocError>
@@ -29,59 +33,57 @@ pub(crate) fn no_rows(alloc: Global, count: usize) -> Result<Rows, AllocError>
     Ok(Rows::from_vec(Vec::with_capacity(alloc, count)?))
 }
 
-/// Copies of rows, which share their packets. So many are expected.
-fn copies_of(alloc: Global, rows: TableRows<'_>, count: usize) -> Result<Rows, AllocError>
-    ensures { IfOk result (λ copies. copies ≡ rows.entry) }
-{
-    let mut copies = no_rows(alloc, count)?;
-    for row in rows {
-        copies.push(row.copy()?)?;
-    }
-    Ok(copies)
-}
-
-/// The rows of table `tm` in an interval, in the order of their keys.
-pub(crate) fn rows_of(
+/// The rows of table `tm` in an interval with a position below a front, in the order of their keys.
+pub(crate) fn rows_of<R: RowSource>(
     alloc: Global,
-    history: &History,
+    source: &mut R,
+    exponent: Exponent,
     interval: Interval,
-) -> Result<Rows, AllocError>
-    requires tables { 0 < history.now.tables }
-    requires interval { HasClockTime history.now.exponent interval }
-    ensures { IfOk result (λ rows. rows ≡ rows_of_interval history.now.exponent interval history.now.items) }
+    front: u64,
+) -> Result<Rows, RowFault>
+    requires { HasClockTime exponent interval }
+    ensures told { IfOk result (λ rows. IfSome (R.state source.old).history (λ history.
+        rows ≡ range_of 0 (interval_start exponent interval) (interval_end exponent interval) (history front))) }
+    ensures given { IfOk result (AllByRecursion (R.state source.old).may_give) }
+    ensures in_order { IfOk result (IsTaskRows exponent interval) }
+    ensures refused { IfErr result (IsRowFault (R.state source.old) (R.state source.new)) }
+    ensures source { UsedRowSource (R.state source.old) (R.state source.new) }
 {
-    let exponent = history.exponent();
-    copies_of(
+    source.range(
         alloc,
-        history.range(interval.start_at(exponent), interval.end_at(exponent)),
-        history.interval_len(interval) as usize,
+        TM,
+        interval.start_at(exponent),
+        interval.end_at(exponent),
+        front,
     )
 }
 
-/// Takes all memory that a fill of an interval over a history needs to begin and to end, and makes its task.
-fn prepare_task(
+/// Takes all memory that a fill of an interval over the rows below a front needs to begin and to end, and makes its task.
+fn prepare_task<R: RowSource>(
     alloc: Global,
-    history: &History,
+    source: &mut R,
     mdb: &Arc<Mdb, Global>,
     tracker: &mut FillTracker,
+    exponent: Exponent,
     interval: Interval,
-) -> Result<FillTask, AllocError>
-    requires tables { 0 < history.now.tables }
-    requires interval { HasClockTime history.now.exponent interval }
-    ensures at { IfOk result (λ task. (task.interval ≡ interval) × (task.base ≡ length history.now.items)) }
-    ensures exponent { IfOk result (λ task. task.exponent ≡ history.now.exponent) }
-    ensures rows { IfOk result (λ task. task.rows ≡ rows_of_interval history.now.exponent interval history.now.items) }
+    front: u64,
+) -> Result<FillTask, RowFault>
+    requires { HasClockTime exponent interval }
+    ensures at { IfOk result (λ task. (task.interval ≡ interval) × (task.base ≡ front) × (task.exponent ≡ exponent)) }
+    ensures told { IfOk result (λ task. IfSome (R.state source.old).history (λ history.
+        task.rows ≡ range_of 0 (interval_start exponent interval) (interval_end exponent interval) (history front))) }
     ensures in_order { IfOk result (λ task. IsTaskRows task.exponent task.interval task.rows) }
     ensures mdb { IfOk result (λ task. arc_value task.mdb ≡ arc_value mdb.now) }
     ensures room { OnOk result ((2 ≤ tracker.new.room) × (1 ≤ tracker.new.flight_room)) }
     ensures same { (tracker.new.fills ≡ tracker.old.fills) × (tracker.new.marks ≡ tracker.old.marks) }
+    ensures refused { IfErr result (IsRowFault (R.state source.old) (R.state source.new)) }
 {
     tracker.reserve_flight()?;
     Ok(FillTask {
         interval,
-        exponent: history.exponent(),
-        base: history.len() as u64,
-        rows: rows_of(alloc, history, interval)?,
+        exponent,
+        base: front,
+        rows: rows_of(alloc, source, exponent, interval, front)?,
         mdb: Arc::try_clone(mdb)?,
     })
 }
@@ -101,7 +103,7 @@ impl<D: Disk> Store<D> {
     /// Begins a fill of the least late interval that isn't in flight. A place for the flight's end is kept from here.
     pub fn begin(&mut self, alloc: Global) -> Result<Option<FillTask>, Refusal>
         // Ok: the task of that interval, over the whole history; none, where each late interval is in flight.
-        ensures begun { IfOk result (IsFillBegun self.old self.new) }
+        ensures begun { IfOk result (IsFillBegun D.device self.old self.new) }
 
         // Its rows are in the order of their keys, no key twice, in the interval, whatever the disk tells.
         ensures in_order { IfOk result (λ begun. IfSome begun (λ task.
@@ -115,10 +117,16 @@ impl<D: Disk> Store<D> {
         let Some(interval) = self.tracker.next() else {
             return Ok(None);
         };
-        let prepared = prepare_task(alloc, &self.history, &self.mdb, &mut self.tracker, interval);
-        let Ok(task) = prepared else {
-            return Err(Refusal::OutOfMemory);
-        };
+        let mut source = HistorySource::of(&self.head, &self.history);
+        let task = prepare_task(
+            alloc,
+            &mut source,
+            &self.mdb,
+            &mut self.tracker,
+            self.history.exponent(),
+            interval,
+            self.history.len() as u64,
+        )?;
         self.tracker.begin(interval, task.base);
         Ok(Some(task))
     }

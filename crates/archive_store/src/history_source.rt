@@ -1,17 +1,20 @@
 //! The rows of a store as a source of replays.
 
-ghost use Rattle.std.specs.Prelude.{◌≡◌};
+ghost use Rattle.std.specs.Prelude.{◌≡◌, IfOk};
+ghost use Rattle.archive_store.specs.Replays.{IsStoredHistory};
 
-use crate::head::Head;
 use crate::store::Store;
 use arch_disk::Disk;
+use arch_types::key::Key;
 use arch_types::row::Rows;
 use arch_types::row_fault::RowFault;
 use archive_history::history::History;
+use archive_images::Head;
 use partitions::partition::Partition;
 use replay_merge::row_source::RowSource;
-use std::alloc::Global;
+use std::alloc::{AllocError, Global};
 use std::marker::Model;
+use yarch_table::rows::TableRows;
 
 /// The rows of a history in memory. It only borrows them, so that whoever reads them changes nothing of their store.
 #[derive(Drop)]
@@ -30,6 +33,27 @@ impl<'a> Model for HistorySource<'a> {
     ghost view = { λ s. s.history.now.items };
 
     ghost invariant = { λ s. IsStoredHistory s.head.now s.history.now };
+}
+
+/// Copies of rows, which share their packets.
+fn copies_of(alloc: Global, rows: TableRows<'_>) -> Result<Rows, AllocError>
+    ensures { IfOk result (λ copies. copies ≡ rows.entry) }
+{
+    let mut copies = Rows::new(alloc);
+    for row in rows {
+        copies.push(row.copy()?)?;
+    }
+    Ok(copies)
+}
+
+impl<'a> HistorySource<'a> {
+    /// The rows of a history with a table for each name of the head.
+    pub(crate) fn of(head: &'a Head, history: &'a History) -> Self
+        requires { IsStoredHistory head.now history.now }
+        ensures { result ≡ history.now.items }
+    {
+        HistorySource { head, history }
+    }
 }
 
 impl<'a> RowSource for HistorySource<'a> {
@@ -71,6 +95,31 @@ impl<'a> RowSource for HistorySource<'a> {
                 .rows_between(alloc, table, parts, from, to, front)?,
         )
     }
+
+    /// Likewise, by the index of keys.
+    fn range(
+        &mut self,
+        alloc: Global,
+        table: u8,
+        from: i64,
+        to: i64,
+        front: u64,
+    ) -> Result<Rows, RowFault> {
+        self.history.is_kept();
+        if table as usize >= self.head.tables.as_slice().len() {
+            return Ok(Rows::new(alloc));
+        }
+        Ok(copies_of(alloc, self.history.range_at(table, front, from, to))?)
+    }
+
+    /// None of a table that the head doesn't have. Never refused.
+    fn position(&mut self, _alloc: Global, table: u8, key: Key) -> Result<Option<u64>, RowFault> {
+        self.history.is_kept();
+        if table as usize >= self.head.tables.as_slice().len() {
+            return Ok(None);
+        }
+        Ok(self.history.position(table, key))
+    }
 }
 
 impl<D: Disk> Store<D> {
@@ -79,10 +128,7 @@ impl<D: Disk> Store<D> {
     pub fn source(&self) -> HistorySource<'_>
         ensures { result ≡ self.now.history }
     {
-        HistorySource {
-            head: &self.head,
-            history: &self.history,
-        }
+        HistorySource::of(&self.head, &self.history)
     }
 }
 
@@ -115,5 +161,24 @@ impl<D: Disk> RowSource for Store<D> {
     ) -> Result<Rows, RowFault> {
         let mut source = self.source();
         source.rows_between(alloc, table, parts, from, to, front)
+    }
+
+    /// Likewise.
+    fn range(
+        &mut self,
+        alloc: Global,
+        table: u8,
+        from: i64,
+        to: i64,
+        front: u64,
+    ) -> Result<Rows, RowFault> {
+        let mut source = self.source();
+        source.range(alloc, table, from, to, front)
+    }
+
+    /// Likewise.
+    fn position(&mut self, alloc: Global, table: u8, key: Key) -> Result<Option<u64>, RowFault> {
+        let mut source = self.source();
+        source.position(alloc, table, key)
     }
 }

@@ -8,7 +8,7 @@ ghost use Rattle.field_codec.specs.Entries.{IsArchiveEntry};
 ghost use Rattle.field_codec.specs.Spelling.{entry_octets};
 ghost use Rattle.fill_tracker.specs.FillTracker.{KeepsMarks};
 ghost use Rattle.archive_store.specs.Batches.{batch_rows, IsBatch};
-ghost use Rattle.archive_store.specs.Entries.{AreAdmitted};
+ghost use Rattle.archive_images.specs.Entries.{AreAdmitted};
 ghost use Rattle.refusals.specs.Limits.{limit_of};
 ghost use Rattle.refusals.specs.declared.refusal.Which.TheVariants as limits;
 ghost use Rattle.history_items.specs.Items.{items_of, rows_in};
@@ -51,7 +51,7 @@ fn limit_of_history(limit: RowLimit) -> Which
 }
 
 /// Takes all memory that an ingest of these rows needs.
-#[tactic(auto, using(crate::proofs::KeptMarks::keeps_roomy, crate::proofs::KeptMarks::keeps_roomier))]
+#[tactic(auto, using(archive_reading::proofs::KeptMarks::keeps_roomy, archive_reading::proofs::KeptMarks::keeps_roomier))]
 fn prepare(
     alloc: Global,
     journal: &mut Journal,
@@ -77,7 +77,7 @@ fn prepare(
 }
 
 impl<D: Disk> Store<D> {
-    ghost use Rattle.archive_store.specs.Unacknowledged.{with_rows};
+    ghost use Rattle.archive_images.specs.Unacknowledged.{with_rows};
     ghost use Rattle.archive_store.specs.StoreView.{archive_of, filled_of, OnlyAppends};
     ghost use Rattle.disk_journal.specs.Calls.{CountsNeverFall};
     ghost use Rattle.archive_store.specs.Calls.{AreAppended, AreIngested, CrashLeavesEither, CrashLeavesNow, IsIngestRefusal, IsRowsRefusal, IsStoreReopened, IsStoreReopenRefusal, archive_with};
@@ -149,9 +149,9 @@ impl<D: Disk> Store<D> {
         ensures ingested { IfOk result (λ ingest.
             AreIngested D.device self.old self.new (batch_rows batch.now) ingest.outcomes) }
 
-        // NeedsReopen comes exactly where a failed write is pending, then the first limit that is passed where rows are
-        // new, then a fault of the disk, which leaves the new rows in a fault; else all is as it was. Want of memory
-        // comes before any call of the disk.
+        // NeedsReopen comes exactly where a failed write is pending, then rows that aren't read, then the first limit that
+        // is passed where rows are new, then a failed write, which leaves the new rows in a fault; else all is as it was,
+        // but for pages that were read. Want of memory comes before any write.
         ensures refused { IfErr result (IsIngestRefusal D.device self.old self.new (batch_rows batch.now)) }
 
         // Power lost at any moment of the call leaves the archive from before it, or the one with the batch, and the
@@ -169,9 +169,9 @@ impl<D: Disk> Store<D> {
             None => {}
         }
         self.is_kept();
-        let Ok(classified) = classify(alloc, &self.history, batch) else {
-            return Err(Refusal::OutOfMemory);
-        };
+        let known = self.history.len() as u64;
+        let mut source = self.source();
+        let classified = classify(alloc, &mut source, batch, known)?;
         let ClassifiedBatch {
             outcomes,
             fresh,

@@ -39,7 +39,7 @@ fn prepare_fill(
 
 impl<D: Disk> Store<D> {
     ghost use Rattle.archive_store.specs.Installs.{FillIsAppended, IsFillRefusal, IsInstallRefusal, IsOwnFill, IsRightFor, IsStoreInstalled, filled_with};
-    ghost use Rattle.archive_store.specs.Stands.{StandsFilled};
+    ghost use Rattle.archive_images.specs.Stands.{StandsFilled};
     ghost use Rattle.archive_store.specs.StoreView.{OnlyAppends, filled_of};
     ghost use Rattle.disk_journal.specs.Calls.{CountsNeverFall};
 

@@ -2,7 +2,7 @@
 //
 // A history is rows of tables, the first to come with its key in its table. It stands in the journal in file 0 of the
 // disk: a head record with the tables and the mission database, and then a record for each batch that had new rows, and
-// for each fill: the set of an interval's segments, over a front of the history. `StandsFilled` (specs/Stands.antt)
+// for each fill: the set of an interval's segments, over a front of the history. `StandsFilled` (archive_images)
 // says which archive an image of the disk is, and which fills it has, `StandsFor` the archive alone,
 // `IsArchiveDamagedAt` where it is none, and `laws` that no image is two things. Contracts see a store as `StoreView`
 // (specs/StoreView.antt): history, fill list, fills, head, the disk, and the disk of the opening. What each call answers,
@@ -11,7 +11,7 @@
 // ask and recover an archive.
 //
 // The one idea of the proof is in the store's type: it keeps which archives a crash at any moment since the opening may
-// have left, whatever archives and entries are (`ArchiveInvariant` in specs/Images.antt; file 0 is its log,
+// have left, whatever archives and entries are (`ArchiveInvariant` of archive_images; file 0 is its log,
 // specs/PlainLog.antt), and how the faults stand to the disk's counts (`FaultInvariant`), of the value alone. So
 // `is_kept` and `into_disk` hand both out (`CrashInvariant`), and each call proves one step: a record more, an
 // unacknowledged record, a record taken back (proofs/Kept.antt, proofs/Healing.antt).
@@ -22,7 +22,11 @@
 // (src/finding.rt), and plans and replays take what was found. A plan of param_segments shares the sets that stand for
 // intervals, and has copies of the rows of those that are late. A replay goes over them by a cursor of replay_merge; a
 // step of it borrows them.
-// To be changed together: `Applies` in specs/Entries.antt, src/reading.rt and `IsBatch`; the limits in archive_history,
+// Where rows are read it is by a source of replay_merge, which may refuse, and contracts say what was read where the
+// store tells its rows (`TellsRows`, specs/Pages.antt). All rows stand in memory: so each store tells them, and a source
+// of them (src/history_source.rt) is refused for want of memory alone. That no row stands on a page of the disk is said
+// by `HasPages` alone.
+// To be changed together: `Applies` of archive_images, archive_reading and `IsBatch`; the limits in archive_history,
 // those of refusals, and specs/Limits.antt.
 //
 // A caller takes a failed write back before it gives the batch again, and gives up a task that it can't build:
@@ -55,7 +59,6 @@ mod batch;
 mod classifying;
 mod filling;
 mod finding;
-mod head;
 mod history_source;
 mod ingest;
 mod installing;
@@ -63,15 +66,14 @@ mod interval_rows;
 mod keeping;
 pub mod laws;
 mod marks;
-mod reading;
 mod replaying;
 mod retrieving;
 mod segments;
 mod store;
 
+pub use archive_images::Head;
 pub use batch::{Arrival, Arrivals, Batch, Ingested, received_row};
 pub use finding::{FoundReplay, FoundRequest, refusal_of_ask};
-pub use head::Head;
 pub use history_source::HistorySource;
 pub use marks::Mark;
 pub use store::Store;

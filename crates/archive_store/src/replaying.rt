@@ -17,7 +17,6 @@ ghost use Rattle.replay_merge.specs.Cursor.{rest_of};
 ghost use Rattle.replay_merge.specs.Replay.{replay_of};
 
 use crate::finding::FoundReplay;
-use crate::head::Head;
 use crate::store::Store;
 use arch_disk::Disk;
 use arch_types::name::Names;
@@ -25,6 +24,7 @@ use arch_types::row::Rows;
 use arch_types::row_fault::RowFault;
 use arch_types::spans::Spans;
 use archive_history::history::History;
+use archive_images::Head;
 use asks::ReplayRequest;
 use partitions::bounds::Bounds;
 use partitions::lists::{PartList, PnameList};
@@ -94,6 +94,7 @@ fn cursor_at_front(
 }
 
 impl<D: Disk> Store<D> {
+    ghost use Rattle.archive_store.specs.Pages.{TellsRows};
     ghost use Rattle.archive_store.specs.UnreadRows.{IsLeftByRead, IsReadFault};
     ghost use Rattle.archive_store.specs.Replays.{ArePartitions, IsNamedPartition, IsReplayOpened};
     ghost use Rattle.replay_merge.specs.Cursor.{AsksTheSame, steps_at_most, EndsExactly, IsRowAsked};
@@ -122,7 +123,7 @@ impl<D: Disk> Store<D> {
         cursor: &mut Cursor,
         limit: u64,
     ) -> Result<Rows, RowFault>
-        ensures rows { IfOk result (λ rows.
+        ensures rows { TellsRows D.device self.old → IfOk result (λ rows.
             rows ++ rest_of cursor.new (rows_below self.old.history)
             ≡ rest_of cursor.old (rows_below self.old.history)) }
         ensures end { IfOk result (EndsExactly limit cursor.old cursor.new) }

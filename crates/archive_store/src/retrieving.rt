@@ -1,6 +1,6 @@
 //! What a retrieval needs of the store.
 
-ghost use Rattle.std.specs.Prelude.{◌≡◌, ◌≤◌, ◌<ℤ◌, ◌^◌, map, IsSome, IsTrue, IfOk, IfErr, length};
+ghost use Rattle.std.specs.Prelude.{◌≡◌, ◌≤◌, ◌<ℤ◌, ◌^◌, ◌++◌, [], ◌∷◌, map, IsSome, IsTrue, IfOk, IfErr, OnOk, length};
 ghost use Rattle.std.specs.Arc.{arc_value};
 ghost use Rattle.std.specs.List.{AllByRecursion};
 ghost use Rattle.refusals.specs.declared.refusal.Refusal.TheVariants.{OutOfMemory};
@@ -9,11 +9,9 @@ ghost use Rattle.history_items.specs.Late.{last_in};
 ghost use Rattle.interval_walks.specs.Turns.{CoverRange, IntervalsRise};
 ghost use Rattle.param_segments.specs.Plans.{HasValuesOf, part_interval, rows_of_parts};
 ghost use Rattle.archive_store.specs.Plans.{IsPlan, IsPlanPart, IsRangeInterval, plan_intervals};
-ghost use Rattle.archive_store.specs.Stands.{IsSoundImage};
+ghost use Rattle.archive_images.specs.Stands.{IsSoundImage};
 
-use crate::filling::rows_of;
 use crate::finding::FoundRequest;
-use crate::segments::{current_fill, shared_set};
 use crate::store::Store;
 use arch_disk::Disk;
 use arch_types::name::{Name, Names};
@@ -39,25 +37,16 @@ fn container_names(alloc: Global, mdb: &Mdb) -> Result<Names, AllocError>
     Ok(names)
 }
 
-/// What a plan has of intervals that have rows of table `tm`, in their order.
-fn parts_of<D: Disk>(
-    alloc: Global,
-    store: &Store<D>,
-    intervals: &[Interval],
-) -> Result<Parts, AllocError>
-    requires { AllByRecursion (λ i. IsSome (last_in store.now.exponent i store.now.history)) intervals.now }
-    ensures each { IfOk result (λ parts. AllByRecursion (IsPlanPart store.now) parts) }
-    ensures intervals { IfOk result (λ parts. plan_intervals parts ≡ intervals.now) }
+/// One part more.
+fn add_part(parts: &mut Vec<Part>, part: Part) -> Result<(), AllocError>
+    ensures { OnOk result (parts.new.items ≡ parts.old.items ++ part ∷ []) }
 {
-    let mut parts = Vec::new(alloc);
-    for interval in intervals {
-        let part = store.part_of(alloc, *interval)?;
-        parts.push(part)?;
-    }
-    Ok(Parts::from_vec(parts))
+    parts.push(part)?;
+    Ok(())
 }
 
 impl<D: Disk> Store<D> {
+    ghost use Rattle.archive_store.specs.Pages.{TellsRows};
     ghost use Rattle.archive_store.specs.Plans.{IsPlanOver, late_rows_of_range};
     ghost use Rattle.archive_store.specs.UnreadRows.{IsLeftByRead, IsReadFault};
 
@@ -83,39 +72,62 @@ impl<D: Disk> Store<D> {
     }
 
     /// What a plan has of an interval that has rows of table `tm`: its set, where it isn't late, else its rows.
-    fn part_of(&self, alloc: Global, interval: Interval) -> Result<Part, AllocError>
-        requires { IsSome (last_in self.now.exponent interval self.now.history) }
-        ensures part { IfOk result (IsPlanPart self.now) }
+    fn part_of(&mut self, alloc: Global, interval: Interval) -> Result<Part, RowFault>
+        requires { IsSome (last_in self.old.exponent interval self.old.history) }
+        ensures part { IfOk result (IsPlanPart D.device self.old) }
         ensures interval { IfOk result (λ part. part_interval part ≡ interval.0) }
+        ensures refused { IfErr result (IsReadFault D.device self.old self.new) }
+        ensures same { IsLeftByRead D.device self.old self.new result }
     {
-        let Some(fill) = current_fill(&self.tracker, &self.sets, interval) else {
-            let rows = rows_of(alloc, &self.history, interval)?;
+        self.is_kept();
+        let Some(set) = self.segments(interval)? else {
+            let rows = self.interval_rows(alloc, interval)?;
             return Ok(Part::Rows { interval, rows });
         };
-        let set = shared_set(fill)?;
         Ok(Part::Set { interval, set })
+    }
+
+    /// What a plan has of intervals that have rows of table `tm`, in their order.
+    fn parts_of(&mut self, alloc: Global, intervals: &[Interval]) -> Result<Parts, RowFault>
+        requires { AllByRecursion (λ i. IsSome (last_in self.old.exponent i self.old.history)) intervals.now }
+        ensures each { IfOk result (AllByRecursion (IsPlanPart D.device self.old)) }
+        ensures intervals { IfOk result (λ parts. plan_intervals parts ≡ intervals.now) }
+        ensures refused { IfErr result (IsReadFault D.device self.old self.new) }
+        ensures same { IsLeftByRead D.device self.old self.new result }
+    {
+        let mut parts = Vec::new(alloc);
+        for interval in intervals {
+            let part = self.part_of(alloc, *interval)?;
+            add_part(&mut parts, part)?;
+        }
+        Ok(Parts::from_vec(parts))
     }
 
     /// The plan of a request over the whole history, with the database in force.
     fn planned(
-        &self,
+        &mut self,
         alloc: Global,
         request: &Request,
         mdb: Arc<Mdb, Global>,
-    ) -> Result<Plan, AllocError>
-        requires { arc_value mdb ≡ database_in self.now.head.mdb self.now.history }
-        ensures planned { IfOk result (IsPlan self.now request.now.from request.now.to) }
-        ensures over { IsTrue D.device.is_transparent → IsSoundImage (D.device.reads self.now.opened) →
-            IfOk result (IsPlanOver self.now.head self.now.history request.now.from request.now.to) }
-        ensures steps { IfOk result (λ plan. length (rows_of_parts plan.parts) ≤ length (late_rows_of_range
-            self.now.exponent self.now.history self.now.fills request.now.from request.now.to)) }
+    ) -> Result<Plan, RowFault>
+        requires { arc_value mdb ≡ database_in self.old.head.mdb self.old.history }
+        ensures planned { IfOk result (IsPlan D.device self.old request.now.from request.now.to) }
+        ensures over { IsTrue D.device.is_transparent → IsSoundImage (D.device.reads self.old.opened) →
+            IfOk result (IsPlanOver self.old.head self.old.history request.now.from request.now.to) }
+        ensures steps { TellsRows D.device self.old → IfOk result (λ plan. length (rows_of_parts plan.parts)
+            ≤ length (late_rows_of_range self.old.exponent self.old.history self.old.fills request.now.from
+            request.now.to)) }
+        ensures refused { IfErr result (IsReadFault D.device self.old self.new) }
+        ensures same { IsLeftByRead D.device self.old self.new result }
     {
         self.is_kept();
+        let front = self.front();
+        let exponent = self.exponent();
         let intervals = self.range_intervals(alloc, request)?;
-        let parts = parts_of(alloc, self, intervals.as_slice())?;
+        let parts = self.parts_of(alloc, intervals.as_slice())?;
         Ok(Plan {
-            front: self.front(),
-            exponent: self.exponent(),
+            front,
+            exponent,
             mdb,
             parts,
         })
@@ -125,7 +137,7 @@ impl<D: Disk> Store<D> {
     /// request was found in the database in force, which the plan shares.
     pub fn plan(&mut self, alloc: Global, found: &FoundRequest) -> Result<Plan, RowFault>
         requires in_force { arc_value found.now.mdb ≡ database_in self.old.head.mdb self.old.history }
-        ensures planned { IfOk result (IsPlan self.old found.now.request.from found.now.request.to) }
+        ensures planned { IfOk result (IsPlan D.device self.old found.now.request.from found.now.request.to) }
 
         // Whatever the disk reads as, a set's values are of the database in force.
         ensures values { IfOk result (λ plan. AllByRecursion
@@ -136,13 +148,14 @@ impl<D: Disk> Store<D> {
             (IsPlanOver self.old.head self.old.history found.now.request.from found.now.request.to) }
 
         // Rows are left to extract of late intervals that meet the range alone.
-        ensures steps { IfOk result (λ plan. length (rows_of_parts plan.parts) ≤ length (late_rows_of_range
-            self.old.exponent self.old.history self.old.fills found.now.request.from found.now.request.to)) }
+        ensures steps { TellsRows D.device self.old → IfOk result (λ plan. length (rows_of_parts plan.parts)
+            ≤ length (late_rows_of_range self.old.exponent self.old.history self.old.fills found.now.request.from
+            found.now.request.to)) }
         ensures refused { IfErr result (IsReadFault D.device self.old self.new) }
         ensures same { IsLeftByRead D.device self.old self.new result }
     {
         let mdb = Arc::try_clone(&found.mdb)?;
-        Ok(self.planned(alloc, &found.request, mdb)?)
+        self.planned(alloc, &found.request, mdb)
     }
 
     /// How many packet names the history has: at most 65,536.

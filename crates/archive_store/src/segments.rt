@@ -10,7 +10,7 @@ ghost use Rattle.interval_fills.specs.Intervals.{rows_of_interval};
 ghost use Rattle.store_fills.specs.Filled.{HoldsRows};
 ghost use Rattle.store_fills.specs.LastFills.{fillings_in, filling_of};
 ghost use Rattle.archive_store.specs.CurrentSets.{IsCurrentSet};
-ghost use Rattle.archive_store.specs.Stands.{IsSoundImage};
+ghost use Rattle.archive_images.specs.Stands.{IsSoundImage};
 
 use crate::store::Store;
 use arch_disk::Disk;

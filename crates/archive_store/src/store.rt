@@ -7,14 +7,13 @@ ghost use Rattle.field_codec.specs.Entries.{IsArchiveEntry};
 ghost use Rattle.field_codec.specs.Spelling.{entry_octets};
 ghost use Rattle.history_items.specs.Databases.{database_in};
 ghost use Rattle.history_items.specs.Items.{databases_in, rows_in};
-ghost use Rattle.archive_store.specs.Inside.{IsHistoryOf};
-ghost use Rattle.archive_store.specs.PartialArchive.{refusal_of_create};
+ghost use Rattle.archive_reading.specs.PartialArchive.{IsHistoryOf, refusal_of_create};
 ghost use Rattle.std.specs.Arc.{arc_value};
 
-use crate::head::Head;
-use crate::reading::{PartialArchive, ReadArchive, read_archive, refusal_of};
 use arch_disk::Disk;
 use archive_history::history::History;
+use archive_images::Head;
+use archive_reading::{PartialArchive, ReadArchive, read_archive, refusal_of};
 use disk_journal::{Frame, Journal, JournalFault, Opening};
 use field_codec::write_head;
 use fill_tracker::FillTracker;
@@ -53,7 +52,8 @@ impl<D: Disk> Model for Store<D> {
     ghost use Rattle.history_items.specs.Databases.{database_in};
     ghost use Rattle.history_items.specs.Items.{databases_in, rows_in};
     ghost use Rattle.archive_store.specs.StoreView.{StoreView};
-    ghost use Rattle.archive_store.specs.Inside.{view_of, HoldsFills, StoreInvariant};
+    ghost use Rattle.archive_reading.specs.PartialArchive.{HoldsFills};
+    ghost use Rattle.archive_store.specs.Inside.{view_of, StoreInvariant};
 
     ghost Value = { StoreView D };
 

@@ -89,6 +89,8 @@ fn head_of(alloc: Global, octets: &[u8]) -> Option<Head>
                 set: _set,
             },
         ) => None,
+        Ok(Entry::Seal(_seal)) => None,
+        Ok(Entry::LogHead { rows: _ }) => None,
         Err(_) => None,
     }
 }

@@ -37,6 +37,10 @@ within_after : (old : Option FilledArchive) (entry : Entry) (new : FilledArchive
 within_after None (entries.Head tables mdb) new applies within = subst (λ (a : FilledArchive). AreWithin a.plain.history a.fillings) (sym applies.1) (λ i f is. absurd cc)
 within_after None (entries.Rows rows) new applies within = absurd applies
 within_after None (entries.Fill interval base octets) new applies within = absurd applies
+within_after None (entries.Seal seal) new applies within = absurd applies
+within_after None (entries.LogHead rows) new applies within = absurd applies
+within_after (Some old) (entries.Seal seal) new applies within = absurd applies
+within_after (Some old) (entries.LogHead rows) new applies within = absurd applies
 within_after (Some old) (entries.Head tables mdb) new applies within = absurd applies
 within_after (Some old) (entries.Rows rows) new applies within =
     subst (λ (a : FilledArchive). AreWithin a.plain.history a.fillings) (sym applies.1) (within_grows old.plain.history (items_of rows) old.fillings within)

@@ -5,13 +5,14 @@ ghost use Rattle.std.specs.List.{AllByRecursion};
 ghost use Rattle.history_items.specs.Late.{is_late_in, last_in};
 ghost use Rattle.interval_walks.specs.Turns.{IntervalsRise};
 ghost use Rattle.archive_store.specs.StoreView.{filled_of};
-ghost use Rattle.archive_store.specs.UnreadRows.{IsLeftByAnswer};
+ghost use Rattle.archive_store.specs.UnreadRows.{IsLeftByAnswer, IsLeftByRead, IsReadFault};
 ghost use Rattle.archive_verify.specs.Verified.{HoldBelow, HoldCurrentFills, HoldsWhereCurrent, IsCounted, IsIntervalMismatch, IsMismatchOf, IsVerifyRefusal};
 
 use crate::compared_sets::{SetDifference, set_difference};
 use arch_disk::Disk;
 use arch_types::name::Name;
 use arch_types::octets::Octets;
+use arch_types::row_fault::RowFault;
 use archive_store::Store;
 use intervals::Interval;
 use mdb_model::Mdb;
@@ -41,35 +42,40 @@ struct IntervalDifference {
 /// late or was never filled has none.
 fn interval_difference<D: Disk>(
     alloc: Global,
-    store: &Store<D>,
+    store: &mut Store<D>,
     interval: Interval,
-) -> Result<Option<SetDifference>, AllocError>
-    requires { IsSome (last_in store.now.exponent interval store.now.history) }
-    ensures some { IfOk result (λ o. IfSome o (IsIntervalMismatch (filled_of store.now) interval)) }
-    ensures none { IfOk result (λ o. IfNone o (HoldsWhereCurrent (filled_of store.now) interval)) }
+) -> Result<Option<SetDifference>, RowFault>
+    requires { IsSome (last_in store.old.exponent interval store.old.history) }
+    ensures some { IfOk result (λ o. IfSome o (IsIntervalMismatch (filled_of store.old) interval)) }
+    ensures none { IfOk result (λ o. IfNone o (HoldsWhereCurrent (filled_of store.old) interval)) }
+    ensures refused { IfErr result (IsReadFault D.device store.old store.new) }
+    ensures same { IsLeftByRead D.device store.old store.new result }
 {
     store.is_kept();
     let Some(stored) = store.segments(interval)? else {
         return Ok(None);
     };
+    let rows = store.interval_rows(alloc, interval)?;
+    let exponent = store.exponent();
     let mdb = store.mdb();
     mdb.is_sound();
-    let rows = store.interval_rows(alloc, interval)?;
-    let replayed = SegSet::build(alloc, interval, store.exponent(), &rows, mdb)?;
-    set_difference(alloc, mdb, &*stored, &replayed)
+    let replayed = SegSet::build(alloc, interval, exponent, &rows, mdb)?;
+    Ok(set_difference(alloc, mdb, &*stored, &replayed)?)
 }
 
 /// The first of these intervals, which have rows and rise, whose set differs from what its rows give.
 fn first_difference_among<D: Disk>(
     alloc: Global,
-    store: &Store<D>,
+    store: &mut Store<D>,
     intervals: &[Interval],
-) -> Result<Option<IntervalDifference>, AllocError>
+) -> Result<Option<IntervalDifference>, RowFault>
     requires rising { IntervalsRise intervals.now }
-    requires rows { AllByRecursion (λ i. IsSome (last_in store.now.exponent i store.now.history)) intervals.now }
-    ensures some { IfOk result (λ o. IfSome o (λ d. IsIntervalMismatch (filled_of store.now) d.interval d.sets
-        × HoldBelow (filled_of store.now) intervals.now d.interval)) }
-    ensures none { IfOk result (λ o. IfNone o (AllByRecursion (HoldsWhereCurrent (filled_of store.now)) intervals.now)) }
+    requires rows { AllByRecursion (λ i. IsSome (last_in store.old.exponent i store.old.history)) intervals.now }
+    ensures some { IfOk result (λ o. IfSome o (λ d. IsIntervalMismatch (filled_of store.old) d.interval d.sets
+        × HoldBelow (filled_of store.old) intervals.now d.interval)) }
+    ensures none { IfOk result (λ o. IfNone o (AllByRecursion (HoldsWhereCurrent (filled_of store.old)) intervals.now)) }
+    ensures refused { IfErr result (IsReadFault D.device store.old store.new) }
+    ensures same { IsLeftByRead D.device store.old store.new result }
 {
     for interval in intervals {
         if let Some(sets) = interval_difference(alloc, store, *interval)? {

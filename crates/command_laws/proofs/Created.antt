@@ -12,7 +12,7 @@ use Rattle.refusals.specs.declared.refusal.Refusal.{Refusal}
 use Rattle.refusals.specs.declared.refusal.Refusal.TheVariants.{DiskFault, Exists, OutOfMemory, WriteFault}
 use Rattle.refusals.specs.declared.refusal.Which.TheVariants.{ScriptOctets, SheetOctets}
 use Rattle.outer_traits.specs.Outside.{Files}
-use Rattle.archive_store.specs.declared.head.Head.{Head}
+use Rattle.archive_store.specs.Head.{Head}
 use Rattle.archive_store.specs.Calls.{IsCreateImage}
 use Rattle.command_plans.specs.Plan.{CommandPlan, EachEnd, Requires, Way, and_then, map_done}
 use Rattle.command_plans.proofs.Plans.{end_of}

@@ -22,7 +22,7 @@ use Rattle.history_items.specs.declared.items.Item.{Item}
 use Rattle.history_items.specs.Items.{after_rows, items_of, rows_in}
 use Rattle.history_items.specs.Outcomes.{fresh_of}
 use Rattle.history_items.proofs.ItemLists.{rows_of_rows}
-use Rattle.archive_store.specs.declared.head.Head.{Head}
+use Rattle.archive_store.specs.Head.{Head}
 use Rattle.archive_store.specs.Entries.{FilledArchive}
 use Rattle.stream_graph.specs.declared.statement.RouteStatement.{RouteStatement}
 use Rattle.live_asks.specs.LiveAsks.{DiskFacts}

@@ -18,7 +18,7 @@ use Rattle.history_items.specs.declared.items.Item.{Item}
 use Rattle.history_items.specs.Databases.{database_in, names_in}
 use Rattle.history_items.specs.Items.{items_of, row_item, rows_in}
 use Rattle.history_items.proofs.Databases.{rows_keep_database, rows_keep_names}
-use Rattle.archive_store.specs.declared.head.Head.{Head}
+use Rattle.archive_store.specs.Head.{Head}
 use Rattle.archive_store.specs.Entries.{FilledArchive}
 use Rattle.archive_store.specs.Stands.{IsSoundImage}
 use Rattle.live_asks.specs.declared.answered.AskAnswer.{AskAnswer}

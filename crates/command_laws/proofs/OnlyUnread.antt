@@ -14,7 +14,7 @@ use Rattle.refusals.specs.Limits.{limit_of}
 use Rattle.outer_traits.specs.Outside.{Files}
 use Rattle.ssql_types.specs.declared.place.ScriptPlace.TheVariants as ScriptPlace
 use Rattle.ssql_types.specs.declared.statement.TypedStatement.{TypedStatement}
-use Rattle.archive_store.specs.declared.head.Head.{Head}
+use Rattle.archive_store.specs.Head.{Head}
 use Rattle.archive_store.specs.Entries.{FilledArchive}
 use Rattle.script_answers.specs.Scripts.{IsScriptAnswer, after_answer}
 use Rattle.script_answers.specs.Statements.{packet_names}

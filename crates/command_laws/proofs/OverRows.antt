@@ -10,7 +10,7 @@ use Rattle.history_items.specs.Databases.{database_in}
 use Rattle.param_segments.specs.Rows.{SetRow}
 use Rattle.store_fills.specs.Filled.{HoldsRows}
 use Rattle.store_fills.specs.Sound.{AreSound, Fillings}
-use Rattle.archive_store.specs.declared.head.Head.{Head}
+use Rattle.archive_store.specs.Head.{Head}
 use Rattle.retrieval.specs.AnswerText.{answer_lines}
 use Rattle.retrieval.specs.AskText.{ask_text, asks_text}
 use Rattle.retrieval.proofs.FilledAnswers.{filled_answered}

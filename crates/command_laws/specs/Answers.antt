@@ -14,7 +14,7 @@ use Rattle.history_items.specs.Databases.{database_in}
 use Rattle.history_items.specs.Items.{rows_in}
 use Rattle.param_segments.specs.Rows.{SetRow}
 use Rattle.store_fills.specs.Sound.{Fillings}
-use Rattle.archive_store.specs.declared.head.Head.{Head}
+use Rattle.archive_store.specs.Head.{Head}
 use Rattle.archive_store.specs.Entries.{Archive, FilledArchive}
 use Rattle.live_asks.specs.LiveAsks.{AreFillsSince}
 use Rattle.retrieval.specs.AnswerText.{answer_lines}

@@ -11,7 +11,7 @@ use Rattle.refusals.specs.declared.refusal.Refusal.TheVariants.{Exists}
 use Rattle.refusals.specs.declared.refusal.Which.{Which}
 use Rattle.refusals.specs.declared.refusal.Which.TheVariants.{ScriptOctets, SheetOctets}
 use Rattle.outer_traits.specs.Outside.{Files}
-use Rattle.archive_store.specs.declared.head.Head.{Head}
+use Rattle.archive_store.specs.Head.{Head}
 use Rattle.archive_store.specs.Entries.{archive}
 use Rattle.archive_store.specs.Stands.{IsSoundImage, StandsFor}
 use Rattle.command_words.specs.Job.{Create, CreateWords}

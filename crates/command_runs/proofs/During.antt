@@ -13,7 +13,7 @@ use Rattle.store_fills.specs.Faults.{faults_in}
 use Rattle.store_fills.proofs.Faults.{pending_fault_of-in, unacknowledged-in}
 use Rattle.history_items.specs.declared.items.Item.{Item}
 use Rattle.history_items.specs.Items.{items_of}
-use Rattle.archive_store.specs.declared.head.Head.{Head}
+use Rattle.archive_store.specs.Head.{Head}
 use Rattle.archive_store.specs.Entries.{Archive, FilledArchive, archive, filled_archive}
 use Rattle.archive_store.specs.StoreView.{StoreView, archive_of, filled_of, IsKeptWithFills, IsNow, IsSince, CrashInvariant}
 use Rattle.archive_store.specs.Unacknowledged.{with_rows}

@@ -21,7 +21,7 @@ use Rattle.store_fills.specs.Faults.{IsDone, faults_in}
 use Rattle.store_fills.proofs.Faults.{Rising-in, pending_fault_of-in, rows_of_faults-in, unacknowledged-in}
 use Rattle.store_fills.specs.LastFills.{PlacedFills, fillings_in}
 use Rattle.store_fills.specs.Sound.{Filling, Fillings, base_of_filling}
-use Rattle.archive_store.specs.declared.head.Head.{Head}
+use Rattle.archive_store.specs.Head.{Head}
 use Rattle.archive_store.specs.Entries.{FilledArchive, archive, filled_archive}
 use Rattle.archive_store.specs.Keeping.{HasCountedRecords}
 use Rattle.archive_store.specs.Stands.{HasRecordCount, StandsFilled, StandsFor}

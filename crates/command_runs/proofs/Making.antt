@@ -4,7 +4,7 @@ use Rattle.std.specs.Prelude.{IsTrue}
 use Rattle.arch_disk.specs.Disk.{Device}
 use Rattle.refusals.specs.declared.refusal.Refusal.{Refusal}
 use Rattle.history_items.specs.Fills.{above}
-use Rattle.archive_store.specs.declared.head.Head.{Head}
+use Rattle.archive_store.specs.Head.{Head}
 use Rattle.command_plans.specs.Ledger.{RoseIf, UsedWithoutFailedWrite}
 use Rattle.command_plans.specs.Plan.{CommandPlan, EachEnd, FailedCalls, OfDisk, Way, Returned, Stopped, Interrupted, Return, Stop, May, Question, Choose, interruption_refusal, map_done, way_map_done, with_failed_call}
 use Rattle.command_plans.proofs.Plans.{allows_map_done, end_of}

@@ -11,7 +11,7 @@ use Rattle.outer_traits.specs.States.{InputsState, OutputState}
 use Rattle.command_plans.specs.Ledger.{RoseIf, UsedWithoutFailedWrite, UsedDisk, UsedInputs, UsedOutput, WritesFailedAtMost}
 use Rattle.line_buffer.specs.Output.{Appends}
 use Rattle.command_plans.specs.Plan.{FailedCalls, OfMemory, OfInputs, OfOutput, OfDisk, interruption_refusal, no_failed_calls, with_failed_call, CommandPlan, Return, Stop, May, Question, Way, Returned, Stopped, Interrupted, Allows}
-use Rattle.archive_store.specs.declared.head.Head.{Head}
+use Rattle.archive_store.specs.Head.{Head}
 use Rattle.history_items.specs.declared.items.Item.{Item}
 use Rattle.archive_store.specs.Entries.{FilledArchive}
 use Rattle.archive_store.specs.Stands.{StandsFilled, IsArchiveDamagedAt}

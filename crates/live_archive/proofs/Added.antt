@@ -29,7 +29,8 @@ use Rattle.archive_store.specs.StoreView.{StoreView}
 use Rattle.archive_store.specs.Calls.{IsIngestRefusal}
 use Rattle.archive_store.specs.Installs.{IsAbandoned, IsInstallRefusal, IsStoreInstalled}
 use Rattle.archive_store.specs.Tasks.{IsFillBegun}
-use Rattle.archive_store.proofs.UnreadRows.{refusal_same}
+use Rattle.archive_store.proofs.Calls.{failed_fault, ingest_cases, ingested_rows}
+use Rattle.archive_store.proofs.UnreadRows.{begun_same, read_same, refusal_same}
 use Rattle.live_archive.specs.Added.{Adds, AddsTo, AbandonsAdd, AsksAddNothing, BeginsAdd, ClosesAdd, IngestNotes, IngestsAdd, InstallNotes, InstallsAdd, begin_notes, flight_begun, flight_ended, items_put}
 use Rattle.live_archive.specs.Answers.{SaysBegun, SaysIngested, SaysInstalled}
 use Rattle.live_archive.specs.Closings.{HasNotClosed}
@@ -87,24 +88,22 @@ module _ {D T : Type 0} (device : Device D) (first before after : StoreView D) (
   Batched rows answer = (noted : List Fill) × IngestNotes before.history rows answer noted × AddsTo before old new (items_put before.history rows answer) noted
 
   batch_refused : Turned device first before after old new → (rows : List Row) (e : Refusal) → IsIngestRefusal device before after rows e → Batched rows (Err e)
-  batch_refused t rows refused.Usage i = absurd i
-  batch_refused t rows (refused.NeedsReopen n) i = ([], refl, nothing t i.1)
-  batch_refused t rows (refused.Limit w n) i = ([], refl, nothing t i.1)
-  batch_refused t rows refused.DiskFault i =
-      let fault = i.fault in
+  batch_refused t rows e i =
+      ingest_cases device before after rows (λ r. Batched rows (Err r)) e i (λ n r. ([], refl, nothing t r.1)) (λ w n r. ([], refl, nothing t (read_same device before after r.2)))
+      (λ failed.
+      let fault = failed_fault device before after rows failed in
       let noted = Fault fault.count true (additions.Rows (fresh_of before.history rows)) ∷ [] in
-      (noted, (fault.count, refl), notes t noted fault.history fault.fills)
-  batch_refused t rows refused.OutOfMemory i = ([], refl, nothing t i.1)
-  batch_refused t rows _ i = absurd i
+      (noted, (fault.count, refl), notes t noted fault.history fault.fills))
+      (λ r. ([], refl, nothing t (read_same device before after r.1)))
 
   batched : Turned device first before after old new → (rows : List Row) (answer : Result Ingested Refusal) → SaysIngested device rows answer before after → Batched rows answer
-  batched t rows (Ok ingest) i = ([], refl, adds t _ [] (i.history ∙ fresh_added before.history rows) (i.fills ∙ sym (append-nil before.fills)))
+  batched t rows (Ok ingest) i = ([], refl, adds t _ [] (ingested_rows device before after rows ingest.outcomes i ∙ fresh_added before.history rows) (i.fills ∙ sym (append-nil before.fills)))
   batched t rows (Err e) i = batch_refused t rows e i
 
   -- ---- fills
-  begun : Turned device first before after old new → (o : Option FillTask) → IsFillBegun before after o → AddsTo before old new [] (flight_begun o)
+  begun : Turned device first before after old new → (o : Option FillTask) → IsFillBegun device before after o → AddsTo before old new [] (flight_begun o)
   begun t None i = nothing t i.1
-  begun t (Some task) i = notes t _ i.step.history i.step.fills
+  begun t (Some task) i = notes t _ (ap (λ (s : StoreView D). s.history) (begun_same device before after task i)) i.fills
 
   began : Turned device first before after old new → (answer : Result (Option FillTask) Refusal) → SaysBegun device answer before after → AddsTo before old new [] (begin_notes answer)
   began t (Ok o) i = begun t o i

@@ -19,21 +19,23 @@ use Rattle.turn_cell.specs.Pass.{PassView}
 use Rattle.archive_store.specs.Installs.{IsRightFor}
 use Rattle.archive_store.specs.StoreView.{StoreView}
 use Rattle.archive_store.specs.Tasks.{BeginsTask}
+use Rattle.archive_store.proofs.UnreadRows.{told_in_memory}
 use Rattle.live_archive.specs.Laws.{BuiltIsRight, IsBuiltOf, RightStays}
 use Rattle.live_archive.specs.Turns.{as_seen}
 use Rattle.live_archive.proofs.Later.{right_later}
 
 -- what is built of a task is right for the store in which it began
-right_there : {D : Type 0} (store after : StoreView D) (task : FillTask) (done : BuiltFill) → BeginsTask store after task → IsBuiltOf task done → IsRightFor store done
-right_there store after task done begun of =
+right_there : {D : Type 0} (device : Device D) (store after : StoreView D) (task : FillTask) (done : BuiltFill) → BeginsTask device store after task → IsBuiltOf task done → IsRightFor store done
+right_there device store after task done begun of =
+    let step = begun.step (told_in_memory device store) in
     let db = database_in store.head.mdb store.history in
     let i : Interval = task.interval in
     let set = done.set in
-    let base = of.base ∙ begun.step.base_is in
+    let base = of.base ∙ step.base_is in
     let fits = subst (λ (e : ℕ). IsSetOf db e i.0 set) begun.exponent (subst (λ (d : Database). IsSetOf d task.exponent i.0 set) begun.mdb of.fits) in
-    let holds = subst (λ (rows : List Row). HoldsRows db set rows) begun.step.rows_are (subst (λ (d : Database). HoldsRows d set task.rows) begun.mdb of.holds) in
+    let holds = subst (λ (rows : List Row). HoldsRows db set rows) step.rows_are (subst (λ (d : Database). HoldsRows d set task.rows) begun.mdb of.holds) in
     let whole : IsRightFill store.exponent store.head.mdb store.history i (length store.history) set =
-    whole_fill_is_right store.exponent store.head.mdb store.history store.fills i set begun.step.next.0.late fits holds in
+    whole_fill_is_right store.exponent store.head.mdb store.history store.fills i set step.next.0.late fits holds in
     let right = subst (λ (j : Interval). IsRightFill store.exponent store.head.mdb store.history j done.base set) (sym of.interval)
     (subst (λ (n : ℕ). IsRightFill store.exponent store.head.mdb store.history i n set) (sym base) whole) in
     let below = ap (λ (n : ℕ). prefix n store.history) base ∙ take_all (length store.history) store.history (le_refl _) in
@@ -44,7 +46,7 @@ module _ {D : Type 0} (T : Type 0) (device : Device D) where
   built_right first before after old new task done t begun of =
       let seen = ap (λ (p : PassView Item Fill T). p.history.seen) t.pass in
       right_later before (as_seen first new) done (subst (IsPrefix before.history) (sym seen) t.goes.appends.history) (sym t.found.appends.head) (sym t.found.appends.exponent)
-      (right_there before after task done begun of)
+      (right_there device before after task done begun of)
 
   pub right_stays : RightStays T device
   right_stays first old new done more right = right_later (as_seen first old) (as_seen first new) done more refl refl right

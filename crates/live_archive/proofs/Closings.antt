@@ -1,5 +1,5 @@
 -- No call but the last publication puts a closing behind the fill list.
-use Rattle.std.proofs.Common.{◌≡◌, ℕ, ◌+◌, Bool, true, false, List, [], ◌∷◌, ◌++◌, filter, length, Option, Some, None, Result, Ok, Err, MatchResult, if◌then◌else◌, refl, sym, ap, ◌∙◌, subst, arith, length-append}
+use Rattle.std.proofs.Common.{◌≡◌, ◌+◌, Bool, true, false, List, [], ◌∷◌, ◌++◌, Option, Some, None, Result, Ok, Err, MatchResult, if◌then◌else◌, refl, ap, ◌∙◌, arith}
 use Rattle.std.specs.Option.{is_some}
 use Rattle.arch_disk.specs.Disk.{Device}
 use Rattle.arch_types.specs.declared.inserted.Inserted.{Inserted}
@@ -21,8 +21,9 @@ use Rattle.archive_store.specs.Installs.{IsInstallRefusal, IsStoreInstalled}
 use Rattle.archive_store.specs.StoreView.{AddsFault, StoreView}
 use Rattle.archive_store.specs.Tasks.{IsFillBegun}
 use Rattle.archive_store.specs.UnreadRows.{IsLeftByRefusal, IsReadRefusal}
-use Rattle.archive_store.proofs.UnreadRows.{refusal_same}
-use Rattle.live_archive.specs.Closings.{HasClosed, HasNotClosed, TellsClosing, closings, is_closing}
+use Rattle.archive_store.proofs.Calls.{ingest_cases}
+use Rattle.archive_store.proofs.UnreadRows.{read_same, refusal_same}
+use Rattle.live_archive.specs.Closings.{TellsClosing, closings}
 
 -- one item behind a list
 closings_behind : (fills : List Fill) (item : Fill) → closings (fills ++ item ∷ []) ≡ closings fills + closings (item ∷ [])
@@ -63,22 +64,18 @@ module _ {D : Type 0} (device : Device D) (a b : StoreView D) where
   none_fault wrote addition f = ap closings f.fills ∙ none_behind a.fills (Fault f.count wrote addition) refl
 
   none_ingest_refused : (rows : List Row) (e : Refusal) → IsIngestRefusal device a b rows e → closings b.fills ≡ closings a.fills
-  none_ingest_refused rows refused.Usage i = absurd i
-  none_ingest_refused rows (refused.NeedsReopen n) i = none_same a b i.1
-  none_ingest_refused rows (refused.Limit w n) i = none_same a b i.1
-  none_ingest_refused rows refused.DiskFault i = none_fault true _ i.fault
-  none_ingest_refused rows refused.OutOfMemory i = none_same a b i.1
-  none_ingest_refused rows _ i = absurd i
+  none_ingest_refused rows e i =
+      ingest_cases device a b rows (λ _. closings b.fills ≡ closings a.fills) e i (λ n r. none_same a b r.1) (λ w n r. none_same a b (read_same device a b r.2)) (λ failed. none_fault true _ failed.fault) (λ r. none_same a b (read_same device a b r.1))
 
   pub none_ingest : {X : Type 0} (rows : List Row) (r : Result X Refusal) (outcomes : X → List Inserted) → MatchResult r (λ x. AreIngested device a b rows (outcomes x)) (IsIngestRefusal device a b rows) → closings b.fills ≡ closings a.fills
   none_ingest rows (Ok x) outcomes i = ap closings i.fills
   none_ingest rows (Err e) outcomes i = none_ingest_refused rows e i
 
-  none_begun : (o : Option FillTask) → IsFillBegun a b o → closings b.fills ≡ closings a.fills
+  none_begun : (o : Option FillTask) → IsFillBegun device a b o → closings b.fills ≡ closings a.fills
   none_begun None i = none_same a b i.1
-  none_begun (Some task) i = ap closings i.step.fills ∙ none_behind a.fills (Begun task.interval task.base) refl
+  none_begun (Some task) i = ap closings i.fills ∙ none_behind a.fills (Begun task.interval task.base) refl
 
-  pub none_begin : (r : Result (Option FillTask) Refusal) → MatchResult r (IsFillBegun a b) (λ e. IsReadRefusal device a b e × IsLeftByRefusal device a b e) → closings b.fills ≡ closings a.fills
+  pub none_begin : (r : Result (Option FillTask) Refusal) → MatchResult r (IsFillBegun device a b) (λ e. IsReadRefusal device a b e × IsLeftByRefusal device a b e) → closings b.fills ≡ closings a.fills
   none_begin (Ok o) i = none_begun o i
   none_begin (Err e) i = none_same a b (refusal_same device a b e i.1)
 

@@ -23,10 +23,9 @@ use Rattle.history_items.specs.Items.{databases_in, items_of}
 use Rattle.history_items.specs.Databases.{database_in, names_in}
 use Rattle.history_items.specs.Fills.{in_flight, is_same, pending_fault_of}
 use Rattle.history_items.specs.FillList.{flights_of}
-use Rattle.history_items.specs.Outcomes.{fresh_of}
 use Rattle.history_items.proofs.ItemLists.{databases_in-append, no_databases}
 use Rattle.history_items.proofs.Databases.{rows_keep_database, rows_keep_names}
-use Rattle.history_items.proofs.Outcomes.{fresh_added, fresh_new}
+use Rattle.history_items.proofs.Outcomes.{fresh_new}
 use Rattle.interval_fills.specs.Steps.{freed, all_freed}
 use Rattle.interval_fills.proofs.Steps.{same_interval}
 use Rattle.param_segments.specs.Rows.{SetRow}
@@ -36,9 +35,10 @@ use Rattle.store_fills.specs.Filled.{IsRightFill}
 use Rattle.store_fills.specs.LastFills.{fillings_in, fill_over}
 use Rattle.store_fills.specs.Sound.{Fillings}
 use Rattle.store_fills.proofs.RightFills.{right_fill_stays}
-use Rattle.archive_store.specs.declared.head.Head.{Head}
+use Rattle.archive_store.specs.Head.{Head}
 use Rattle.archive_store.specs.UnreadRows.{IsLeftByRefusal, IsReadRefusal}
-use Rattle.archive_store.proofs.UnreadRows.{refusal_same}
+use Rattle.archive_store.proofs.Calls.{failed_fault, ingest_cases, ingested_rows}
+use Rattle.archive_store.proofs.UnreadRows.{begun_same, read_same, refusal_same}
 use Rattle.archive_store.specs.StoreView.{StoreView, OnlyAppends, AddsFault, filled_of}
 use Rattle.archive_store.specs.Stands.{StandsFilled}
 use Rattle.archive_store.specs.Calls.{AreIngested, CrashLeavesEither, IsIngestRefusal, archive_with}
@@ -202,22 +202,22 @@ module _ {D : Type 0} (device : Device D) where
 
   -- rows came
   pub goes_rows : (a b : StoreView D) (rows : List Row) (outcomes : List Inserted) → OnlyAppends a b → LeavesBatch a b rows → AreIngested device a b rows outcomes → GoesOn device a b
-  goes_rows a b rows outcomes appends crash i = by_fresh (fresh_of a.history rows) refl
+  goes_rows a b rows outcomes appends crash i = by_fresh i.fresh refl
     where
-      by_fresh : (fresh : List Row) → fresh_of a.history rows ≡ fresh → GoesOn device a b
-      by_fresh [] none = goes_same a b (i.no_call none)
+      by_fresh : (fresh : List Row) → i.fresh ≡ fresh → GoesOn device a b
+      by_fresh [] none = goes_same a b (read_same device a b (i.no_write none))
       by_fresh (row ∷ more) some =
           let count = i.one_record (λ none. absurd (cc (some, none))) in
-          let grown : length b.history ≡ length a.history + suc (length (items_of more)) = ap length (i.history ∙ fresh_added a.history rows ∙ ap (λ (l : List Row). a.history ++ items_of l) some) ∙ length-append a.history (items_of (row ∷ more)) in
+          let grown : length b.history ≡ length a.history + suc (length (items_of more)) = ap length (i.history ∙ ap (λ (l : List Row). a.history ++ items_of l) some) ∙ length-append a.history (items_of (row ∷ more)) in
           record {
             appends = appends;
-            database = rows_same a b (fresh_of a.history rows) appends.head (i.history ∙ fresh_added a.history rows);
+            database = rows_same a b i.fresh appends.head i.history;
             records = let f = ap dones i.fills in omega (arith, count, grown, f);
             recorded = let f = ap dones i.fills in omega (arith, count, f);
             faults = inl (record { same_faults = ap faults_in i.fills; no_failed_write = i.no_failed_write; no_fault = i.no_fault });
             stops = λ pending. absurd (pending i.healed);
             sets = λ _ j. inl (ap (λ f. fillings_in f j) i.filled);
-            images = λ clear start since. batch_came device start a b since appends rows i.healed i.history (crash i.healed clear);
+            images = λ clear start since. batch_came device start a b since appends rows i.healed (ingested_rows device a b rows outcomes i) (crash i.healed clear);
           }
 
   -- a write failed
@@ -234,13 +234,12 @@ module _ {D : Type 0} (device : Device D) where
   }
 
   pub goes_ingest_refused : (a b : StoreView D) (rows : List Row) (e : Refusal) → OnlyAppends a b → LeavesBatch a b rows → IsIngestRefusal device a b rows e → GoesOn device a b
-  goes_ingest_refused a b rows refused.Usage g crash i = absurd i
-  goes_ingest_refused a b rows (refused.NeedsReopen n) g crash i = goes_same a b i.1
-  goes_ingest_refused a b rows (refused.Limit w n) g crash i = goes_same a b i.1
-  goes_ingest_refused a b rows refused.DiskFault g crash i =
-      goes_fault a b _ i.healed i.fault g.head g.exponent g.opened (fresh_new a.history rows) (λ clear start since. batch_failed device start a b since g rows i.healed i.fault (crash i.healed clear))
-  goes_ingest_refused a b rows refused.OutOfMemory g crash i = goes_same a b i.1
-  goes_ingest_refused a b rows _ g crash i = absurd i
+  goes_ingest_refused a b rows e g crash i =
+      ingest_cases device a b rows (λ _. GoesOn device a b) e i (λ n r. goes_same a b r.1) (λ w n r. goes_same a b (read_same device a b r.2))
+      (λ failed.
+      let fault = failed_fault device a b rows failed in
+      goes_fault a b _ failed.healed fault g.head g.exponent g.opened (fresh_new a.history rows) (λ clear start since. batch_failed device start a b since g rows failed.healed fault (crash failed.healed clear)))
+      (λ r. goes_same a b (read_same device a b r.1))
 
   pub goes_ingest : {X : Type 0} (a b : StoreView D) (rows : List Row) (r : Result X Refusal) (outcomes : X → List Inserted) → OnlyAppends a b → LeavesBatch a b rows → MatchResult r (λ x. AreIngested device a b rows (outcomes x)) (IsIngestRefusal device a b rows) → GoesOn device a b
   goes_ingest a b rows (Ok x) outcomes g crash i = goes_rows a b rows (outcomes x) g crash i
@@ -279,12 +278,12 @@ module _ {D : Type 0} (device : Device D) where
   pub settled_is : (a b c : StoreView D) → a ≡ record b { fills = all_freed b.fills } → b ≡ c → a ≡ record c { fills = all_freed c.fills }
   settled_is a b c settled is = subst (λ (s : StoreView D). a ≡ record s { fills = all_freed s.fills }) is settled
 
-  pub goes_begun : (a b : StoreView D) (o : Option FillTask) → IsFillBegun a b o → GoesOn device a b
+  pub goes_begun : (a b : StoreView D) (o : Option FillTask) → IsFillBegun device a b o → GoesOn device a b
   goes_begun a b None i = goes_same a b i.1
-  goes_begun a b (Some task) i = subst (GoesOn device a) (sym i.same) (goes_noted a b.fills (
-    ap dones i.step.fills ∙ (dones-append a.fills _ ∙ omega arith),
-    ap faults_in i.step.fills ∙ (faults_in-append a.fills _ ∙ append-nil (faults_in a.fills)),
-    (_, sym i.step.fills),
+  goes_begun a b (Some task) i = subst (GoesOn device a) (sym (begun_same device a b task i)) (goes_noted a b.fills (
+    ap dones i.fills ∙ (dones-append a.fills _ ∙ omega arith),
+    ap faults_in i.fills ∙ (faults_in-append a.fills _ ∙ append-nil (faults_in a.fills)),
+    (_, sym i.fills),
   ))
 
   pub goes_filled : (a b : StoreView D) (done : BuiltFill) → OnlyAppends a b → (IsTrue device.is_transparent → IsRightFor a done) → LeavesFill a b done → pending_fault_of a.fills ≡ None → FillIsAppended device a b done → GoesOn device a b
@@ -359,6 +358,6 @@ module _ {D : Type 0} (device : Device D) where
   goes_install a b done (Ok o) g right crash i = goes_installed a b done o g right crash i
   goes_install a b done (Err e) g right crash i = goes_install_refused a b done e g crash i
 
-  pub goes_begin : (a b : StoreView D) (r : Result (Option FillTask) Refusal) → MatchResult r (IsFillBegun a b) (λ e. IsReadRefusal device a b e × IsLeftByRefusal device a b e) → GoesOn device a b
+  pub goes_begin : (a b : StoreView D) (r : Result (Option FillTask) Refusal) → MatchResult r (IsFillBegun device a b) (λ e. IsReadRefusal device a b e × IsLeftByRefusal device a b e) → GoesOn device a b
   goes_begin a b (Ok o) i = goes_begun a b o i
   goes_begin a b (Err e) i = goes_same a b (refusal_same device a b e i.1)

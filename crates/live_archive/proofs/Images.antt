@@ -20,7 +20,7 @@ use Rattle.store_fills.proofs.Faults.{unacknowledged-in}
 use Rattle.store_fills.specs.Built.{BuiltFill}
 use Rattle.store_fills.specs.LastFills.{fill_over, fillings_in}
 use Rattle.store_fills.specs.Sound.{Fillings, with_filling}
-use Rattle.archive_store.specs.declared.head.Head.{Head}
+use Rattle.archive_store.specs.Head.{Head}
 use Rattle.archive_store.specs.Calls.{archive_with}
 use Rattle.archive_store.specs.Entries.{archive, filled_archive}
 use Rattle.archive_store.specs.Installs.{filled_with}

@@ -13,7 +13,7 @@ use Rattle.store_fills.specs.Filled.{IsRightFill}
 use Rattle.store_fills.proofs.RightFills.{right_fill_stays}
 use Rattle.archive_store.specs.declared.batch.Arrival.{Arrival}
 use Rattle.archive_store.specs.declared.batch.Batch.{Batch}
-use Rattle.archive_store.specs.declared.head.Head.{Head}
+use Rattle.archive_store.specs.Head.{Head}
 use Rattle.archive_store.specs.Batches.{IsArrival, IsBatch}
 use Rattle.archive_store.specs.Installs.{IsRightFor}
 use Rattle.archive_store.specs.StoreView.{StoreView}

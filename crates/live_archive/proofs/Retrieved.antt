@@ -10,6 +10,7 @@ use Rattle.asks.specs.declared.ask.Request.{Request}
 use Rattle.mdb_items.specs.Database.{Database}
 use Rattle.param_segments.specs.Plans.{HasValuesOf, rows_of_parts}
 use Rattle.archive_store.specs.StoreView.{StoreView}
+use Rattle.archive_store.proofs.UnreadRows.{told_in_memory}
 use Rattle.part_answers.specs.PartCells.{answer_over_parts}
 use Rattle.retrieval.proofs.FilledAnswers.{plan_filled}
 use Rattle.retrieval.proofs.LateRows.{late_in_range}
@@ -36,7 +37,7 @@ module _ {D : Type 0} (device : Device D) (store : StoreView D) (request : Reque
           front = front ∙ is.plan.front;
           number = found.number;
           named = is.found.number;
-          cells = over ∙ plan_filled store (in_force store) found.number found.request plan is.bases is.plan;
+          cells = over ∙ plan_filled device store (in_force store) found.number found.request plan is.bases (told_in_memory device store) is.plan;
         };
         answered = λ clear sound. (
           found.number,
@@ -51,5 +52,5 @@ module _ {D : Type 0} (device : Device D) (store : StoreView D) (request : Reque
       → now ≤ steps_allowed store request taken
   steps_within is taken now few =
       let asked = planned.found.request in
-      let late = ap length (late_in_range store asked.from asked.to planned.plan is.plan) in
+      let late = ap length (late_in_range device store asked.from asked.to (told_in_memory device store) planned.plan is.plan) in
       subst (λ (r : Request). now ≤ steps_allowed store r taken) is.asked (omega (arith, few, late))

@@ -15,6 +15,8 @@ use Rattle.archive_store.specs.declared.batch.Arrival.{Arrival}
 use Rattle.archive_store.specs.Batches.{arrival_rows}
 use Rattle.archive_store.specs.Calls.{AreIngested, IsIngestRefusal}
 use Rattle.archive_store.specs.StoreView.{OnlyAppends, StoreView}
+use Rattle.archive_store.proofs.Calls.{ingest_cases, ingested_rows}
+use Rattle.archive_store.proofs.UnreadRows.{read_same}
 use Rattle.glance_board.specs.Shelves.{ShelfView, shelf_view}
 use Rattle.glance_log.specs.Sightings.{Sighting}
 use Rattle.glance_log.proofs.Chains.{follows_self, follows_trans}
@@ -294,16 +296,13 @@ module _ {D : Type 0} where
 module _ {D : Type 0} (device : Device D) where
   -- what an ingest puts behind the history comes by its packets
   came_refused : (a b : StoreView D) (arrivals : List Arrival) (e : Refusal) → IsIngestRefusal device a b (flat_map arrival_rows arrivals) e → CameBy b (length a.history) arrivals
-  came_refused a b arrivals refused.Usage i = absurd i
-  came_refused a b arrivals (refused.NeedsReopen n) i = came_same a b arrivals (ap (λ (s : StoreView D). s.history) i.1)
-  came_refused a b arrivals (refused.Limit w n) i = came_same a b arrivals (ap (λ (s : StoreView D). s.history) i.1)
-  came_refused a b arrivals refused.DiskFault i = came_same a b arrivals i.fault.history
-  came_refused a b arrivals refused.OutOfMemory i = came_same a b arrivals (ap (λ (s : StoreView D). s.history) i.1)
-  came_refused a b arrivals _ i = absurd i
+  came_refused a b arrivals e i =
+      let same : b ≡ a → CameBy b (length a.history) arrivals = λ is. came_same a b arrivals (ap (λ (s : StoreView D). s.history) is) in
+      ingest_cases device a b (flat_map arrival_rows arrivals) (λ _. CameBy b (length a.history) arrivals) e i (λ n r. same r.1) (λ w n r. same (read_same device a b r.2)) (λ failed. came_same a b arrivals failed.fault.history) (λ r. same (read_same device a b r.1))
 
   pub came_ingested : {X : Type 0} (a b : StoreView D) (arrivals : List Arrival) (r : Result X Refusal) (outcomes : X → List Inserted)
       → MatchResult r (λ x. AreIngested device a b (flat_map arrival_rows arrivals) (outcomes x)) (IsIngestRefusal device a b (flat_map arrival_rows arrivals)) → CameBy b (length a.history) arrivals
-  came_ingested a b arrivals (Ok x) outcomes i = came_rows a b arrivals i.history
+  came_ingested a b arrivals (Ok x) outcomes i = came_rows a b arrivals (ingested_rows device a b (flat_map arrival_rows arrivals) (outcomes x) i)
   came_ingested a b arrivals (Err e) outcomes i = came_refused a b arrivals e i
 
   held_start : (held : HeldStore D) → IsBeside held.shelf held.store → LastIsClosing held → held.has_closing ≡ false → HeldGoesOn device held held

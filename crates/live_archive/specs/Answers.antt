@@ -32,7 +32,7 @@ SaysIngested device rows answer before after =
 -- of the beginning of a fill
 abbrev pub SaysBegun : {D : Type 0} → Device D → Result (Option FillTask) Refusal → StoreView D → StoreView D → Type 0
 SaysBegun device answer before after =
-    MatchResult answer (IsFillBegun before after)
+    MatchResult answer (IsFillBegun device before after)
     (λ refusal. IsReadRefusal device before after refusal × IsLeftByRefusal device before after refusal)
 
 -- of a fill that is installed

@@ -51,7 +51,7 @@ pub record IsBuiltOf (task : FillTask) (done : BuiltFill) : Type 0 where
 -- What is built of a task is right for the history that its pass has seen when the turn ends in which the task began.
 abbrev pub BuiltIsRight : {D : Type 0} → (T : Type 0) → Device D → Type 0
 BuiltIsRight {D = D} T device = (first before after : StoreView D) (old new : PassView Item Fill T) (task : FillTask)
-    (done : BuiltFill) → Turned device first before after old new → BeginsTask before after task →
+    (done : BuiltFill) → Turned device first before after old new → BeginsTask device before after task →
     IsBuiltOf task done → IsRightFor (as_seen first new) done
 
 -- It stays so as the pass sees more.

@@ -51,7 +51,7 @@ pub record IsPlannedIn {D : Type 0} (device : Device D) (store : StoreView D) (r
     : Type 0 where
   pub asked : planned.found.request ≡ request
   pub found : IsRequestFound (in_force store) planned.found
-  pub plan : IsPlan store planned.found.request.from planned.found.request.to planned.plan
+  pub plan : IsPlan device store planned.found.request.from planned.found.request.to planned.plan
   pub values : AllByRecursion (HasValuesOf (in_force store)) planned.plan.parts
   pub over : WhereSound device store
       (IsPlanOver store.head store.history planned.found.request.from planned.found.request.to planned.plan)

@@ -27,7 +27,7 @@ use Rattle.turn_cell.specs.Pass.{PassView}
 use Rattle.glance_log.specs.Sightings.{Sighting}
 use Rattle.archive_store.specs.declared.finding.FoundReplay.{FoundReplay}
 use Rattle.archive_store.specs.declared.finding.FoundRequest.{FoundRequest}
-use Rattle.archive_store.specs.declared.head.Head.{Head}
+use Rattle.archive_store.specs.Head.{Head}
 use Rattle.archive_store.specs.Finding.{IsNotFound, IsRequestFound}
 use Rattle.archive_store.specs.Replays.{IsReplayOpened, rows_below}
 use Rattle.archive_store.specs.Stands.{IsSoundImage}

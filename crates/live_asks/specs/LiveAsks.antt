@@ -21,7 +21,7 @@ use Rattle.store_fills.specs.Filled.{IsRightFill}
 use Rattle.store_fills.specs.Sound.{Filling, Fillings}
 use Rattle.turn_cell.specs.Pass.{PassView}
 use Rattle.glance_log.specs.Sightings.{IsFollowedBy, Sighting}
-use Rattle.archive_store.specs.declared.head.Head.{Head}
+use Rattle.archive_store.specs.Head.{Head}
 use Rattle.archive_store.specs.Entries.{FilledArchive}
 use Rattle.archive_store.specs.Stands.{IsSoundImage}
 use Rattle.archive_store.specs.StoreView.{StoreView, filled_of}

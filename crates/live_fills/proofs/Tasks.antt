@@ -1,5 +1,5 @@
 -- Tasks that began in a turn.
-use Rattle.std.proofs.Common.{◌≡◌, ℕ, List, Option, Some, None, Result, Ok, Err, IfOk, sym, ap, subst}
+use Rattle.std.proofs.Common.{ℕ, List, Option, Some, None, Result, Ok, Err, IfOk, sym, ap, subst}
 use Rattle.std.specs.Prelude.{IfSome}
 use mathlib.Core.List.{IsPrefix}
 use Rattle.arch_disk.specs.Disk.{Device}
@@ -13,6 +13,7 @@ use Rattle.store_fills.specs.Built.{IsTaskRows}
 use Rattle.turn_cell.specs.Pass.{PassView}
 use Rattle.archive_store.specs.StoreView.{StoreView}
 use Rattle.archive_store.specs.Tasks.{BeginsTask}
+use Rattle.archive_store.proofs.UnreadRows.{told_in_memory}
 use Rattle.live_archive.specs.Turns.{Turned}
 use Rattle.live_archive.proofs.Built.{built_right}
 use Rattle.live_archive.proofs.Going.{prefix_trans}
@@ -32,17 +33,17 @@ late_on exponent first front history noted fills i p q was = record {
 
 module _ {D T : Type 0} (device : Device D) (first before after : StoreView D) (old new : PassView Item Fill T) (task : FillTask) where
   -- the interval of a task that began was late then
-  began_late : Turned device first before after old new → BeginsTask before after task → WasLate first.exponent first.fills new.history.seen new.fills.seen task.interval
+  began_late : Turned device first before after old new → BeginsTask device before after task → WasLate first.exponent first.fills new.history.seen new.fills.seen task.interval
   began_late t begun = record {
     front = before.history;
     noted = before.fills;
     begins = subst (IsPrefix before.history) (sym (ap (λ (p : PassView Item Fill T). p.history.seen) t.pass)) t.goes.appends.history;
     since = t.found.appends.fills;
     fills_begin = subst (IsPrefix before.fills) (sym (ap (λ (p : PassView Item Fill T). p.fills.seen) t.pass)) t.goes.appends.fills;
-    late = subst (λ (e : ℕ). IsLate e task.interval before.history before.fills) t.found.appends.exponent begun.step.next.0.late;
+    late = subst (λ (e : ℕ). IsLate e task.interval before.history before.fills) t.found.appends.exponent (begun.step (told_in_memory device before)).next.0.late;
   }
 
-  began : Turned device first before after old new → BeginsTask before after task → IsTaskRows task.exponent task.interval task.rows → IsOwnTask first new task
+  began : Turned device first before after old new → BeginsTask device before after task → IsTaskRows task.exponent task.interval task.rows → IsOwnTask first new task
   began t begun rows = record { in_order = rows; late = began_late t begun; right = λ done of. built_right T device first before after old new task done t begun of }
 
 pub own_task : {D T : Type 0} (device : Device D) (first : StoreView D) (old new : PassView Item Fill T) (answer : Result (Option FillTask) Refusal) → BeginsInTurn device first old answer new

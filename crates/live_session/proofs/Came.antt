@@ -8,7 +8,7 @@ use Rattle.outer_traits.specs.States.{SourceState}
 use Rattle.history_items.specs.Items.{items_of, rows_in}
 use Rattle.history_items.proofs.ItemLists.{length-items_of}
 use Rattle.store_fills.specs.Faults.{IsDone}
-use Rattle.archive_store.specs.declared.head.Head.{Head}
+use Rattle.archive_store.specs.Head.{Head}
 use Rattle.archive_store.specs.StoreView.{StoreView}
 use Rattle.load_jobs.specs.declared.ending.LinkEnd.{LinkEnd}
 use Rattle.live_asks.specs.declared.answered.AskAnswer.{AskAnswer}

@@ -3,7 +3,7 @@ use denote.RattleType.{RattleType}
 use denote.Param.Send.{IsSend, IsSync, sendable}
 use Rattle.std.proofs.Crossing.{crosses}
 use Rattle.refusals.specs.contracts.refusal.Refusal as Refusal
-use Rattle.archive_store.specs.contracts.head.Head as Head
+use Rattle.archive_images.specs.contracts.head.Head as Head
 use Rattle.archive_store.proofs.Sending.{mdb_send, mdb_sync}
 use Rattle.retrieval.specs.contracts.found_asks.FoundAsk as FoundAsk
 use Rattle.stream_graph.specs.contracts.graph.Graph as Graph

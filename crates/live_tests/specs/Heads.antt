@@ -1,6 +1,6 @@
 -- What the tests need of a head.
 use Rattle.std.specs.Prelude.{◌<◌, length}
-use Rattle.archive_store.specs.declared.head.Head.{Head}
+use Rattle.archive_store.specs.Head.{Head}
 
 -- it has a table and a packet name
 pub record HasNames (head : Head) : Type 0 where

@@ -5,7 +5,7 @@ ghost use Rattle.arch_types.specs.Packet.{IsPacket, is_idle};
 ghost use Rattle.field_codec.specs.declared.entry.Entry.TheVariants as entries;
 ghost use Rattle.field_codec.specs.Entries.{IsArchiveEntry};
 ghost use Rattle.history_items.specs.declared.items.Item.{Item};
-ghost use Rattle.archive_store.specs.declared.head.Head.{Head as HeadOf};
+ghost use Rattle.archive_store.specs.Head.{Head as HeadOf};
 ghost use Rattle.archive_store.specs.Batches.{IsArrival, IsBatch};
 ghost use Rattle.turn_cell.specs.Pass.{IsFree};
 ghost use Rattle.live_archive.specs.Shelving.{IsOfLog};

@@ -16,7 +16,7 @@ use Rattle.stream_graph.specs.Laws.{NamesTableBelow}
 use Rattle.stream_graph.specs.declared.statement.RouteStatement.{RouteStatement}
 use Rattle.stream_graph.specs.Routes.{every_packet_route, route_statements}
 use Rattle.history_items.specs.Databases.{names_in}
-use Rattle.archive_store.specs.declared.head.Head.{Head}
+use Rattle.archive_store.specs.Head.{Head}
 use Rattle.archive_store.specs.Entries.{Archive}
 use Rattle.load_session.specs.Receiving.{IsRouteOver}
 use Rattle.load_command.specs.Loading.{IsRouteAnswer}

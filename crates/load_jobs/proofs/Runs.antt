@@ -29,6 +29,8 @@ use Rattle.archive_store.specs.Batches.{batch_rows}
 use Rattle.archive_store.specs.Calls.{IsIngestRefusal}
 use Rattle.archive_store.specs.Limits.{IsLimit}
 use Rattle.archive_store.specs.StoreView.{StoreView}
+use Rattle.archive_store.proofs.Calls.{ingest_cases}
+use Rattle.archive_store.proofs.UnreadRows.{told_in_memory}
 use Rattle.live_archive.specs.Added.{AddsTo, AreFaults}
 use Rattle.live_archive.specs.Answers.{SaysIngested}
 use Rattle.live_archive.specs.GoesOn.{GoesOn, dones}
@@ -180,13 +182,14 @@ module _ {D T : Type 0} (first : StoreView D) (dump : List ℕ) (r : Receiving) 
             (length before.fills, at, held)
 
         ended_for : (e : Refusal) → IsIngestRefusal device before after (batch_rows taken.batch) e → AreFaults (additions.Rows (fresh_of before.history (batch_rows taken.batch))) e noted → EndedSo new (Err e)
-        ended_for refused.Usage said are = absurd said
-        ended_for refused.OutOfMemory said are = end_with refused.OutOfMemory (places are) tt
-        ended_for (refused.NeedsReopen faults) said are = end_with (refused.NeedsReopen faults) (places are) (ap pending_fault_of (fills are) ∙ said.0)
-        ended_for (refused.Limit which number) said are =
-            end_with (refused.Limit which number) (places are) (said.0.number_is, (before.records, recorded are, limit_of_batch which said.0.first))
-        ended_for refused.DiskFault said are = end_with refused.DiskFault (noted_batch are.0 are.1) tt
-        ended_for _ said are = absurd said
+        ended_for e said are =
+            ingest_cases device before after (batch_rows taken.batch) (λ r. AreFaults (additions.Rows (fresh_of before.history (batch_rows taken.batch))) r noted → EndedSo new (Err r)) e said
+            (λ faults r are. end_with (refused.NeedsReopen faults) (places are) (ap pending_fault_of (fills are) ∙ r.0))
+            (λ which number r are.
+            let passes = r.1 (told_in_memory device before) in
+            end_with (refused.Limit which number) (places are) (passes.number_is, (before.records, recorded are, limit_of_batch which passes.first)))
+            (λ failed are. end_with refused.DiskFault (noted_batch are.0 are.1) tt)
+            (λ r are. end_with refused.OutOfMemory (places are) tt) are
 
       stopped_for : (refusal : Refusal) (more : List (List ℕ)) (rest : List ℕ) → (length n.packets ≡ 64) ⊎ (more ≡ []) → IsDump dump (so_far ++ (n.packets ++ more)) rest
           → TookTurn device first mid new (SaysIngested device (batch_rows taken.batch) (Err refusal)) → EndedSo new (Err refusal)

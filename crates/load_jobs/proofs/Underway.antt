@@ -22,7 +22,7 @@ use Rattle.space_packet.specs.Waiting.{IsSplitSoFar, Waiting}
 use Rattle.space_packet.proofs.Waiting.{fed_more}
 use Rattle.stream_graph.specs.declared.statement.RouteStatement.{RouteStatement}
 use Rattle.turn_cell.specs.Pass.{PassView}
-use Rattle.archive_store.specs.declared.head.Head.{Head}
+use Rattle.archive_store.specs.Head.{Head}
 use Rattle.archive_store.specs.Batches.{batch_rows}
 use Rattle.archive_store.specs.StoreView.{StoreView}
 use Rattle.live_archive.specs.Added.{AddsTo}

@@ -26,7 +26,7 @@ use Rattle.history_items.proofs.FillLists.{base_after_item, flight_after_item}
 use Rattle.history_items.proofs.Late.{last_is_greatest, late_by_last}
 use Rattle.late_marks.specs.Mark.{is_late_by}
 use Rattle.interval_fills.specs.Intervals.{NoneSince, rows_of_interval}
-use Rattle.interval_fills.specs.Steps.{AllLateInFlight, IsFillBase, MachineState, freed}
+use Rattle.interval_fills.specs.Steps.{AllLateInFlight, BeginsFill, IsFillBase, MachineState, freed}
 use Rattle.interval_fills.proofs.Steps.{same_interval}
 use Rattle.interval_walks.specs.Counts.{intervals_in, late_intervals}
 use Rattle.interval_walks.proofs.Counts.{none_late, one_late_less}
@@ -41,7 +41,8 @@ use Rattle.store_fills.specs.Filled.{HoldsRows}
 use Rattle.store_fills.specs.LastFills.{PlacedFills, fill_over, fillings_in}
 use Rattle.store_fills.specs.Sound.{Filling, Fillings, base_of_filling, with_filling}
 use Rattle.archive_store.proofs.CurrentSets.{late_by_fill}
-use Rattle.archive_store.specs.declared.head.Head.{Head}
+use Rattle.archive_store.proofs.UnreadRows.{begun_same, told_in_memory}
+use Rattle.archive_store.specs.Head.{Head}
 use Rattle.archive_store.specs.Entries.{filled_archive}
 use Rattle.archive_store.specs.Installs.{FillIsAppended, IsAbandoned, IsInstallRefusal, IsStoreInstalled}
 use Rattle.archive_store.specs.StoreView.{AddsFault, StoreView}
@@ -260,7 +261,7 @@ filling_first device store idle = record {
 }
 
 -- no interval is late any more
-pub filling_done : {D : Type 0} (device : Device D) (old now new : StoreView D) (filled : ℕ) → IsFilling device old now filled → IsFillBegun now new None → AllLateFilled device old new filled
+pub filling_done : {D : Type 0} (device : Device D) (old now new : StoreView D) (filled : ℕ) → IsFilling device old now filled → IsFillBegun device now new None → AllLateFilled device old new filled
 filling_done {D = D} device old now new filled f none = subst (λ (x : StoreView D). AllLateFilled device old x filled) (sym none.1) (record {
   none_late = none_left now.exponent (machine_state now) none.0 f.idle;
   count = omega (arith, f.count, none_counted now.exponent (machine_state now) none.0 f.idle);
@@ -269,49 +270,56 @@ filling_done {D = D} device old now new filled f none = subst (λ (x : StoreView
   unfailed = f.unfailed;
 })
 
-module _ {D : Type 0} (device : Device D) (old now begun_store : StoreView D) (filled : ℕ) (f : IsFilling device old now filled) (task : FillTask) (began : BeginsTask now begun_store task) where
+module _ {D : Type 0} (device : Device D) (old now begun_store : StoreView D) (filled : ℕ) (f : IsFilling device old now filled) (task : FillTask) (began : BeginsTask device now begun_store task) where
   abbrev i : Interval
   i = task.interval
 
+  -- of rows that are told
+  step : BeginsFill now.exponent (machine_state now) i task.base task.rows (machine_state begun_store)
+  step = began.step (told_in_memory device now)
+
+  same : begun_store ≡ record now { fills = begun_store.fills }
+  same = begun_same device now begun_store task began
+
   late : IsLate now.exponent i now.history now.fills
-  late = began.step.next.0.late
+  late = step.next.0.late
 
   same_disk : begun_store.disk ≡ now.disk
-  same_disk = ap (λ (x : StoreView D). x.disk) began.same
+  same_disk = ap (λ (x : StoreView D). x.disk) same
 
   same_records : begun_store.records ≡ now.records
-  same_records = ap (λ (x : StoreView D). x.records) began.same
+  same_records = ap (λ (x : StoreView D). x.records) same
 
   same_filled : begun_store.filled ≡ now.filled
-  same_filled = ap (λ (x : StoreView D). x.filled) began.same
+  same_filled = ap (λ (x : StoreView D). x.filled) same
 
   same_head : begun_store.head ≡ now.head
-  same_head = ap (λ (x : StoreView D). x.head) began.same
+  same_head = ap (λ (x : StoreView D). x.head) same
 
   same_exponent : begun_store.exponent ≡ now.exponent
-  same_exponent = ap (λ (x : StoreView D). x.exponent) began.same
+  same_exponent = ap (λ (x : StoreView D). x.exponent) same
 
   same_opened : begun_store.opened ≡ now.opened
-  same_opened = ap (λ (x : StoreView D). x.opened) began.same
+  same_opened = ap (λ (x : StoreView D). x.opened) same
 
   begun_history : begun_store.history ≡ old.history
-  begun_history = began.step.history ∙ f.history
+  begun_history = step.history ∙ f.history
 
   -- by the database in force
   by_database : arc_value task.mdb ≡ database_in begun_store.head.mdb begun_store.history
-  by_database = began.mdb ∙ ap (λ (h : Head). database_in h.mdb now.history) (sym same_head) ∙ ap (database_in begun_store.head.mdb) (sym began.step.history)
+  by_database = began.mdb ∙ ap (λ (h : Head). database_in h.mdb now.history) (sym same_head) ∙ ap (database_in begun_store.head.mdb) (sym step.history)
 
   -- of the task that begins
   pub begun_task : IsTaskRows task.exponent i task.rows → IsBegunTask begun_store task
   begun_task in_order = record {
-    base = began.step.base_is ∙ ap length (sym began.step.history);
+    base = step.base_is ∙ ap length (sym step.history);
     exponent = began.exponent ∙ sym same_exponent;
     late =
         subst (λ (e : ℕ). IsLate e i begun_store.history begun_store.fills) (sym same_exponent)
-        (subst (λ (l : List Fill). IsLate now.exponent i begun_store.history l) (sym began.step.fills)
-        (subst (λ (h : List Item). IsLate now.exponent i h (begun now.fills i task.base)) (sym began.step.history) (is_late_begun now.exponent now.history now.fills i i task.base late)));
+        (subst (λ (l : List Fill). IsLate now.exponent i begun_store.history l) (sym step.fills)
+        (subst (λ (h : List Item). IsLate now.exponent i h (begun now.fills i task.base)) (sym step.history) (is_late_begun now.exponent now.history now.fills i i task.base late)));
     rows =
-        began.step.rows_are ∙ ap (rows_of_interval now.exponent i) (sym began.step.history)
+        step.rows_are ∙ ap (rows_of_interval now.exponent i) (sym step.history)
         ∙ ap (λ (e : ℕ). rows_of_interval e i begun_store.history) (sym same_exponent);
     in_order = in_order;
     mdb = by_database;
@@ -319,7 +327,7 @@ module _ {D : Type 0} (device : Device D) (old now begun_store : StoreView D) (f
 
   begun_unfailed : IsUnfailed device old begun_store
   begun_unfailed = record {
-    same_faults = ap faults_in began.step.fills ∙ faults_begun now.fills i task.base ∙ f.unfailed.same_faults;
+    same_faults = ap faults_in step.fills ∙ faults_begun now.fills i task.base ∙ f.unfailed.same_faults;
     no_failed_write = ap device.failed_writes same_disk ∙ f.unfailed.no_failed_write;
     no_fault = ap device.fault_count same_disk ∙ f.unfailed.no_fault;
   }
@@ -330,15 +338,15 @@ module _ {D : Type 0} (device : Device D) (old now begun_store : StoreView D) (f
 
   -- one late interval at least is left
   some_left : length (late_intervals now.exponent now.history (begun_and_done now.fills i task.base)) + 1 ≡ length (late_intervals now.exponent now.history now.fills)
-  some_left = one_less now.exponent now.history now.fills i task.base began.step.base_is late
+  some_left = one_less now.exponent now.history now.fills i task.base step.base_is late
 
   module _ (new : StoreView D) where
     module _ (done : IsTaskFilled device begun_store new task) where
       new_fills : new.fills ≡ begun_and_done now.fills i task.base
-      new_fills = ap (λ m. m.fills) done.appended.step.1 ∙ ap (λ (l : List Fill). l ++ Done i task.base ∷ []) began.step.fills
+      new_fills = ap (λ m. m.fills) done.appended.step.1 ∙ ap (λ (l : List Fill). l ++ Done i task.base ∷ []) step.fills
 
       new_history : new.history ≡ now.history
-      new_history = ap (λ m. m.history) done.appended.step.1 ∙ began.step.history
+      new_history = ap (λ m. m.history) done.appended.step.1 ∙ step.history
 
       pub less_left : new.exponent ≡ begun_store.exponent → length (late_intervals new.exponent new.history new.fills) + 1 ≡ length (late_intervals now.exponent now.history now.fills)
       less_left same =
@@ -362,7 +370,7 @@ module _ {D : Type 0} (device : Device D) (old now begun_store : StoreView D) (f
         };
         sets =
             subst (AddsRightFills old.head old.exponent old.history (fillings_in old.filled)) (sym (done.appended.filled ∙ ap (λ (x : PlacedFills). with_filling (fillings_in x) i (fill_over task.base done.set)) same_filled))
-            (one_whole old.head old.exponent old.history (fillings_in old.filled) (fillings_in now.filled) f.sets i task.base done.set (began.step.base_is ∙ ap length f.history) may late_now held);
+            (one_whole old.head old.exponent old.history (fillings_in old.filled) (fillings_in now.filled) f.sets i task.base done.set (step.base_is ∙ ap length f.history) may late_now held);
         head = same.0 ∙ same_head ∙ f.head;
         exponent = same.1 ∙ same_exponent ∙ f.exponent;
         opened = same.2 ∙ same_opened ∙ f.opened;

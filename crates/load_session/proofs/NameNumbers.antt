@@ -9,7 +9,7 @@ use Rattle.std.proofs.lemmas.List.Sums.{position_or_len_is}
 use Rattle.std.proofs.lemmas.Map.Keys.{apart_from_distinct}
 use Rattle.std.proofs.lemmas.Slice.Eq.{bytes_eq-Decides}
 use Rattle.arch_types.specs.Arrivals.{arrivals, row_of}
-use Rattle.archive_store.specs.declared.head.Head.{Head}
+use Rattle.archive_store.specs.Head.{Head}
 use Rattle.archive_store.proofs.RowsAlone.{in_force, names_of_head}
 use Rattle.container_extract.specs.Chain.{packet_name_of}
 use Rattle.container_extract.proofs.Known.{packet_name_is_known}

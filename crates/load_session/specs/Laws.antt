@@ -2,7 +2,7 @@
 use Rattle.std.specs.Prelude.{◌≡◌, ℕ, ℤ, List, [], ◌∷◌, length}
 use Rattle.arch_types.specs.Arrivals.{arrivals}
 use Rattle.container_extract.specs.Chain.{packet_name_of}
-use Rattle.archive_store.specs.declared.head.Head.{Head}
+use Rattle.archive_store.specs.Head.{Head}
 use Rattle.history_items.specs.declared.items.Item.{Item}
 use Rattle.history_items.specs.Databases.{database_in, names_in}
 use Rattle.history_items.specs.Items.{databases_in}

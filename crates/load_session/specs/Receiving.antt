@@ -8,7 +8,7 @@ use Rattle.history_items.specs.declared.items.Item.{Item}
 use Rattle.history_items.specs.Databases.{database_in, names_in, names_of_database}
 use Rattle.mdb_items.specs.Database.{Database}
 use Rattle.mdb_items.specs.Texts.{Text, place_of}
-use Rattle.archive_store.specs.declared.head.Head.{Head}
+use Rattle.archive_store.specs.Head.{Head}
 use Rattle.stream_graph.specs.declared.statement.RouteStatement.{RouteStatement}
 use Rattle.stream_graph.specs.Laws.{NamesTableBelow}
 use Rattle.stream_graph.specs.RouteTables.{route_of}

@@ -17,7 +17,7 @@ use Rattle.param_segments.specs.Rows.{SetRow}
 use Rattle.store_fills.specs.Faults.{IsDone}
 use Rattle.store_fills.specs.LastFills.{fillings_in}
 use Rattle.store_fills.specs.Sound.{Fillings, no_fillings}
-use Rattle.archive_store.specs.declared.head.Head.{Head}
+use Rattle.archive_store.specs.Head.{Head}
 use Rattle.archive_store.specs.Calls.{IsStoreCreated}
 use Rattle.archive_store.specs.Entries.{Archive, FilledArchive, Replays, archive, dones_of, filled_archive}
 use Rattle.archive_store.specs.Keeping.{IsKept}
@@ -34,6 +34,8 @@ one_entry (entries.Head tables mdb ∷ []) filled one r = let rest = r.2 in let 
 one_entry (entries.Head tables mdb ∷ entry ∷ es) filled one r = absurd (omega (arith, one))
 one_entry (entries.Rows rows ∷ es) filled one r = absurd r.1
 one_entry (entries.Fill interval base octets ∷ es) filled one r = absurd r.1
+one_entry (entries.Seal seal ∷ es) filled one r = absurd r.1
+one_entry (entries.LogHead rows ∷ es) filled one r = absurd r.1
 
 as_many : (es : List Entry) → length (map entry_octets es) ≡ length es
 as_many [] = refl

@@ -10,7 +10,7 @@ use Rattle.history_items.specs.declared.items.Item.{Item}
 use Rattle.store_fills.specs.LastFills.{PlacedFills, fillings_in}
 use Rattle.store_fills.specs.Sound.{Fillings, no_fillings}
 use Rattle.param_segments.specs.Rows.{SetRow}
-use Rattle.archive_store.specs.declared.head.Head.{Head}
+use Rattle.archive_store.specs.Head.{Head}
 use Rattle.archive_store.specs.AddedFills.{AddsRightFills}
 use Rattle.archive_store.specs.Calls.{IsStoreCreated}
 use Rattle.archive_store.specs.Entries.{FilledArchive, filled_archive}

@@ -10,7 +10,7 @@ use Rattle.dump_maker.specs.Made.{made_dumps}
 use Rattle.dump_maker.specs.Sheets.{made_sheets}
 use Rattle.param_segments.specs.Rows.{SetRow}
 use Rattle.store_fills.specs.Sound.{Fillings, no_fillings}
-use Rattle.archive_store.specs.declared.head.Head.{Head}
+use Rattle.archive_store.specs.Head.{Head}
 use Rattle.archive_store.specs.AddedFills.{AddsRightFills}
 use Rattle.archive_store.specs.Entries.{FilledArchive, filled_archive}
 use Rattle.archive_store.specs.LateFills.{late_in_archive}

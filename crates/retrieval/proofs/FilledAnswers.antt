@@ -8,6 +8,7 @@ use Rattle.std.proofs.lemmas.Bool.Decides.{nat_tests}
 use Rattle.std.proofs.lemmas.Int.{ints}
 use Rattle.asks.specs.declared.ask.Request.{Request}
 use Rattle.arch_types.specs.declared.cell.Cell.{Cell}
+use Rattle.arch_disk.specs.Disk.{Device}
 use Rattle.intervals.specs.declared.interval.Interval.{Interval}
 use Rattle.arch_types.specs.declared.row.Row.{Row}
 use Rattle.container_extract.specs.Extraction.{cell_of}
@@ -30,6 +31,7 @@ use Rattle.store_fills.specs.Filled.{HoldsRows}
 use Rattle.store_fills.specs.LastFills.{fillings_in}
 use Rattle.store_fills.specs.Sound.{AreSound, Filling, Fillings, base_of_filling}
 use Rattle.archive_store.proofs.CurrentSets.{current_by_fill, late_by_fill}
+use Rattle.archive_store.specs.Pages.{TellsRows}
 use Rattle.archive_store.specs.Plans.{IsPlan, IsPlanPart, interval_of_part, plan_intervals}
 use Rattle.archive_store.specs.StoreView.{StoreView}
 use Rattle.archive_store.proofs.Planning.{none_in_range}
@@ -42,7 +44,7 @@ use Rattle.archive_store.specs.LateFills.{is_late_by_fill}
 
 -- ---- a part has the cells of its interval
 
-module _ {D : Type 0} (store : StoreView D) (bases : (i : Interval) → base_in i store.fills ≡ base_of_filling (fillings_in store.filled) i) (db : Database) (q : ℕ) (low high : ℤ) where
+module _ {D : Type 0} (device : Device D) (store : StoreView D) (told : TellsRows device store) (bases : (i : Interval) → base_in i store.fills ≡ base_of_filling (fillings_in store.filled) i) (db : Database) (q : ℕ) (low high : ℤ) where
   abbrev of_interval : Interval → List Cell
   of_interval = cells_of_interval db q low high store.exponent store.history (fillings_in store.filled)
 
@@ -50,13 +52,13 @@ module _ {D : Type 0} (store : StoreView D) (bases : (i : Interval) → base_in 
       → of_interval i ≡ (if b then cells_of_rows db q low high (rows_of_interval store.exponent i store.history) else cells_of_fill db q low high (fillings_in store.filled i))
   by_lateness i b late = ap (λ (t : Bool). if t then cells_of_rows db q low high (rows_of_interval store.exponent i store.history) else cells_of_fill db q low high (fillings_in store.filled i)) late
 
-  part_cells : (part : Part) → IsPlanPart store part → cells_of_part db q low high part ≡ of_interval (interval_of_part part)
+  part_cells : (part : Part) → IsPlanPart device store part → cells_of_part db q low high part ≡ of_interval (interval_of_part part)
   part_cells (Set i set) current =
       sym (by_lateness i false (current_by_fill store.exponent store.history store.fills store.filled i bases current.current) ∙ ap (cells_of_fill db q low high) current.filled)
   part_cells (Rows i rows) late =
-      ap (cells_of_rows db q low high) late.1 ∙ sym (by_lateness i true (late_by_fill store.exponent store.history store.fills store.filled i bases late.0))
+      ap (cells_of_rows db q low high) (late.2 told) ∙ sym (by_lateness i true (late_by_fill store.exponent store.history store.fills store.filled i bases late.0))
 
-  pub parts_cells : (parts : List Part) → AllByRecursion (IsPlanPart store) parts → flat_map (cells_of_part db q low high) parts ≡ flat_map of_interval (plan_intervals parts)
+  pub parts_cells : (parts : List Part) → AllByRecursion (IsPlanPart device store) parts → flat_map (cells_of_part db q low high) parts ≡ flat_map of_interval (plan_intervals parts)
   parts_cells [] all = refl
   parts_cells (part ∷ parts) all =
       ap (λ (l : List Cell). l ++ flat_map (cells_of_part db q low high) parts) (part_cells part all.0) ∙ ap (λ (l : List Cell). of_interval (interval_of_part part) ++ l) (parts_cells parts all.1)
@@ -98,11 +100,11 @@ module _ (low high : ℤ) (empty : high ≤ℤ low) where
 
 -- ---- the answer
 
-pub plan_filled : {D : Type 0} (store : StoreView D) (db : Database) (q : ℕ) (request : Request) (plan : Plan) → ((i : Interval) → base_in i store.fills ≡ base_of_filling (fillings_in store.filled) i)
-    → IsPlan store request.from request.to plan
+pub plan_filled : {D : Type 0} (device : Device D) (store : StoreView D) (db : Database) (q : ℕ) (request : Request) (plan : Plan) → ((i : Interval) → base_in i store.fills ≡ base_of_filling (fillings_in store.filled) i)
+    → TellsRows device store → IsPlan device store request.from request.to plan
     → answer_over_parts db q request plan.parts ≡ filled_answer db q request store.exponent store.history (fillings_in store.filled)
-plan_filled store db q request plan bases planned =
-    ap (as_asked request) (parts_cells store bases db q request.from request.to plan.parts planned.each ∙ by_range (int_lt request.from request.to) refl)
+plan_filled device store db q request plan bases told planned =
+    ap (as_asked request) (parts_cells device store told bases db q request.from request.to plan.parts planned.each ∙ by_range (int_lt request.from request.to) refl)
   where
     f : Interval → List Cell
     f = cells_of_interval db q request.from request.to store.exponent store.history (fillings_in store.filled)

@@ -12,7 +12,7 @@ use Rattle.refusals.specs.declared.refusal.Refusal.TheVariants.{OutOfMemory}
 use Rattle.mdb_items.specs.Checks.{or_else}
 use Rattle.history_items.specs.declared.items.Item.{Item}
 use Rattle.history_items.specs.Databases.{database_in}
-use Rattle.archive_store.specs.declared.head.Head.{Head}
+use Rattle.archive_store.specs.Head.{Head}
 use Rattle.archive_store.specs.Finding.{IsNotFound, refusal_of_ask}
 use Rattle.retrieval.specs.AskText.{asks_refusal}
 use Rattle.retrieval.specs.declared.found_asks.FoundAsk.{FoundAsk}

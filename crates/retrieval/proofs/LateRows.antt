@@ -5,6 +5,7 @@ use Rattle.std.specs.List.{AllByRecursion}
 use Rattle.std.proofs.lemmas.Bool.{false_from_ne_true}
 use Rattle.std.proofs.lemmas.Int.{ints}
 use Rattle.std.proofs.lemmas.List.Elements.{filter-append}
+use Rattle.arch_disk.specs.Disk.{Device}
 use Rattle.intervals.specs.declared.interval.Interval.{Interval}
 use Rattle.arch_types.specs.declared.row.Row.{Row}
 use Rattle.arch_types.specs.Table.{is_in_time_range, range_of, table_of}
@@ -23,6 +24,7 @@ use Rattle.param_segments.specs.declared.plan.Part.{Part}
 use Rattle.param_segments.specs.declared.plan.Part.TheVariants.{Rows, Set}
 use Rattle.param_segments.specs.declared.plan.Plan.{Plan}
 use Rattle.param_segments.specs.Plans.{rows_of_parts}
+use Rattle.archive_store.specs.Pages.{TellsRows}
 use Rattle.archive_store.specs.Plans.{IsPlan, IsPlanPart, IsRangeInterval, is_late_of_range, late_rows_of_range, plan_intervals}
 use Rattle.archive_store.specs.StoreView.{StoreView}
 use Rattle.archive_store.proofs.Planning.{none_in_range}
@@ -78,12 +80,12 @@ turns_in_range exponent is low high history rising cover = go (int_lt low high) 
 
 -- ---- a plan
 
-module _ {D : Type 0} (store : StoreView D) (low high : ℤ) where
+module _ {D : Type 0} (device : Device D) (store : StoreView D) (low high : ℤ) (told : TellsRows device store) where
   abbrev is_late : Interval → Bool
   is_late = is_late_of_range store.exponent store.history store.fills low high
 
   -- the rows that parts leave to extract are those of late intervals
-  late_left : (parts : List Part) → AllByRecursion (IsPlanPart store) parts → AllByRecursion (IsRangeInterval store.exponent store.history low high) (plan_intervals parts)
+  late_left : (parts : List Part) → AllByRecursion (IsPlanPart device store) parts → AllByRecursion (IsRangeInterval store.exponent store.history low high) (plan_intervals parts)
       → rows_of_parts parts ≡ filter (row_test store.exponent is_late) (rows_in_turn store.exponent (plan_intervals parts) store.history)
   late_left [] each meet = refl
   late_left (Set interval set ∷ parts) each meet =
@@ -99,11 +101,11 @@ module _ {D : Type 0} (store : StoreView D) (low high : ℤ) where
       let behind = rows_in_turn store.exponent (plan_intervals parts) store.history in
       let late : is_late_in store.exponent interval store.history store.fills ≡ true = (late_by_last store.exponent interval store.history store.fills).1 each.0.0 in
       let passes : is_late interval ≡ true = ap (λ (b : Bool). b && meets_range store.exponent low high interval) late ∙ meets_true store.exponent low high interval meet.0.0 in
-      ap (λ (l : List Row). l ++ rows_of_parts parts) (each.0.1 ∙ sym (interval_passes store.exponent is_late interval store.history passes))
+      ap (λ (l : List Row). l ++ rows_of_parts parts) (each.0.2 told ∙ sym (interval_passes store.exponent is_late interval store.history passes))
       ∙ ap (λ (l : List Row). filter (row_test store.exponent is_late) own ++ l) (late_left parts each.1 meet.1)
       ∙ sym (filter-append (row_test store.exponent is_late) own behind)
 
-  pub late_in_range : (plan : Plan) → IsPlan store low high plan
+  pub late_in_range : (plan : Plan) → IsPlan device store low high plan
       → filter (is_in_time_range low high) (rows_of_parts plan.parts) ≡ filter (is_in_time_range low high) (late_rows_of_range store.exponent store.history store.fills low high)
   late_in_range plan planned =
       let in_range = is_in_time_range low high in

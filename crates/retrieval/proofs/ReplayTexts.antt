@@ -4,7 +4,7 @@ use Rattle.asks.specs.declared.ask.ReplayRequest.{ReplayRequest}
 use Rattle.arch_types.specs.declared.row.Row.{Row}
 use Rattle.history_items.specs.declared.items.Item.{Item}
 use Rattle.history_items.specs.Databases.{names_in}
-use Rattle.archive_store.specs.declared.head.Head.{Head}
+use Rattle.archive_store.specs.Head.{Head}
 use Rattle.archive_store.specs.Replays.{IsReplayOpened, rows_below}
 use Rattle.line_buffer.specs.Printed.{IsCutOff, IsPrinted, PrintsText}
 use Rattle.line_buffer.proofs.LineBuffers.{three_parts}

@@ -14,7 +14,7 @@ use Rattle.history_items.specs.declared.items.Item.{Item}
 use Rattle.history_items.specs.declared.items.Item.TheVariants as items
 use Rattle.history_items.specs.Databases.{names_in}
 use Rattle.history_items.specs.Items.{rows_in}
-use Rattle.archive_store.specs.declared.head.Head.{Head}
+use Rattle.archive_store.specs.Head.{Head}
 use Rattle.asks.specs.Names.{packet_name_numbers, table_number}
 use Rattle.archive_store.specs.Replays.{IsReplayOpened, rows_below}
 use Rattle.mdb_items.specs.Texts.{Text}

@@ -6,7 +6,7 @@ use Rattle.asks.specs.Refusals.{ask_refusal}
 use Rattle.refusals.specs.declared.refusal.Refusal.{Refusal}
 use Rattle.history_items.specs.declared.items.Item.{Item}
 use Rattle.history_items.specs.Databases.{database_in}
-use Rattle.archive_store.specs.declared.head.Head.{Head}
+use Rattle.archive_store.specs.Head.{Head}
 use Rattle.archive_store.specs.Finding.{refusal_of_ask}
 use Rattle.mdb_items.specs.Checks.{or_else}
 use Rattle.param_segments.specs.Rows.{SetRow}

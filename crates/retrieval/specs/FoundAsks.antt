@@ -5,7 +5,7 @@ use Rattle.asks.specs.declared.ask.Ask.{Ask}
 use Rattle.asks.specs.declared.ask.Ask.TheVariants as asked
 use Rattle.history_items.specs.declared.items.Item.{Item}
 use Rattle.history_items.specs.Databases.{database_in}
-use Rattle.archive_store.specs.declared.head.Head.{Head}
+use Rattle.archive_store.specs.Head.{Head}
 use Rattle.archive_store.specs.Finding.{IsReplayFound, IsRequestFound}
 use Rattle.retrieval.specs.declared.found_asks.FoundAsk.{FoundAsk}
 use Rattle.retrieval.specs.declared.found_asks.FoundAsk.TheVariants.{Values, Replay}

@@ -11,7 +11,7 @@ use Rattle.param_segments.specs.declared.plan.Plan.{Plan}
 use Rattle.param_segments.specs.Rows.{SetRow}
 use Rattle.store_fills.specs.Filled.{HoldsRows}
 use Rattle.store_fills.specs.Sound.{AreSound, Fillings}
-use Rattle.archive_store.specs.declared.head.Head.{Head}
+use Rattle.archive_store.specs.Head.{Head}
 use Rattle.archive_store.specs.Plans.{IsPlanOver}
 use Rattle.container_extract.specs.Answer.{answer_of}
 use Rattle.retrieval.specs.FilledAnswer.{filled_answer}

@@ -8,7 +8,7 @@ use Rattle.arch_types.specs.declared.row.Row.{Row}
 use Rattle.history_items.specs.declared.items.Item.{Item}
 use Rattle.history_items.specs.Databases.{names_in}
 use Rattle.history_items.specs.Items.{rows_in}
-use Rattle.archive_store.specs.declared.head.Head.{Head}
+use Rattle.archive_store.specs.Head.{Head}
 use Rattle.mdb_items.specs.Texts.{Text}
 use Rattle.replay_merge.specs.Replay.{replay_of}
 use Rattle.retrieval.specs.AnswerText.{end_line, front_line}

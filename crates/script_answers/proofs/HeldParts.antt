@@ -19,7 +19,7 @@ use Rattle.ssql_select.specs.declared.show.ShowLine.TheVariants.{Histogram}
 use Rattle.ssql_select.specs.Selection.{HoldsSelected}
 use Rattle.ssql_select.specs.SelectionText.{selection_text}
 use Rattle.ssql_types.specs.declared.query.TypedSelect.{TypedSelect}
-use Rattle.archive_store.specs.declared.head.Head.{Head}
+use Rattle.archive_store.specs.Head.{Head}
 use Rattle.archive_store.specs.Entries.{IsArchivedRow}
 use Rattle.archive_store.specs.Replays.{ArePartitions, rows_below}
 use Rattle.archive_store.proofs.Times.{archived_time}

@@ -13,7 +13,7 @@ use Rattle.history_items.specs.Databases.{names_in}
 use Rattle.history_items.specs.Items.{rows_in}
 use Rattle.archive_history.specs.PartitionedTable.{named_times_of}
 use Rattle.archive_history.specs.History.{rows_in_table}
-use Rattle.archive_store.specs.declared.head.Head.{Head}
+use Rattle.archive_store.specs.Head.{Head}
 use Rattle.archive_store.specs.Entries.{Archive}
 use Rattle.archive_store.specs.Replays.{ArePartitions}
 use Rattle.replay_merge.specs.Replay.{rows_asked}

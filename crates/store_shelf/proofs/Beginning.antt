@@ -2,7 +2,7 @@
 use Rattle.std.proofs.Common.{◌≡◌, ℕ, Bool, true, false, refl, sym, ◌∙◌, ap}
 use Rattle.std.specs.Prelude.{Some, if◌then◌else◌}
 use Rattle.logbook.specs.Pages.{Book}
-use Rattle.archive_store.specs.declared.head.Head.{Head}
+use Rattle.archive_store.specs.Head.{Head}
 use Rattle.archive_store.specs.StoreView.{OnlyAppends, StoreView}
 use Rattle.glance_log.specs.Sightings.{MayFollow, Sighting}
 use Rattle.glance_log.proofs.Prefixes.{prefix_self, prefix_trans}

@@ -1,5 +1,5 @@
 use Rattle.std.proofs.Common.{refl, subst}
-use Rattle.archive_store.specs.declared.head.Head.{Head}
+use Rattle.archive_store.specs.Head.{Head}
 use Rattle.archive_store.specs.Batches.{IsBatch}
 use Rattle.archive_store.proofs.Going.{goes_same}
 use Rattle.archive_fills_tests.proofs.shelves.take_in.Goals as goal

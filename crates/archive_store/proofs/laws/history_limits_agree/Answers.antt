@@ -1,4 +1,4 @@
-use Rattle.archive_store.proofs.Admitting.{limits_agree}
+use Rattle.archive_store.proofs.Limits.{limits_agree}
 use Rattle.archive_store.proofs.laws.history_limits_agree.Goals as goal
 
 pub returns : goal.returns

@@ -19,7 +19,7 @@ healed_or_two : {D : Type 0} (device : Device D) (old mid new : StoreView D) (ro
 healed_or_two device old mid new rows e (Ok x) none refused ok err transparent few c left = ok.images transparent c left
 healed_or_two {D = D} device old mid new rows e (Err r) none refused ok err transparent few c left =
     let failed = subst (IsStoreReopenRefusal device mid new) (reopen_failed device mid new r err) err in
-    ⊎_elim (λ is. absurd (omega (arith, few, failed.rose, (ingest_fault device old mid rows e refused is).rose))) (λ same. absurd (failed.unhealed (ap (λ (s : StoreView D). pending_fault_of s.fills) same ∙ none)))
+    ⊎_elim (λ is. absurd (omega (arith, few, failed.rose, (ingest_fault device old mid rows e refused is).1.rose))) (λ same. absurd (failed.unhealed (ap (λ (s : StoreView D). pending_fault_of s.fills) same ∙ none)))
     (ingest_untouched device old mid rows e refused)
 
 -- no failed write is pending after it

@@ -1,5 +1,5 @@
 use Rattle.std.proofs.Common.{subst}
-use Rattle.archive_store.specs.declared.head.Head.{Head}
+use Rattle.archive_store.specs.Head.{Head}
 use Rattle.archive_store.specs.Batches.{IsBatch}
 use Rattle.archive_store_tests.proofs.steps.ingest_answer.Goals as goal
 

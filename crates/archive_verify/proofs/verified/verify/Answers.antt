@@ -1,4 +1,4 @@
-use Rattle.std.proofs.Common.{◌≡◌, ◌∙◌, inl, inr, length, List, Result, Ok, Err, IfErr, refl, ap, subst}
+use Rattle.std.proofs.Common.{◌≡◌, ◌∙◌, inl, inr, length, List, Result, Ok, Err, IfErr, refl, sym, ap, subst}
 use Rattle.std.specs.Prelude.{IfNone, IfSome, IsErrAnd, filter}
 use Rattle.std.specs.List.{AllByRecursion}
 use Rattle.arch_disk.specs.Disk.{Device}
@@ -8,9 +8,11 @@ use Rattle.history_items.specs.Late.{is_late_in}
 use Rattle.mdb_items.specs.Database.{Database}
 use Rattle.refusals.specs.declared.refusal.Refusal.{Refusal}
 use Rattle.refusals.specs.declared.refusal.Refusal.TheVariants.{OutOfMemory}
+use Rattle.refusals.specs.Refusal.{refusal_of_rows}
 use Rattle.archive_store.specs.StoreView.{StoreView, filled_of}
-use Rattle.archive_store.specs.UnreadRows.{IsLeftByRefusal}
-use Rattle.archive_store.proofs.UnreadRows.{left_by, left_by_memory}
+use Rattle.archive_store.specs.UnreadRows.{IsLeftByAnswer, IsLeftByRefusal}
+use Rattle.archive_store.proofs.Calls.{passed_on}
+use Rattle.archive_store.proofs.UnreadRows.{left_by, left_by_memory, read_same}
 use Rattle.archive_verify.specs.declared.compared_sets.SetDifference.{SetDifference}
 use Rattle.archive_verify.specs.Verified.{HoldBelow, HoldsWhereCurrent, IsIntervalMismatch, IsMismatchOf, IsVerifyRefusal, database_of_archive}
 use Rattle.archive_verify.proofs.Counting.{as_many_intervals, as_many_passed}
@@ -18,22 +20,32 @@ use Rattle.archive_verify.proofs.Currents.{all_held, named_refusal}
 use Rattle.archive_verify.proofs.verified.verify.Goals as goal
 
 -- memory that is wanting is why rows aren't read
-wanting : {D X : Type 0} (device : Device D) (store : StoreView D) (r : Result X Refusal) → IsErrAnd r (λ e. e ≡ OutOfMemory) → IfErr r (IsVerifyRefusal device store store)
-wanting device store (Ok x) is = tt
-wanting device store (Err e) is = inr (unread.OutOfMemory, tt, is)
+wanting : {D X : Type 0} (device : Device D) (old new : StoreView D) (r : Result X Refusal) → IsErrAnd r (λ e. e ≡ OutOfMemory) → IfErr r (IsVerifyRefusal device old new)
+wanting device old new (Ok x) is = tt
+wanting device old new (Err e) is = inr (unread.OutOfMemory, tt, is)
+
+-- what is left where rows aren't read, of the refusal that is handed on
+unread_left : {D X : Type 0} (device : Device D) (old new : StoreView D) (r : Result X Refusal) (refusal : Refusal) → IsErrAnd r (λ e. e ≡ refusal) → IsLeftByRefusal device old new refusal → IsLeftByAnswer device old new r
+unread_left device old new (Ok x) refusal is left = absurd is
+unread_left device old new (Err e) refusal is left = subst (IsLeftByRefusal device old new) (sym is) left
 
 -- a mismatch is no failed read
-mismatch_left : {D : Type 0} (device : Device D) (store : StoreView D) (db : Database) (interval : Interval) (d : SetDifference) (refusal : Refusal) → IsMismatchOf db interval d refusal → IsLeftByRefusal device store store refusal
-mismatch_left device store db interval d refusal is = left_by device store store refusal (λ failed. subst (IsMismatchOf db interval d) failed is) refl
+mismatch_left : {D : Type 0} (device : Device D) (old new : StoreView D) (db : Database) (interval : Interval) (d : SetDifference) (refusal : Refusal) → IsMismatchOf db interval d refusal → new ≡ old → IsLeftByRefusal device old new refusal
+mismatch_left device old new db interval d refusal is same = left_by device old new refusal (λ failed. subst (IsMismatchOf db interval d) failed is) same
 
 pub returns-in_err-intervals-clause-refused : goal.returns-in_err-intervals-clause-refused
-returns-in_err-intervals-clause-refused g c = wanting g.D.Disk.device c.args.store.now c.from_residual.result c.from_residual.ensures.1
+returns-in_err-intervals-clause-refused g c = wanting g.D.Disk.device c.args.store.now c.args.store.now c.from_residual.result c.from_residual.ensures.1
 
 pub returns-in_err-difference-clause-refused : goal.returns-in_err-difference-clause-refused
-returns-in_err-difference-clause-refused g c = wanting g.D.Disk.device c.args.store.now c.from_residual-in_err-difference.result c.from_residual-in_err-difference.ensures.1
+returns-in_err-difference-clause-refused g c =
+    let device = g.D.Disk.device in
+    let old = c.args.store.now in
+    let new = c.first_difference_among.new.store in
+    let fault = c.in_err-difference.field-0.0 in
+    passed_on c.from_residual-in_err-difference.result (refusal_of_rows fault) (IsVerifyRefusal device old new) c.from_residual-in_err-difference.ensures.1 (inr (fault, c.in_err-difference.ensures.refused, refl))
 
 pub returns-in_err-mismatch_of-clause-refused : goal.returns-in_err-mismatch_of-clause-refused
-returns-in_err-mismatch_of-clause-refused g c = wanting g.D.Disk.device c.args.store.now c.from_residual-in_err-mismatch_of.result c.from_residual-in_err-mismatch_of.ensures.1
+returns-in_err-mismatch_of-clause-refused g c = wanting g.D.Disk.device c.args.store.now c.first_difference_among.new.store c.from_residual-in_err-mismatch_of.result c.from_residual-in_err-mismatch_of.ensures.1
 
 pub returns-clause-sound : goal.returns-clause-sound
 returns-clause-sound g c =
@@ -51,7 +63,7 @@ returns-clause-counted g c =
     record {
       rows = c.row_count-rows.ensures;
       intervals = c.len.ensures ∙ c.in_ok-intervals.intervals.ok.0 ∙ as_many_intervals store.exponent store.history is e.rising e.rows e.cover;
-      late = c.late_among.ensures ∙ ap (λ (l : List Interval). length (filter late l)) c.as_slice-2.ensures.value ∙ as_many_passed store.exponent store.history is e.rising e.rows e.cover late;
+      late = c.late_among.ensures ∙ ap (λ (x : StoreView g.row.D.Denot). length (filter (λ (i : Interval). is_late_in x.exponent i x.history x.fills) c.as_slice-2.result.now)) (read_same g.D.Disk.device store c.first_difference_among.new.store c.in_ok-difference.ensures.same) ∙ ap (λ (l : List Interval). length (filter late l)) c.as_slice-2.ensures.value ∙ as_many_passed store.exponent store.history is e.rising e.rows e.cover late;
     }
 
 pub returns-in-Some-clause-refused : goal.returns-in-Some-clause-refused
@@ -60,7 +72,8 @@ returns-in-Some-clause-refused g c =
     let is = c.in_ok-intervals.intervals.items in
     let d = c.in-Some.difference in
     let found = subst (λ o. IfSome o (λ x. IsIntervalMismatch (filled_of store) x.interval x.sets × HoldBelow (filled_of store) c.as_slice.result.now x.interval)) c.in-Some.is c.in_ok-difference.ensures.some in
-    inl (named_refusal store is d.interval d.sets c.in_ok-mismatch_of.field-0 c.in_ok-intervals.ensures.filled found.0 (subst (λ (l : List Interval). HoldBelow (filled_of store) l d.interval) c.as_slice.ensures.value found.1) (subst (λ (db : Database). IsMismatchOf db d.interval d.sets c.in_ok-mismatch_of.field-0) c.mdb.ensures c.in_ok-mismatch_of.ensures))
+    inl (named_refusal store is d.interval d.sets c.in_ok-mismatch_of.field-0 c.in_ok-intervals.ensures.filled found.0 (subst (λ (l : List Interval). HoldBelow (filled_of store) l d.interval) c.as_slice.ensures.value found.1) (subst (λ (db : Database). IsMismatchOf db d.interval d.sets c.in_ok-mismatch_of.field-0)
+    (c.mdb.ensures ∙ ap (λ (x : StoreView g.row.D.Denot). database_of_archive (filled_of x)) (read_same g.D.Disk.device store c.first_difference_among.new.store c.in_ok-difference.ensures.same)) c.in_ok-mismatch_of.ensures))
 
 -- ---- what it leaves
 
@@ -69,19 +82,24 @@ returns-in_err-intervals-clause-same g c = left_by_memory g.D.Disk.device c.args
 
 pub returns-in_err-difference-clause-same : goal.returns-in_err-difference-clause-same
 returns-in_err-difference-clause-same g c =
-    left_by_memory g.D.Disk.device c.args.store.now c.args.store.now c.from_residual-in_err-difference.result c.from_residual-in_err-difference.ensures.1 refl
+    unread_left g.D.Disk.device c.args.store.now c.first_difference_among.new.store c.from_residual-in_err-difference.result (refusal_of_rows c.in_err-difference.field-0.0) c.from_residual-in_err-difference.ensures.1 c.in_err-difference.ensures.same
 
 pub returns-in_err-mismatch_of-clause-same : goal.returns-in_err-mismatch_of-clause-same
 returns-in_err-mismatch_of-clause-same g c =
-    left_by_memory g.D.Disk.device c.args.store.now c.args.store.now c.from_residual-in_err-mismatch_of.result c.from_residual-in_err-mismatch_of.ensures.1 refl
+    let device = g.D.Disk.device in
+    let old = c.args.store.now in
+    let new = c.first_difference_among.new.store in
+    left_by_memory device old new c.from_residual-in_err-mismatch_of.result c.from_residual-in_err-mismatch_of.ensures.1 (read_same device old new c.in_ok-difference.ensures.same)
 
 pub returns-in-Some-clause-same : goal.returns-in-Some-clause-same
 returns-in-Some-clause-same g c =
-    let store = c.args.store.now in
+    let device = g.D.Disk.device in
+    let old = c.args.store.now in
+    let new = c.first_difference_among.new.store in
     let d = c.in-Some.difference in
     let refusal = c.in_ok-mismatch_of.field-0 in
-    mismatch_left g.D.Disk.device store (database_of_archive (filled_of store)) d.interval d.sets refusal
-    (subst (λ (db : Database). IsMismatchOf db d.interval d.sets refusal) c.mdb.ensures c.in_ok-mismatch_of.ensures)
+    mismatch_left device old new (database_of_archive (filled_of new)) d.interval d.sets refusal
+    (subst (λ (db : Database). IsMismatchOf db d.interval d.sets refusal) c.mdb.ensures c.in_ok-mismatch_of.ensures) (read_same device old new c.in_ok-difference.ensures.same)
 
 pub returns-clause-same : goal.returns-clause-same
-returns-clause-same g c = inl refl
+returns-clause-same g c = c.in_ok-difference.ensures.same

@@ -6,7 +6,7 @@ use Rattle.field_codec.specs.declared.entry.Entry.TheVariants as entries
 use Rattle.field_codec.specs.Entries.{IsArchiveEntry}
 use Rattle.arch_types.specs.History.{IsHistory}
 use Rattle.history_items.specs.Items.{rows_in}
-use Rattle.archive_store.specs.declared.head.Head.{Head}
+use Rattle.archive_store.specs.Head.{Head}
 use Rattle.archive_store.specs.StoreView.{StoreView}
 use Rattle.load_session.specs.Receiving.{IsRouteOver}
 use Rattle.load_jobs.specs.declared.ending.LinkEnd.{LinkEnd}

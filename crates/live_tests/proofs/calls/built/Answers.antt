@@ -7,7 +7,7 @@ use Rattle.live_tests.proofs.calls.built.Goals as goal
 pub returns-in-Ok-clause-right : goal.returns-in-Ok-clause-right
 returns-in-Ok-clause-right g c =
     let turn = c.in-Ok-Some.ensures.turn in
-    let begun = subst (IsFillBegun turn.before turn.after) c.in-Ok-Some.field-0-is turn.said in
+    let begun = subst (IsFillBegun g.D.Disk.device turn.before turn.after) c.in-Ok-Some.field-0-is turn.said in
     let task = c.in-Ok-Some.task in
     built_right _ g.D.Disk.device _ turn.before turn.after _ _ task c.in-Ok.filled turn.turned begun c.in-Ok.ensures
 

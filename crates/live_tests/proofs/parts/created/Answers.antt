@@ -1,5 +1,5 @@
 use Rattle.std.proofs.Common.{sym, subst}
-use Rattle.archive_store.specs.declared.head.Head.{Head}
+use Rattle.archive_store.specs.Head.{Head}
 use Rattle.live_tests.specs.Heads.{HasNames}
 use Rattle.live_tests.proofs.parts.created.Goals as goal
 

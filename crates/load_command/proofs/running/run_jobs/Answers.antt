@@ -2,7 +2,7 @@ use Rattle.std.proofs.Common.{◌≡◌, ◌∙◌, ℕ, w64, to_z, of_z, length
 use Rattle.std.proofs.lemmas.Int.{to_z-of_z}
 use Rattle.history_items.specs.Databases.{database_in, names_in}
 use Rattle.archive_store.specs.StoreView.{archive_of, filled_of}
-use Rattle.archive_store.specs.declared.head.Head.{Head}
+use Rattle.archive_store.specs.Head.{Head}
 use Rattle.command_words.specs.JobView.{load_words_of}
 use Rattle.retrieval.specs.FoundAsks.{AreFound, asks_found}
 use Rattle.ask_answers.proofs.CollectedTexts.{are_answers, each_answered}

@@ -1,8 +1,9 @@
 use Rattle.std.proofs.Common.{[], length, Ok, ap, refl, subst, arith}
 use Rattle.std.proofs.lemmas.Result.{err_from_is_err_and}
 use Rattle.history_items.proofs.Outcomes.{length-outcomes}
-use Rattle.archive_store.specs.declared.head.Head.{Head}
+use Rattle.archive_store.specs.Head.{Head}
 use Rattle.archive_store.specs.Batches.{IsBatch, batch_rows}
+use Rattle.archive_store.proofs.UnreadRows.{told_in_memory}
 use Rattle.live_archive.proofs.Added.{ingests_add}
 use Rattle.load_session.specs.Receiving.{Receiving, receiving}
 use Rattle.load_session.proofs.Arrived.{few_arrived, few_rows}
@@ -46,7 +47,7 @@ count_sent-requires-clause-routed g c =
     let routed = c.requires.within.routed in
     let turn = c.in_ok-ingested.ensures.turn in
     let counted = length-outcomes turn.before.history (batch_rows c.args.batch.batch) in
-    rw (c.as_slice.ensures, turn.said.outcomes_are) (omega (arith, more, less, count, rows, within, octets, routed, counted))
+    rw (c.as_slice.ensures, turn.said.outcomes_are (told_in_memory g.D.Disk.device turn.before)) (omega (arith, more, less, count, rows, within, octets, routed, counted))
 
 -- ---- what it comes to
 
@@ -62,7 +63,7 @@ returns-clause-sent g c = λ origin read sent packets ahead in_hand whole t u.
     let rows = batch_rows c.args.batch.batch in
     let adds = ingests_add _ device _ turn.before turn.after c.args.pass.now c.ingest.new.pass rows (Ok c.in_ok-ingested.ingested) turn.turned turn.said in
     let counted = length-outcomes turn.before.history rows in
-    let routed = rw (c.as_slice.ensures, turn.said.outcomes_are, counted) at next.routed in
+    let routed = rw (c.as_slice.ensures, turn.said.outcomes_are (told_in_memory g.D.Disk.device turn.before), counted) at next.routed in
     underway_sent (behind r origin) read origin c.args.pass.now p refl c.args.batch sent packets ahead in_hand whole t u turn.before c.ingest.new.pass q adds.0 adds.2 adds.1 c.requires.some next.waiting next.in_hand next.packets next.idle routed
 
 pub returns-clause-within : goal.returns-clause-within
@@ -72,7 +73,7 @@ returns-clause-within g c = λ more within.
     let next = c.count_sent.ensures in
     let turn = c.in_ok-ingested.ensures.turn in
     let counted = length-outcomes turn.before.history (batch_rows c.args.batch.batch) in
-    let routed = rw (c.as_slice.ensures, turn.said.outcomes_are, counted) at next.routed in
+    let routed = rw (c.as_slice.ensures, turn.said.outcomes_are (told_in_memory g.D.Disk.device turn.before), counted) at next.routed in
     within_sent r more c.args.batch c.args.progress.now c.count_sent.new.self c.requires.batch c.requires.head.0.few c.requires.route within next.waiting next.in_hand next.packets next.idle routed
 
 pub returns-in_err-ingested-clause-refused : goal.returns-in_err-ingested-clause-refused

@@ -17,7 +17,7 @@ fill_task-requires g c =
     let s = c.fills.store in
     let n = c.begin.new.self in
     let t : FillTask = c.in-Some.task in
-    let began : BeginsTask s n t = subst (IsFillBegun s n) c.in-Some.is c.in_ok-task.ensures.begun in
+    let began : BeginsTask g.D.Disk.device s n t = subst (IsFillBegun g.D.Disk.device s n) c.in-Some.is c.in_ok-task.ensures.begun in
     begun_task g.D.Disk.device c.args.store.now s n c.fills.filled c.fills.invariant t began
     (subst (λ (o : Option FillTask). IfSome o (λ task. IsTaskRows task.exponent task.interval task.rows)) c.in-Some.is c.in_ok-task.ensures.in_order)
 
@@ -26,7 +26,7 @@ fills-smaller g c =
     let s = c.fills.store in
     let n = c.begin.new.self in
     let t : FillTask = c.in-Some.task in
-    let began : BeginsTask s n t = subst (IsFillBegun s n) c.in-Some.is c.in_ok-task.ensures.begun in
+    let began : BeginsTask g.D.Disk.device s n t = subst (IsFillBegun g.D.Disk.device s n) c.in-Some.is c.in_ok-task.ensures.begun in
     let less = less_left g.D.Disk.device c.args.store.now s n c.fills.filled c.fills.invariant t began c.fill_task.new.store c.in_ok-fill_task.ensures.filled c.fill_task.ensures.same.1 in
     omega (arith, less)
 
@@ -35,13 +35,13 @@ fills-preserved g c =
     let s = c.fills.store in
     let n = c.begin.new.self in
     let t : FillTask = c.in-Some.task in
-    let began : BeginsTask s n t = subst (IsFillBegun s n) c.in-Some.is c.in_ok-task.ensures.begun in
+    let began : BeginsTask g.D.Disk.device s n t = subst (IsFillBegun g.D.Disk.device s n) c.in-Some.is c.in_ok-task.ensures.begun in
     filling_next g.D.Disk.device c.args.store.now s n c.fills.filled c.fills.invariant t began c.fill_task.new.store c.in_ok-fill_task.ensures.filled c.is_kept.ensures.bases c.fill_task.ensures.same
 
 pub returns-in_default-clause-filled : goal.returns-in_default-clause-filled
 returns-in_default-clause-filled g c =
     let s = c.fills.store in
-    let none = subst (IsFillBegun s c.begin.new.self) c.in_default.is c.in_ok-task.ensures.begun in
+    let none = subst (IsFillBegun g.D.Disk.device s c.begin.new.self) c.in_default.is c.in_ok-task.ensures.begun in
     filling_done g.D.Disk.device c.args.store.now s c.begin.new.self c.fills.filled c.fills.invariant none
 
 -- ---- a task was refused
@@ -52,7 +52,7 @@ returns-in_err-fill_task-clause-refused g c =
     let s = c.fills.store in
     let n = c.begin.new.self in
     let t : FillTask = c.in-Some.task in
-    let began : BeginsTask s n t = subst (IsFillBegun s n) c.in-Some.is c.in_ok-task.ensures.begun in
+    let began : BeginsTask g.D.Disk.device s n t = subst (IsFillBegun g.D.Disk.device s n) c.in-Some.is c.in_ok-task.ensures.begun in
     passed_on c.from_residual-in_err-fill_task.result c.in_err-fill_task.field-0.0 (IsFillingRefusal device c.args.store.now c.fill_task.new.store) c.from_residual-in_err-fill_task.ensures.1
     (filling_refused device c.args.store.now s n c.fills.filled c.fills.invariant t began c.fill_task.new.store c.in_err-fill_task.field-0.0 c.in_err-fill_task.ensures.refused)
 
@@ -61,7 +61,7 @@ returns-in_err-fill_task-clause-left g c =
     let s = c.fills.store in
     let n = c.begin.new.self in
     let t : FillTask = c.in-Some.task in
-    let began : BeginsTask s n t = subst (IsFillBegun s n) c.in-Some.is c.in_ok-task.ensures.begun in
+    let began : BeginsTask g.D.Disk.device s n t = subst (IsFillBegun g.D.Disk.device s n) c.in-Some.is c.in_ok-task.ensures.begun in
     given_up g.D.Disk.device c.args.store.now s n c.fills.filled c.fills.invariant t began c.fill_task.new.store c.in_err-fill_task.field-0.0 c.in_err-fill_task.ensures.refused c.fill_task.ensures.same
 
 -- ---- none is left
@@ -69,7 +69,7 @@ returns-in_err-fill_task-clause-left g c =
 pub returns-in_default-clause-left : goal.returns-in_default-clause-left
 returns-in_default-clause-left g c =
     let s = c.fills.store in
-    let none = subst (IsFillBegun s c.begin.new.self) c.in_default.is c.in_ok-task.ensures.begun in
+    let none = subst (IsFillBegun g.D.Disk.device s c.begin.new.self) c.in_default.is c.in_ok-task.ensures.begun in
     subst (IsFilledOn c.args.store.now) (sym none.1) (filled_so_far g.D.Disk.device c.args.store.now s c.fills.filled c.fills.invariant)
 
 -- ---- there was no memory to begin

@@ -4,7 +4,7 @@ use Rattle.history_items.specs.Databases.{database_in}
 use Rattle.history_items.specs.Items.{rows_in}
 use Rattle.archive_store.specs.UnreadRows.{IsReadFault}
 use Rattle.archive_store.proofs.Calls.{passed_on}
-use Rattle.archive_store.proofs.UnreadRows.{left_by_read, memory_unread, read_same, refusal_same}
+use Rattle.archive_store.proofs.UnreadRows.{left_by_read, memory_unread, read_same, refusal_same, told_in_memory}
 use Rattle.mdb_items.specs.Database.{Database}
 use Rattle.refusals.specs.Refusal.{refusal_of_rows}
 use Rattle.param_segments.specs.Plans.{ArePartsOver, HasValuesOf}
@@ -47,7 +47,7 @@ returns-in_err-answer-clause-same g c =
 pub returns-in_err-answer-clause-steps : goal.returns-in_err-answer-clause-steps
 returns-in_err-answer-clause-steps g c =
     let request = c.args.found.now.request in
-    let late = ap length (late_in_range c.args.store.now request.from request.to c.in_ok-plan.plan c.in_ok-plan.ensures.planned) in
+    let late = ap length (late_in_range g.D.Disk.device c.args.store.now request.from request.to (told_in_memory g.D.Disk.device c.args.store.now) c.in_ok-plan.plan c.in_ok-plan.ensures.planned) in
     omega (arith, c.answer.ensures.steps, late)
 
 pub returns-clause-filled : goal.returns-clause-filled
@@ -63,7 +63,7 @@ returns-clause-filled g c =
       named = c.requires.found.number;
       cells = c.in_ok-answer.ensures.cells
           ∙ ap (λ (db : Database). answer_over_parts db found.number found.request plan.parts) planned.mdb
-          ∙ plan_filled store in_force found.number found.request plan c.is_kept.ensures.bases planned;
+          ∙ plan_filled g.D.Disk.device store in_force found.number found.request plan c.is_kept.ensures.bases (told_in_memory g.D.Disk.device store) planned;
     }
 
 pub returns-clause-answered : goal.returns-clause-answered
@@ -82,7 +82,7 @@ returns-clause-answered g c = λ transparent image.
 pub returns-clause-steps : goal.returns-clause-steps
 returns-clause-steps g c =
     let request = c.args.found.now.request in
-    let late = ap length (late_in_range c.args.store.now request.from request.to c.in_ok-plan.plan c.in_ok-plan.ensures.planned) in
+    let late = ap length (late_in_range g.D.Disk.device c.args.store.now request.from request.to (told_in_memory g.D.Disk.device c.args.store.now) c.in_ok-plan.plan c.in_ok-plan.ensures.planned) in
     omega (arith, c.answer.ensures.steps, late)
 
 pub returns-clause-same : goal.returns-clause-same

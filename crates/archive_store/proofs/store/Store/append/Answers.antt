@@ -14,21 +14,22 @@ use Rattle.history_items.proofs.Databases.{rows_keep_database}
 use Rattle.disk_journal.specs.Calls.{IsAppendFailed}
 use Rattle.disk_journal.specs.Format.{IsBeforeOrAfter}
 use Rattle.disk_journal.specs.State.{HasOnDisk as JournalHasOnDisk}
-use Rattle.disk_journal.specs.State.{unhealed_fault, faults_of, file_of, count_of}
+use Rattle.disk_journal.specs.State.{unhealed_fault, faults_of, file_of}
 use Rattle.disk_journal.proofs.Calls.{appended_on, append_failed_on, append_crash_on}
 use Rattle.field_codec.specs.declared.entry.Entry.TheVariants as entries
 use Rattle.field_codec.specs.Spelling.{entry_octets}
 use Rattle.fill_tracker.specs.FillTracker.{AreMarksOf, FillTrackerView}
 use Rattle.store_fills.specs.LastFills.{fillings_in}
-use Rattle.archive_store.specs.Entries.{archive, filled_archive, AreAdmitted}
-use Rattle.archive_store.specs.Inside.{HoldsFills, StoreInvariant, view_of}
-use Rattle.archive_store.specs.Unacknowledged.{with_rows}
+use Rattle.archive_images.specs.Entries.{archive, filled_archive, AreAdmitted}
+use Rattle.archive_reading.specs.PartialArchive.{HoldsFills}
+use Rattle.archive_store.specs.Inside.{StoreInvariant, view_of}
+use Rattle.archive_images.specs.Unacknowledged.{with_rows}
 use Rattle.archive_store.specs.StoreView.{OnlyAppends, AddsFault, StoreView, filled_of}
-use Rattle.archive_store.specs.Stands.{StandsFilled}
+use Rattle.archive_images.specs.Stands.{StandsFilled}
 use Rattle.archive_store.proofs.Batching.{placed_tables}
-use Rattle.archive_store.proofs.Fillable.{holds_later, holds_same}
+use Rattle.archive_reading.proofs.Fillable.{holds_later, holds_same}
 use Rattle.archive_store.proofs.Going.{goes_fill, goes_same}
-use Rattle.archive_store.proofs.RowsAlone.{more_alone}
+use Rattle.archive_images.proofs.RowsAlone.{more_alone}
 use Rattle.archive_store.proofs.Kept.{LeavesRows, healthy, kept_same, kept_ok, kept_err, moments_of, fault}
 use Rattle.archive_store.proofs.KeptFills.{unharmed}
 use Rattle.archive_store.proofs.PlainLog.{either_filled}

@@ -5,7 +5,7 @@ use Rattle.intervals.specs.declared.interval.Interval.{Interval}
 use Rattle.disk_journal.specs.Calls.{IsAppendFailed}
 use Rattle.disk_journal.specs.Format.{IsBeforeOrAfter}
 use Rattle.disk_journal.specs.State.{HasOnDisk as JournalHasOnDisk}
-use Rattle.disk_journal.specs.State.{unhealed_fault, faults_of, file_of, count_of}
+use Rattle.disk_journal.specs.State.{unhealed_fault, faults_of, file_of}
 use Rattle.disk_journal.proofs.Calls.{appended_on, append_failed_on, append_crash_on}
 use Rattle.fill_tracker.specs.FillTracker.{AreMarksOf, FillTrackerView}
 use Rattle.history_items.specs.declared.fills.Addition.TheVariants as additions
@@ -25,16 +25,18 @@ use Rattle.param_segments.specs.Rows.{SetRow}
 use Rattle.store_fills.specs.Filled.{IsRightFill}
 use Rattle.store_fills.specs.LastFills.{PlacedFills, fill_over, filling_of, fillings_in}
 use Rattle.store_fills.specs.Sound.{Filling, with_filling}
-use Rattle.archive_store.specs.Entries.{filled_archive}
-use Rattle.archive_store.specs.Inside.{HoldsFills, StoreInvariant, view_of}
+use Rattle.archive_images.specs.Entries.{filled_archive}
+use Rattle.archive_reading.specs.PartialArchive.{HoldsFills}
+use Rattle.archive_store.specs.Inside.{StoreInvariant, view_of}
 use Rattle.archive_store.specs.Installs.{FillIsAppended, IsOwnFill, filled_with}
-use Rattle.archive_store.specs.Stands.{StandsFilled}
+use Rattle.archive_images.specs.Stands.{StandsFilled}
 use Rattle.archive_store.specs.StoreView.{AddsFault, OnlyAppends, StoreView, filled_of}
-use Rattle.archive_store.proofs.Fillable.{holds_done, holds_same, marked_has}
+use Rattle.archive_reading.proofs.Fillable.{holds_done, holds_same, marked_has}
 use Rattle.archive_store.proofs.Going.{goes_fill, goes_same}
 use Rattle.archive_store.proofs.Kept.{healthy, kept_same}
 use Rattle.archive_store.proofs.KeptFills.{fill_fault, fill_err, fill_moments, fill_ok, unharmed, with_fill}
-use Rattle.archive_store.proofs.PlainLog.{StandsPlain, either_filled}
+use Rattle.archive_images.proofs.PlainImages.{StandsPlain}
+use Rattle.archive_store.proofs.PlainLog.{either_filled}
 use Rattle.archive_store.proofs.SameFaults.{same_faults_item, same_faults_kept}
 use Rattle.archive_store.proofs.store.Store.append_fill.Given.{Over}
 use Rattle.archive_store.proofs.store.Store.append_fill.Goals.{After-prepare_fill-prepared, After-append_entry, After-put, In-Err}

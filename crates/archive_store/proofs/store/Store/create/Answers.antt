@@ -9,12 +9,12 @@ use Rattle.disk_journal.specs.Format.{HasRecords, HoldsNone}
 use Rattle.disk_journal.specs.State.{HasOnDisk as JournalHasOnDisk}
 use Rattle.intervals.specs.Interval.{format_1_exponent}
 use Rattle.fill_tracker.specs.FillTracker.{AreMarksOf}
-use Rattle.archive_store.specs.declared.head.Head.{Head}
+use Rattle.archive_images.specs.declared.head.Head.{Head}
 use Rattle.archive_store.specs.Inside.{StoreInvariant}
 use Rattle.archive_store.specs.Calls.{IsStoreCreateRefusal}
-use Rattle.archive_store.specs.Stands.{IsSoundImage}
+use Rattle.archive_images.specs.Stands.{IsSoundImage}
 use Rattle.store_fills.proofs.Bases.{none_filled}
-use Rattle.archive_store.proofs.Fillable.{holds_none}
+use Rattle.archive_reading.proofs.Fillable.{holds_none}
 use Rattle.archive_store.proofs.Opened.{kept_made, made_sound, making}
 use Rattle.archive_store.proofs.Refusals.{making_refused}
 use Rattle.archive_store.proofs.store.Store.create.Goals as goal

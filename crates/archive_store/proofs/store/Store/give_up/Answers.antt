@@ -2,9 +2,10 @@ use Rattle.std.proofs.Common.{List, sym, ◌∙◌, ap, subst}
 use Rattle.history_items.specs.declared.fills.Fill.{Fill}
 use Rattle.interval_fills.specs.Steps.{freed}
 use Rattle.interval_fills.proofs.Freed.{freed_bases}
-use Rattle.archive_store.specs.Inside.{HoldsFills, StoreInvariant, view_of}
+use Rattle.archive_reading.specs.PartialArchive.{HoldsFills}
+use Rattle.archive_store.specs.Inside.{StoreInvariant, view_of}
 use Rattle.archive_store.specs.StoreView.{StoreView}
-use Rattle.archive_store.proofs.Fillable.{holds_same}
+use Rattle.archive_reading.proofs.Fillable.{holds_same}
 use Rattle.archive_store.proofs.SameFaults.{same_faults_freed, same_faults_kept, with_fills}
 use Rattle.archive_store.proofs.store.Store.give_up.Goals as goal
 

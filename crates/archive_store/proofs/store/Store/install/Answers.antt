@@ -5,7 +5,7 @@ use Rattle.history_items.specs.Fills.{pending_fault_of}
 use Rattle.history_items.specs.Late.{last_in}
 use Rattle.interval_fills.specs.Intervals.{NoneSince}
 use Rattle.archive_store.specs.Installs.{IsAbandoned, IsInstallable, filled_with}
-use Rattle.archive_store.specs.Stands.{StandsFilled}
+use Rattle.archive_images.specs.Stands.{StandsFilled}
 use Rattle.archive_store.specs.StoreView.{StoreView, filled_of}
 use Rattle.archive_store.specs.Tasks.{machine_state}
 use Rattle.archive_store.proofs.Installs.{at_done, counts_on, counts_same, goes_given_up, goes_on, install_refused, same_disk}

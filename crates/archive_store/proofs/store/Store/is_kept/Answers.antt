@@ -6,7 +6,7 @@ use Rattle.archive_store.specs.Keeping.{IsKept}
 use Rattle.archive_store.specs.StoreView.{StoreView}
 use Rattle.archive_store.proofs.KeptFills.{kept_now, records_now}
 use Rattle.archive_store.proofs.PlainLog.{crash_of, sound_of}
-use Rattle.archive_store.proofs.RowsAlone.{few_names}
+use Rattle.archive_images.proofs.RowsAlone.{few_names}
 use Rattle.archive_store.proofs.store.Store.is_kept.Goals as goal
 
 pub returns : goal.returns

@@ -1,7 +1,7 @@
 use Rattle.std.proofs.Common.{◌≡◌, length, sym, ◌∙◌, subst}
 use Rattle.history_items.specs.Databases.{names_in}
 use Rattle.archive_store.specs.StoreView.{StoreView}
-use Rattle.archive_store.proofs.RowsAlone.{few_names}
+use Rattle.archive_images.proofs.RowsAlone.{few_names}
 use Rattle.archive_store.proofs.store.Store.name_count.Goals as goal
 
 pub returns-clause-count : goal.returns-clause-count

@@ -1,7 +1,7 @@
 use Rattle.std.proofs.Common.{◌≡◌, sym, ◌∙◌, subst}
 use Rattle.history_items.specs.Databases.{names_in}
 use Rattle.archive_store.specs.StoreView.{StoreView}
-use Rattle.archive_store.proofs.RowsAlone.{names_of_head}
+use Rattle.archive_images.proofs.RowsAlone.{names_of_head}
 use Rattle.archive_store.proofs.store.Store.names.Goals as goal
 
 pub returns-in-Ok-clause-names : goal.returns-in-Ok-clause-names

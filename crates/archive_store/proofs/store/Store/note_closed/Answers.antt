@@ -6,9 +6,10 @@ use Rattle.history_items.specs.Fills.{base_in}
 use Rattle.history_items.proofs.FillLists.{base_after_item}
 use Rattle.late_marks.specs.Marks.{Marks}
 use Rattle.fill_tracker.specs.FillTracker.{AreMarksOf}
-use Rattle.archive_store.specs.Inside.{HoldsFills, StoreInvariant, view_of}
+use Rattle.archive_reading.specs.PartialArchive.{HoldsFills}
+use Rattle.archive_store.specs.Inside.{StoreInvariant, view_of}
 use Rattle.archive_store.specs.StoreView.{StoreView, OnlyAppends}
-use Rattle.archive_store.proofs.Fillable.{holds_same}
+use Rattle.archive_reading.proofs.Fillable.{holds_same}
 use Rattle.archive_store.proofs.Going.{goes_fill, goes_same}
 use Rattle.archive_store.proofs.SameFaults.{same_faults_item, same_faults_kept, with_fills}
 use Rattle.archive_store.proofs.store.Store.note_closed.Goals as goal

@@ -6,13 +6,13 @@ use Rattle.disk_journal.specs.Format.{HasRecords}
 use Rattle.disk_journal.proofs.Bodies.{length-extents}
 use Rattle.field_codec.specs.Spelling.{entry_octets}
 use Rattle.archive_store.specs.Calls.{IsStoreOpenRefusal}
-use Rattle.archive_store.specs.PartialArchive.{filled_made}
-use Rattle.archive_store.specs.Stands.{StandsFilled}
+use Rattle.archive_reading.specs.PartialArchive.{filled_made}
+use Rattle.archive_images.specs.Stands.{StandsFilled}
 use Rattle.archive_store.specs.Inside.{StoreInvariant}
-use Rattle.archive_store.proofs.Archives.{begins_open, none_read, whole_read}
+use Rattle.archive_reading.proofs.Archives.{begins_open, none_read, whole_read}
 use Rattle.archive_store.proofs.Calls.{decided_refused, decided_opened}
 use Rattle.archive_store.proofs.Opened.{kept_open, stands_found, stands_since}
-use Rattle.archive_store.proofs.RowsAlone.{in_force}
+use Rattle.archive_images.proofs.RowsAlone.{in_force}
 use Rattle.archive_store.proofs.Refusals.{begin_refused, read_refused}
 use Rattle.archive_store.proofs.store.Store.open.Goals as goal
 

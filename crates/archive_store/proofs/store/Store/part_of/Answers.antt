@@ -1,36 +1,59 @@
-use Rattle.std.proofs.Common.{◌≡◌, sym, subst}
-use Rattle.std.specs.Prelude.{IsSome}
+use Rattle.std.proofs.Common.{◌≡◌, ◌⊎◌, None, inl, refl, subst}
+use Rattle.std.specs.Prelude.{IfNone, IfSome}
 use Rattle.std.specs.Arc.{arc_value}
-use Rattle.history_items.specs.Late.{IsLate, last_in}
-use Rattle.interval_fills.specs.Intervals.{rows_of_interval}
+use Rattle.history_items.specs.Late.{IsLate}
+use Rattle.store_fills.specs.LastFills.{fillings_in}
 use Rattle.archive_store.specs.CurrentSets.{IsCurrentSet}
-use Rattle.archive_store.specs.Inside.{view_of}
-use Rattle.archive_store.specs.StoreView.{StoreView}
-use Rattle.archive_store.proofs.CurrentSets.{current_is, last_in_clock, last_row, late_or_never_filled}
+use Rattle.archive_store.specs.UnreadRows.{IsReadFault}
+use Rattle.refusals.specs.Refusal.{refusal_of_rows}
+use Rattle.archive_store.proofs.Calls.{passed_on}
+use Rattle.archive_store.proofs.CurrentSets.{last_row, late_or_never_filled}
+use Rattle.archive_store.proofs.UnreadRows.{left_by_read, memory_unread, refusal_same}
 use Rattle.archive_store.proofs.store.Store.part_of.Goals as goal
 
-pub rows_of-requires-clause-interval : goal.rows_of-requires-clause-interval
-rows_of-requires-clause-interval g c =
-    let s = c.self.inside in
-    let some = subst (λ (x : StoreView g.row.D.Denot). IsSome (last_in x.exponent c.args.interval x.history)) (sym c.self.view_is) c.requires in
-    last_in_clock s.head s.history.exponent s.history.items c.args.interval c.self.invariant.0.rows some
+-- ---- there was no memory for the set
+
+pub returns-in_err-set-clause-refused : goal.returns-in_err-set-clause-refused
+returns-in_err-set-clause-refused g c = memory_unread g.D.Disk.device c.args.self.now c.args.self.now c.from_residual.result c.from_residual.ensures.1
+
+pub returns-in_err-set-clause-same : goal.returns-in_err-set-clause-same
+returns-in_err-set-clause-same g c =
+    let s = c.args.self.now in
+    let r = c.from_residual.result in
+    left_by_read g.D.Disk.device s s r (memory_unread g.D.Disk.device s s r c.from_residual.ensures.1) refl
+
+-- ---- rows are read
+
+pub returns-in_err-rows-clause-refused : goal.returns-in_err-rows-clause-refused
+returns-in_err-rows-clause-refused g c =
+    passed_on c.from_residual-in_err-rows.result c.in_err-rows.field-0.0 (IsReadFault g.D.Disk.device c.args.self.now c.interval_rows.new.self) c.from_residual-in_err-rows.ensures.1 c.in_err-rows.ensures.refused
+
+pub returns-in_err-rows-clause-same : goal.returns-in_err-rows-clause-same
+returns-in_err-rows-clause-same g c =
+    let device = g.D.Disk.device in
+    let old = c.args.self.now in
+    let new = c.interval_rows.new.self in
+    let fault = c.in_err-rows.field-0.0 in
+    left_by_read device old new c.from_residual-in_err-rows.result
+    (passed_on c.from_residual-in_err-rows.result fault (IsReadFault device old new) c.from_residual-in_err-rows.ensures.1 c.in_err-rows.ensures.refused)
+    (refusal_same device old new (refusal_of_rows fault) c.in_err-rows.ensures.same)
 
 pub returns-in_default-clause-part : goal.returns-in_default-clause-part
 returns-in_default-clause-part g c =
-    let s = c.self.inside in
+    let s = c.args.self.now in
     let i = c.args.interval in
-    let some = subst (λ (x : StoreView g.row.D.Denot). IsSome (last_in x.exponent i x.history)) (sym c.self.view_is) c.requires in
-    let row = last_row s.history.exponent s.history.items i some in
-    let late = late_or_never_filled s.history.exponent s.history.items s.tracker.fills s.sets.filled i c.self.invariant.4.bases row (c.in_default.ensures.none s.history.exponent s.history.items c.self.invariant.3) in
-    subst (λ (x : StoreView g.row.D.Denot). IsLate x.exponent i x.history x.fills × (c.in_ok-rows.rows ≡ rows_of_interval x.exponent i x.history)) c.self.view_is (late, c.in_ok-rows.ensures)
+    let row = last_row s.exponent s.history i c.requires in
+    let none = subst (λ o. IfNone o (IsLate s.exponent i s.history s.fills ⊎ (fillings_in s.filled i ≡ None))) c.in_default.is c.in_ok-set.ensures.none in
+    let late = late_or_never_filled s.exponent s.history s.fills s.filled i c.is_kept.ensures.bases row none in
+    (late, c.in_ok-rows.ensures.archived, c.in_ok-rows.ensures.rows)
+
+pub returns-in_default-clause-same : goal.returns-in_default-clause-same
+returns-in_default-clause-same g c = c.in_ok-rows.ensures.same
+
+-- ---- its set stands
 
 pub returns-clause-part : goal.returns-clause-part
-returns-clause-part g c =
-    let s = c.self.inside in
-    let i = c.args.interval in
-    let fill = c.in-Some.fill.now in
-    let store : StoreView g.row.D.Denot = view_of s.disk s.opened.value s.journal s.head s.history.exponent s.history.items s.tracker.fills s.sets.filled in
-    let some = subst (λ (x : StoreView g.row.D.Denot). IsSome (last_in x.exponent i x.history)) (sym c.self.view_is) c.requires in
-    let row = last_row s.history.exponent s.history.items i some in
-    let current = current_is store i fill.base (arc_value fill.set) c.self.invariant.4 c.in-Some.ensures.filled (c.in-Some.ensures.current s.history.exponent s.history.items c.self.invariant.3) row in
-    subst (λ (x : StoreView g.row.D.Denot). IsCurrentSet x i (arc_value c.in_ok-set.set)) c.self.view_is (subst (IsCurrentSet store i) (sym c.in_ok-set.ensures) current)
+returns-clause-part g c = subst (λ o. IfSome o (λ set. IsCurrentSet c.args.self.now c.args.interval (arc_value set))) c.in-Some.is c.in_ok-set.ensures.some
+
+pub returns-clause-same : goal.returns-clause-same
+returns-clause-same g c = inl refl

@@ -10,10 +10,10 @@ use Rattle.disk_journal.specs.State.{unhealed_fault, count_of}
 use Rattle.disk_journal.proofs.Calls.{healed_on, heal_failed_on, heal_crash_on, heal_refusal_failed}
 use Rattle.store_fills.specs.LastFills.{PlacedFills, fillings_in}
 use Rattle.archive_store.specs.StoreView.{StoreView, IsNow, filled_of}
-use Rattle.archive_store.specs.declared.head.Head.{Head}
-use Rattle.archive_store.specs.Entries.{filled_archive}
+use Rattle.archive_images.specs.declared.head.Head.{Head}
+use Rattle.archive_images.specs.Entries.{filled_archive}
 use Rattle.archive_store.specs.Inside.{StoreInvariant, view_of}
-use Rattle.archive_store.proofs.Fillable.{holds_same}
+use Rattle.archive_reading.proofs.Fillable.{holds_same}
 use Rattle.archive_store.proofs.Kept.{healthy}
 use Rattle.archive_store.proofs.Healing.{heal_moments, moments_for, kept_healed, kept_unhealed}
 use Rattle.archive_store.proofs.KeptFills.{kept_now}

@@ -10,7 +10,7 @@ use Rattle.replay_merge.specs.Cursor.{CursorView, rest_of}
 use Rattle.replay_merge.specs.Replay.{replay_of}
 use Rattle.archive_store.specs.Replays.{IsReplayOpened, rows_below}
 use Rattle.archive_store.specs.StoreView.{StoreView}
-use Rattle.archive_store.proofs.RowsAlone.{names_of_head}
+use Rattle.archive_images.proofs.RowsAlone.{names_of_head}
 use Rattle.archive_store.proofs.store.Store.replay_open.Goals as goal
 
 -- what three facts of what was made give

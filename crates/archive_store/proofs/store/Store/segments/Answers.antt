@@ -9,7 +9,7 @@ use Rattle.store_fills.specs.Filled.{HoldsRows}
 use Rattle.store_fills.specs.LastFills.{fillings_in}
 use Rattle.archive_store.specs.CurrentSets.{IsCurrentSet}
 use Rattle.archive_store.specs.Inside.{view_of}
-use Rattle.archive_store.specs.Stands.{IsSoundImage}
+use Rattle.archive_images.specs.Stands.{IsSoundImage}
 use Rattle.archive_store.specs.StoreView.{StoreView}
 use Rattle.archive_store.proofs.CurrentSets.{current_holds, current_is}
 use Rattle.archive_store.proofs.IntervalRows.{filled_stands}

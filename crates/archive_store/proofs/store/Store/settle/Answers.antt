@@ -1,8 +1,9 @@
 use Rattle.std.proofs.Common.{List, sym, ◌∙◌, ap, subst}
 use Rattle.history_items.specs.declared.fills.Fill.{Fill}
-use Rattle.archive_store.specs.Inside.{HoldsFills, StoreInvariant, view_of}
+use Rattle.archive_reading.specs.PartialArchive.{HoldsFills}
+use Rattle.archive_store.specs.Inside.{StoreInvariant, view_of}
 use Rattle.archive_store.specs.StoreView.{StoreView}
-use Rattle.archive_store.proofs.Fillable.{holds_same}
+use Rattle.archive_reading.proofs.Fillable.{holds_same}
 use Rattle.archive_store.proofs.SameFaults.{same_faults_kept, same_faults_all_freed, with_fills}
 use Rattle.interval_fills.specs.Steps.{all_freed}
 use Rattle.interval_fills.proofs.Freed.{all_freed_bases}

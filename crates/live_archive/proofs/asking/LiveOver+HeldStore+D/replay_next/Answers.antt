@@ -1,4 +1,4 @@
-use Rattle.archive_store.proofs.UnreadRows.{unread_same}
+use Rattle.archive_store.proofs.UnreadRows.{told_in_memory, unread_same}
 use Rattle.live_archive.proofs.Asked.{rows_as_seen}
 use Rattle.live_archive.proofs.Closings.{none_same}
 use Rattle.live_archive.proofs.Going.{goes_same}
@@ -26,4 +26,4 @@ returns-clause-turn g c =
 pub returns-clause-rows : goal.returns-clause-rows
 returns-clause-rows g c =
     let step = c.replay_step-result in
-    rows_as_seen step.result c.args.cursor.now step.new.cursor _ c.enter-held.result.store.history c.requires.front c.enter-held.ensures.begins step.ensures.asked step.ensures.rows
+    rows_as_seen step.result c.args.cursor.now step.new.cursor _ c.enter-held.result.store.history c.requires.front c.enter-held.ensures.begins step.ensures.asked (step.ensures.rows (told_in_memory g.D.Disk.device c.enter-held.result.store))

@@ -1,0 +1,13 @@
+pub mod Archived
+pub mod Exact
+pub mod Exponents
+pub mod FileRecords
+pub mod Images
+pub mod OneJournal
+pub mod PendingFaults
+pub mod PlainImages
+pub mod RowsAlone
+pub mod NamedFiles
+pub mod SealMoments
+pub mod SealedOnce
+pub mod Times

@@ -1,6 +1,0 @@
-use Rattle.std.proofs.Common.{◌≡◌, ◌++◌}
-use Rattle.archive_store.proofs.filling.copies_of.Given as goal
-
--- the copies so far, and the rows that are left
-abbrev pub invariant-loop-row : goal.invariant-loop-row
-invariant-loop-row l = l.copies ++ l.row-iterator ≡ l.fn.rows

@@ -1,5 +1,0 @@
-use Rattle.archive_store.proofs.Exact.{damaged_once}
-use Rattle.archive_store.proofs.laws.damage_is_one.Goals as goal
-
-pub returns : goal.returns
-returns c = damaged_once

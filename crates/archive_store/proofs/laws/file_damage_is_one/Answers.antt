@@ -1,5 +1,0 @@
-use Rattle.archive_store.proofs.FileRecords.{file_damaged_once}
-use Rattle.archive_store.proofs.laws.file_damage_is_one.Goals as goal
-
-pub returns : goal.returns
-returns c = file_damaged_once

@@ -1,5 +1,0 @@
-use Rattle.archive_store.proofs.FileRecords.{file_once}
-use Rattle.archive_store.proofs.laws.files_are_one.Goals as goal
-
-pub returns : goal.returns
-returns c = file_once

@@ -1,5 +1,0 @@
-use Rattle.archive_store.proofs.FileRecords.{file_not_damaged}
-use Rattle.archive_store.proofs.laws.files_are_whole.Goals as goal
-
-pub returns : goal.returns
-returns c = file_not_damaged

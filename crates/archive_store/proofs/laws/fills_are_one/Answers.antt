@@ -1,5 +1,0 @@
-use Rattle.archive_store.proofs.Exact.{filled_once}
-use Rattle.archive_store.proofs.laws.fills_are_one.Goals as goal
-
-pub returns : goal.returns
-returns c = filled_once

@@ -1,0 +1,12 @@
+-- Rows of a store that stand on pages of its disk.
+use Rattle.std.specs.Prelude.{IsTrue}
+use Rattle.arch_disk.specs.Disk.{Device}
+use Rattle.archive_store.specs.StoreView.{StoreView}
+
+-- rows of a store stand on pages of its disk: none does yet, all stand in memory
+abbrev pub HasPages : {D : Type 0} → StoreView D → Type 0
+HasPages store = ⊥
+
+-- a store tells its rows: where some stand on pages, its disk tells what it holds
+abbrev pub TellsRows : {D : Type 0} → Device D → StoreView D → Type 0
+TellsRows device store = HasPages store → IsTrue device.is_transparent

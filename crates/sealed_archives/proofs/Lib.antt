@@ -1,3 +1,0 @@
-pub mod SealedOnce
-pub mod NamedFiles
-pub mod SealMoments

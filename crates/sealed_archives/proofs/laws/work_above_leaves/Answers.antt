@@ -1,5 +1,0 @@
-use Rattle.sealed_archives.proofs.SealMoments.{work_above}
-use Rattle.sealed_archives.proofs.laws.work_above_leaves.Goals as goal
-
-pub returns : goal.returns
-returns g c = work_above g.D.Disk.device

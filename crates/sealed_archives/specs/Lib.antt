@@ -1,4 +1,0 @@
-pub mod SealFiles
-pub mod Below
-pub mod Laws
-pub mod Moments
