@@ -1,0 +1,4 @@
+pub mod Held
+pub mod SealedHistory
+pub mod Inside
+pub mod Laws

@@ -1,0 +1,16 @@
+pub mod RecordsOnce
+pub mod Rules
+pub mod Manifests
+pub mod Places
+pub mod DamageOnce
+pub mod Behind
+pub mod LogRows
+pub mod LogReads
+pub mod Whole
+pub mod EntrySums
+pub mod InOrder
+pub mod FillsMore
+pub mod FillsSealed
+pub mod Sealing
+pub mod AnyOrder
+pub mod AsRead
