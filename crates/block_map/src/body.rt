@@ -12,7 +12,7 @@ use crate::blocks::{Block, CAPACITY, MIN_FILL, open_block, put, set_value};
 use crate::entries::Entries;
 use crate::policy::{Removable, SplitPolicy};
 use crate::removal::{rebalance, take_out};
-use crate::search::{block_for, place_in};
+use crate::search::{block_for, place_again, place_in};
 use crate::values::{entries_from_key, replace_value, value_of};
 use std::alloc::{AllocError, Global};
 use std::marker::{Model, PhantomData};
@@ -33,6 +33,8 @@ pub(crate) struct Body<K: Ord + Copy, V: Copy, P: SplitPolicy> {
     room: usize,
     /// The block of the last entry that went in, or any: keys that come in order beside others mostly stay near it.
     near: usize,
+    /// The place in its block of the last key that was counted or given another value, or any: such keys mostly come again.
+    again: usize,
     policy: PhantomData<P>,
 }
 
@@ -91,6 +93,7 @@ impl<K: Ord + Copy, V: Copy, P: SplitPolicy> Body<K, V, P> {
             paid: 0,
             room: 0,
             near: 0,
+            again: 0,
             policy: PhantomData,
         })
     }
@@ -179,7 +182,7 @@ impl<K: Ord + Copy, V: Copy, P: SplitPolicy> Body<K, V, P> {
         ensures absent { IfNone result (self.new ≡ self.old) }
         ensures rising { IsRising K.cmp self.new.entries }
     {
-        replace_value(&mut self.blocks, key, value, self.near)
+        replace_value(&mut self.blocks, key, value, self.near, &mut self.again)
     }
 
     /// All entries, in the order of their keys.
@@ -242,10 +245,11 @@ impl<K: Ord + Copy, P: SplitPolicy> Body<K, u64, P> {
         let b = open_block(&mut self.blocks, &mut self.spare, key, self.near, P::KEEP);
         self.paid -= (spares - self.spare.len()) * (CAPACITY - P::KEEP);
         let entries = self.blocks[b].as_slice();
-        match place_in(entries, key) {
+        match place_again(entries, key, self.again) {
             Ok(at) => {
                 let count = entries[at].1 + 1;
                 set_value(&mut self.blocks, b, at, key, count);
+                self.again = at;
                 count
             }
             Err(at) => {

@@ -9,7 +9,7 @@ ghost use Rattle.block_map.specs.Blocks.{entries_of, excess_of, AreFilled, AreRi
 
 use crate::blocks::{Block, set_value};
 use crate::entries::Entries;
-use crate::search::{block_for, place_in};
+use crate::search::{block_for, place_again, place_in};
 
 /// The value of a key.
 pub(crate) fn value_of<K: Ord + Copy, V: Copy>(
@@ -28,12 +28,14 @@ pub(crate) fn value_of<K: Ord + Copy, V: Copy>(
     }
 }
 
-/// Gives a key that is there another value, and answers the old one.
+/// Gives a key that is there another value, and answers the old one. Its place in its block is kept, since a key that is
+/// given one value after the other mostly comes again.
 pub(crate) fn replace_value<K: Ord + Copy, V: Copy>(
     blocks: &mut Vec<Block<K, V>>,
     key: K,
     value: V,
     near: usize,
+    again: &mut usize,
 ) -> Option<V>
     requires { AreRisingBlocks K.cmp blocks.old.items }
     ensures blocks { AreRisingBlocks K.cmp blocks.new.items }
@@ -49,10 +51,11 @@ pub(crate) fn replace_value<K: Ord + Copy, V: Copy>(
 {
     let b = block_for(blocks.as_slice(), key, near);
     let block = blocks[b].as_slice();
-    match place_in(block, key) {
+    match place_again(block, key, *again) {
         Ok(at) => {
             let old = block[at].1;
             set_value(blocks, b, at, key, value);
+            *again = at;
             Some(old)
         }
         Err(_) => None,

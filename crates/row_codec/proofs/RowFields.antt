@@ -1,5 +1,5 @@
 -- Packets and rows are read exactly.
-use Rattle.std.proofs.Common.{◌≡◌, ℕ, ℤ, pos, negsuc, ◌+◌, ◌^◌, ◌<◌, ◌≤◌, Bool, true, false, cond, ltb, leb, not, ◌&&◌, List, [], ◌∷◌, ◌++◌, length, length-append, get_or, take, drop, Option, Some, None, refl, sym, ap, subst, ◌∙◌, append_assoc, arith}
+use Rattle.std.proofs.Common.{◌≡◌, ℕ, ℤ, pos, negsuc, ◌^◌, ◌<◌, ◌≤◌, Bool, true, false, ltb, leb, not, ◌&&◌, List, ◌++◌, length, length-append, get_or, take, drop, Some, None, refl, sym, ap, subst, ◌∙◌, append_assoc, arith}
 use Rattle.std.specs.Int.{w8, w16, w64}
 use Rattle.std.specs.Int.RustNames.{FitsSigned}
 use Rattle.std.proofs.lemmas.Bool.{ltb-false, le-ltb, leb-true, le-leb}
@@ -8,11 +8,9 @@ use Rattle.std.proofs.lemmas.List.{take-append-drop, length-take, get_or-take, t
 use Rattle.std.proofs.Math.ListN.{get_or-append}
 use Rattle.arch_types.specs.declared.row.Row.{Row}
 use Rattle.arch_types.specs.declared.key.Key.{Key}
-use Rattle.arch_types.specs.GenerationTime.{key_of}
 use Rattle.arch_types.specs.Packet.{IsPacket, packet_length, is_idle}
 use Rattle.arch_types.specs.Dump.{BeginsWithNoPacket}
 use Rattle.octet_fields.specs.Exact.{IsOctets, IsExact}
-use Rattle.octet_fields.specs.Reading.{both_at, mapped_at, number_at, signed_at, tested_at}
 use Rattle.octet_fields.specs.Spelling.{number, signed}
 use Rattle.octet_fields.proofs.Exact.{one_form, some_is, guard_some, IsExact-both, IsExact-tested, IsExact-mapped}
 use Rattle.octet_fields.proofs.Numbers.{exact8, exact16, exact_i64}

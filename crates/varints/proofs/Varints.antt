@@ -37,6 +37,16 @@ enough (suc f) (suc g) n p q =
       | inr le ↦ rw (le-ltb n 128 le) (ap (λ (more : List ℕ). (n % 128 + 128) ∷ more) (enough f g (n / 128) (omega arith) (omega arith)))
     ]
 
+-- behind its lowest seven bits a number has a digit less
+pub digit_less : (n most : ℕ) → 128 ≤ n → n < 128 ^ suc most → (less : ℕ) × (most ≡ suc less) × (n / 128 < 128 ^ suc less)
+digit_less n zero le lt = absurd (omega (arith, lt))
+digit_less n (suc less) le lt =
+    let p = 128 ^ suc less in
+    let more : suc (suc less) ≡ 1 + suc less = omega arith in
+    let step : 128 ^ suc (suc less) ≡ 128 * p = ap (λ (k : ℕ). 128 ^ k) more ∙ pow-add 128 1 (suc less) in
+    let below : n < 128 * p = subst (λ (x : ℕ). n < x) step lt in
+    (less, refl, omega (arith, below))
+
 pub varint-small : (n : ℕ) → n < 128 → varint n ≡ n ∷ []
 unfolding varint
 varint-small n lt = rw (lt-ltb n 128 lt) refl

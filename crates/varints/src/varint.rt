@@ -22,16 +22,21 @@ pub fn put_varint(out: &mut Vec<u8>, n: u128) -> Result<(), AllocError>
     put_word(out, rest as u64)
 }
 
+/// The octets that the varint of a number of 64 bits has at most.
+const MOST_OCTETS: usize = 10;
+
 /// Adds the varint of a number of 64 bits to a buffer.
 pub fn put_word(out: &mut Vec<u8>, n: u64) -> Result<(), AllocError>
     ensures { OnOk result (out.new.items ≡ out.old.items ++ varint n) }
 {
+    // room for all octets, so that none asks for more
+    out.reserve(MOST_OCTETS)?;
     let mut rest = n;
     while rest >= 128 {
-        out.push((rest % 128) as u8 + 128)?;
+        out.push_reserved((rest % 128) as u8 + 128);
         rest /= 128;
     }
-    out.push(rest as u8)?;
+    out.push_reserved(rest as u8);
     Ok(())
 }
 

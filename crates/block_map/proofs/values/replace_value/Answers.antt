@@ -2,8 +2,8 @@ use Rattle.std.proofs.Common.{◌≡◌, ◌<◌, length, get_or, refl}
 use Rattle.block_map.proofs.Lookups.{rising_block, lookup_there, lookup_missing}
 use Rattle.block_map.proofs.values.replace_value.Goals as goal
 
-pub place_in-requires : goal.place_in-requires
-place_in-requires g c =
+pub place_again-requires : goal.place_again-requires
+place_again-requires g c =
     let d = c.index.result.now in
     let blocks = c.args.blocks.now.items in
     let place : c.block_for-b.result < length blocks = rw (← c.as_slice.ensures.value) c.block_for-b.ensures.within in

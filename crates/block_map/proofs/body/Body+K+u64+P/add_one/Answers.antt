@@ -19,8 +19,8 @@ overflow_mul-self g c =
     let paid = split_paid (vec_len c.self.inside.spare) (vec_len c.open_block-b.new.spare) (CAPACITY - keep) (excess_of keep c.self.inside.blocks.items) (excess_of keep c.open_block-b.new.blocks.items) c.self.inside.paid splits.fewer splits.excess c.self.invariant.beyond in
     rw (c.len-spares.ensures, c.len.ensures, c.KEEP-2.ensures) (omega (arith, paid, c.self.invariant.at_most, c.self.invariant.small))
 
-pub place_in-requires : goal.place_in-requires
-place_in-requires g c =
+pub place_again-requires : goal.place_again-requires
+place_again-requires g c =
     let d = c.index.result.now in
     let blocks = c.open_block-b.new.blocks.items in
     let up = rising_block g.K.Ord.cmp blocks c.open_block-b.result d c.open_block-b.ensures.place.within c.open_block-b.ensures.blocks.rising in
