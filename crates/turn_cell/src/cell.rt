@@ -6,7 +6,7 @@ ghost use Rattle.turn_cell.specs.Lists.{first_seen};
 ghost use Rattle.turn_cell.specs.Pass.{IsFree, HasTurn, Found, Left, SameButFront, kept_half, given_half, both_passes};
 
 use crate::growing::Growing;
-use crate::seats::{draw, read_front, tell_front, unite, wait};
+use crate::seats::{draw, read_front, rouse, tell_front, unite, wait};
 use crate::steps::{Halve, PassOn, Turns};
 use crate::view::View;
 use atomic_table::{Refused, Seat, Table};
@@ -128,6 +128,12 @@ impl<T: Growing> TurnCell<T> {
         let None = old else { unreachable!() };
         tell_front(shared, &mut pass.seat, front);
         shared.store::<PassOn>(&mut pass.seat, 1, pass.ticket + 1);
+    }
+
+    /// Rouses a caller that sleeps while it waits for its turn, if there is one. For who has left a turn and takes none
+    /// for a while: a turn itself makes no call of the system, as the next may come at once.
+    pub fn rouse(&self) {
+        rouse(&self.table.shared);
     }
 
     /// How long the history is, or was a moment ago. It waits for nobody. The caller has then seen as much of it.

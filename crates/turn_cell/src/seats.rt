@@ -14,19 +14,20 @@ use std::snapshot::Snapshot;
 use std::sync::Wait;
 use std::time::Duration;
 
-/// How often a caller looks whether the turn is free before it draws a ticket all the same: until it has slept twice.
-/// Callers that draw at once would hand the value, and with it each octet that a turn touches, from processor to
-/// processor at every turn; one that never draws would wait as long as others take turns one behind the other.
-const LOOKS: u32 = 48;
-
-/// How many looks are close together, by backing off and then yielding the processor. Behind them a caller sleeps: a
-/// short turn, as that of a batch, is over by then.
+/// How many looks are close together, by backing off and then yielding the processor. Before each look behind them a
+/// caller sleeps.
 const CLOSE_LOOKS: u32 = 24;
 
-/// The least time of a sleep, in microseconds.
+/// How often a caller looks whether the turn is free before it draws a ticket all the same. Callers that draw at once
+/// would hand the value, and with it each octet that a turn touches, from processor to processor at every turn, and who
+/// takes many turns one behind the other would sleep between any two of them; one that never draws would wait as long as
+/// others take turns.
+const LOOKS: u32 = 54;
+
+/// The least time of a sleep, in microseconds, unless the caller is roused.
 const SLEEP: u64 = 50;
 
-/// Passes the time to the next look, asleep behind close ones. Nobody is woken, so a turn makes no call of the system.
+/// Passes the time to the next look, asleep behind close ones.
 fn pass_time<T: Growing, R: Wait>(
     rt: &R,
     shared: &Shared<Option<T>, View<T::Item, T::Fill, T>, Snapshot<T>, Turns>,
@@ -36,13 +37,21 @@ fn pass_time<T: Growing, R: Wait>(
 )
     requires sized { IsCell shared.now.table_id }
 {
-    if looks % CLOSE_LOOKS != CLOSE_LOOKS - 1 {
+    if looks < CLOSE_LOOKS {
         backoff.snooze();
         return;
     }
     let served = (serving & 0xffff_ffff) as u32;
     shared.park_timeout(rt, 1, served, Duration::from_micros(SLEEP));
-    backoff.reset();
+}
+
+/// Rouses a caller that sleeps before a look, if there is one.
+pub(crate) fn rouse<T: Growing>(
+    shared: &Shared<Option<T>, View<T::Item, T::Fill, T>, Snapshot<T>, Turns>,
+)
+    requires sized { IsCell shared.now.table_id }
+{
+    shared.wake_one(1);
 }
 
 /// Draws a ticket, once the turn is free or was looked for often enough. After the last ticket it goes on for ever.
@@ -95,11 +104,14 @@ pub(crate) fn wait<T: Growing, R: Wait>(
     ensures served { Served T.history T.fills T.goes_on seat.old.me seat.new.me ticket }
 {
     let backoff = Backoff::new();
+    let mut looks = 0;
     for _ in rt.forever() {
-        if shared.load::<Look>(seat, 1) == ticket {
+        let serving = shared.load::<Look>(seat, 1);
+        if serving == ticket {
             return;
         }
-        backoff.snooze();
+        pass_time(rt, shared, &backoff, looks, serving);
+        looks = looks.saturating_add(1);
     }
     unreachable!()
 }
