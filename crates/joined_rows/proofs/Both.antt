@@ -1,5 +1,5 @@
 -- The rows that two sources give of one history.
-use Rattle.std.proofs.Common.{◌≡◌, ◌⊎◌, inl, inr, ℕ, ℤ, ◌+◌, List, ◌++◌, Option, Some, None, Bool, true, get_or, refl, sym, ap, ◌∙◌, subst, arith}
+use Rattle.std.proofs.Common.{◌≡◌, ◌⊎◌, inl, inr, ⊎_elim, ℕ, ℤ, ◌+◌, List, ◌++◌, Option, Some, None, Bool, true, get_or, refl, sym, ap, ◌∙◌, subst, arith}
 use Rattle.std.specs.Prelude.{◌&&◌, IfSome, IsNone}
 use Rattle.std.specs.List.{AllByRecursion, Any, Contains}
 use Rattle.std.specs.Ordering.{is_lt, ordering_reverse}
@@ -100,13 +100,14 @@ told_histories (Some a) None together = tt
 told_histories (Some a) (Some b) together = λ front. together front front
 
 pub used_same : (state : RowSourceState) → UsedRowSource state state
-used_same state = record { told = refl; no_others = λ row may. may; later = omega arith }
+used_same state = record { told = refl; no_others = λ row may. may; no_other_fault = λ may. may; later = omega arith }
 
 module _ (a b c d : RowSourceState) where
   pub used_both : UsedRowSource a c → UsedRowSource b d → UsedRowSource (joined_state a b) (joined_state c d)
   used_both first second = record {
     told = ap (λ (o : Option (ℕ → List Row)). told_by_both o d.history) first.told ∙ ap (λ (o : Option (ℕ → List Row)). told_by_both a.history o) second.told;
     no_others = λ row may. others row may;
+    no_other_fault = λ may. ⊎_elim (λ fails. inl (first.no_other_fault fails)) (λ fails. inr (second.no_other_fault fails)) may;
     later = omega (arith, first.later, second.later);
   }
     where
@@ -115,20 +116,20 @@ module _ (a b c d : RowSourceState) where
       others row (inr may) = inr (second.no_others row may)
 
   pub first_fault : (fault : RowFault) → d.faults ≡ b.faults → IsRowFault a c fault → IsRowFault (joined_state a b) (joined_state c d) fault
-  first_fault DiskFault same is = omega (arith, same, is)
-  first_fault (Damaged file at) same is = by a.history b.history is
+  first_fault DiskFault same is = (inl is.0, let rose = is.1 in omega (arith, same, rose))
+  first_fault (Damaged file at) same is = (inl is.0, by a.history b.history is.1, let calm = is.2 in omega (arith, same, calm))
     where
       by : (first second : Option (ℕ → List Row)) → IsNone first → IsNone (told_by_both first second)
       by None second none = none
       by (Some x) second none = absurd (cc none)
-  first_fault OutOfMemory same is = tt
+  first_fault OutOfMemory same is = omega (arith, same, is)
 
-  pub second_fault : (fault : RowFault) → UsedRowSource a c → IsRowFault b d fault → IsRowFault (joined_state a b) (joined_state c d) fault
-  second_fault DiskFault used is = omega (arith, used.later, is)
-  second_fault (Damaged file at) used is = by a.history b.history is
+  pub second_fault : (fault : RowFault) → c.faults ≡ a.faults → IsRowFault b d fault → IsRowFault (joined_state a b) (joined_state c d) fault
+  second_fault DiskFault same is = (inr is.0, let rose = is.1 in omega (arith, same, rose))
+  second_fault (Damaged file at) same is = (inr is.0, by a.history b.history is.1, let calm = is.2 in omega (arith, same, calm))
     where
       by : (first second : Option (ℕ → List Row)) → IsNone second → IsNone (told_by_both first second)
       by None second none = refl
       by (Some x) None none = refl
       by (Some x) (Some y) none = absurd (cc none)
-  second_fault OutOfMemory used is = tt
+  second_fault OutOfMemory same is = omega (arith, same, is)

@@ -22,6 +22,7 @@ abbrev pub joined_state : RowSourceState → RowSourceState → RowSourceState
 joined_state first second = record {
   history = told_by_both first.history second.history;
   may_give = λ row. first.may_give row ⊎ second.may_give row;
+  may_fail = first.may_fail ⊎ second.may_fail;
   faults = first.faults + second.faults;
 }
 

@@ -78,6 +78,16 @@ impl<'a, A: RowSource, B: RowSource> RowSource for JoinedRows<'a, A, B> {
 
     ghost state = { λ joined. joined_state (A.state joined.first.now) (B.state joined.second.now) };
 
+    // each is left as reading leaves it
+    ghost leaves = { λ old new. A.leaves old.first.now new.first.now × B.leaves old.second.now new.second.now };
+
+    ghost none_left = { λ joined. (A.none_left joined.first.now, B.none_left joined.second.now) };
+
+    ghost both_left = { λ first between last one two. (
+      A.both_left first.first.now between.first.now last.first.now one.0 two.0,
+      B.both_left first.second.now between.second.now last.second.now one.1 two.1,
+    ) };
+
     fn rows(
         &mut self,
         alloc: Global,

@@ -1,5 +1,5 @@
 -- What a call that prints a text leaves.
-use Rattle.std.specs.Prelude.{ℕ, ◌≤◌, List, Result, Ok, Err}
+use Rattle.std.specs.Prelude.{◌≡◌, ℕ, ◌≤◌, List, ◌++◌, Result, Ok, Err}
 use Rattle.outer_traits.specs.Outside.{HasRisen, Stays, WritesSome}
 use Rattle.outer_traits.specs.States.{OutputState}
 use Rattle.outer_traits.specs.declared.fault.Failed.{Failed}
@@ -37,6 +37,19 @@ PrintsText (Err Write) before after text left = IsCutOff before after text
 PrintsText (Err DiskFault) before after text left = ⊥
 PrintsText (Err (Damaged file at)) before after text left = ⊥
 PrintsText (Err OutOfMemory) before after text left = IsPartPrinted before after text
+
+-- the same of a text whose rows are read of a disk: where they aren't read, a prefix of it went on
+abbrev pub PrintsRead : {X : Type 0} → Result X PrintFault → OutputState → OutputState → List ℕ → List ℕ → Type 0
+PrintsRead (Ok _) before after text left = IsPrinted before after text left
+PrintsRead (Err Write) before after text left = IsCutOff before after text
+PrintsRead (Err DiskFault) before after text left = IsPartPrinted before after text
+PrintsRead (Err (Damaged file at)) before after text left = IsPartPrinted before after text
+PrintsRead (Err OutOfMemory) before after text left = IsPartPrinted before after text
+
+-- behind what stood in the buffer a text is printed: this one, where its rows are told
+abbrev pub PrintsRows : {X : Type 0} → Type 0 → Result X PrintFault → OutputState → OutputState → List ℕ → List ℕ → List ℕ → Type 0
+PrintsRows AreTold result before after buffered text left =
+    (printed : List ℕ) × (AreTold → printed ≡ text) × PrintsRead result before after (buffered ++ printed) left
 
 -- what a call leaves that writes a text
 abbrev pub WritesText : {X : Type 0} → Result X Failed → OutputState → OutputState → List ℕ → Type 0

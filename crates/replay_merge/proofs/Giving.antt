@@ -1,24 +1,38 @@
 -- The rows that a source may give.
-use Rattle.std.proofs.Common.{◌≡◌, ℕ, ℤ, List, [], ◌∷◌, ◌++◌, Bool, sym, ◌∙◌, subst, arith}
-use Rattle.std.specs.Prelude.{filter, IsPermutation}
+use Rattle.std.proofs.Common.{◌≡◌, ℕ, ◌≤◌, ℤ, List, [], ◌∷◌, ◌++◌, Bool, Option, Result, Ok, Err, IfErr, sym, ◌∙◌, subst, arith}
+use Rattle.std.specs.Prelude.{filter, IsErrAnd, IsNone, IsPermutation}
 use Rattle.std.specs.List.{AllByRecursion}
 use Rattle.std.proofs.lemmas.List.Elements.{recursion_from_All, All-from_recursion}
 use Rattle.std.proofs.lemmas.List.Sorted.{All-permutation}
+use Rattle.arch_disk.specs.Disk.{raised}
 use Rattle.arch_types.specs.declared.row.Row.{Row}
+use Rattle.arch_types.specs.declared.row_fault.RowFault.{RowFault}
+use Rattle.arch_types.specs.declared.row_fault.RowFault.TheVariants.{DiskFault, Damaged, OutOfMemory}
 use Rattle.arch_types.specs.Order.{is_before, order_by}
 use Rattle.arch_types.specs.History.{is_in_table}
 use Rattle.arch_types.specs.Table.{is_in_time_range, range_of, table_of}
 use Rattle.arch_types.proofs.InOrder.{order_same}
 use Rattle.partitions.specs.declared.partition.Partition.{Partition}
 use Rattle.partitions.specs.Rows.{is_of_partition, is_of_parts}
-use Rattle.replay_merge.specs.RowSource.{RowSourceState, UsedRowSource, range_of_parts, rows_of_partition}
+use Rattle.replay_merge.specs.RowSource.{IsRowFault, RowSourceState, UsedRowSource, range_of_parts, rows_of_partition}
 use Rattle.replay_merge.proofs.Reading.{all_both}
 use Rattle.replay_merge.proofs.Sources.{each_tested}
 
 -- ---- a source that is used
 
 pub used_twice : {first second third : RowSourceState} → UsedRowSource first second → UsedRowSource second third → UsedRowSource first third
-used_twice one two = record { told = two.told ∙ one.told; no_others = λ row may. one.no_others row (two.no_others row may); later = omega (arith, one.later, two.later) }
+used_twice one two = record { told = two.told ∙ one.told; no_others = λ row may. one.no_others row (two.no_others row may); no_other_fault = λ may. one.no_other_fault (two.no_other_fault may); later = omega (arith, one.later, two.later) }
+
+-- a fault behind calls that met none is one of all of them
+pub fault_before : {first second : RowSourceState} → UsedRowSource first second → second.faults ≡ first.faults → (third : RowSourceState) (fault : RowFault) → IsRowFault second third fault → IsRowFault first third fault
+fault_before {first} {second} used calm third DiskFault is = (used.no_other_fault is.0, subst (λ (n : ℕ). raised n ≤ third.faults) calm is.1)
+fault_before {first} {second} used calm third (Damaged file at) is = (used.no_other_fault is.0, subst (λ (o : Option (ℕ → List Row)). IsNone o) used.told is.1, is.2 ∙ calm)
+fault_before {first} {second} used calm third OutOfMemory is = is ∙ calm
+
+-- the fault that a `?` hands on
+pub fault_passed : {X : Type 0} (r : Result X RowFault) (fault : RowFault) (old new : RowSourceState) → IsErrAnd r (λ e. e ≡ fault) → IsRowFault old new fault → IfErr r (IsRowFault old new)
+fault_passed (Ok x) fault old new is why = tt
+fault_passed (Err e) fault old new is why = subst (IsRowFault old new) (sym is) why
 
 pub each_follows : (P Q : Row → Type 0) → ((row : Row) → P row → Q row) → (rows : List Row) → AllByRecursion P rows → AllByRecursion Q rows
 each_follows P Q follows [] all = tt

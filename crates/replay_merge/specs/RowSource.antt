@@ -17,11 +17,18 @@ use Rattle.partitions.specs.declared.partition.Partition.{Partition}
 use Rattle.partitions.specs.Rows.{is_of_partition, is_of_parts}
 
 -- the history that a source tells, by the rows below each front in the order in which they came to stay, the rows that it
--- may give, also where it tells none, and how often it has failed: whatever else has a position, a front counts it too
+-- may give, also where it tells none, whether it may fail at all, for something else than want of memory, and how often it
+-- has failed: whatever else has a position, a front counts it too
 pub record RowSourceState : Type 1 where
   pub history : Option (ℕ → List Row)
   pub may_give : Row → Type 0
+  pub may_fail : Type 0
   pub faults : ℕ
+
+-- a history, where it is told
+abbrev pub told_if : Bool → (ℕ → List Row) → Option (ℕ → List Row)
+told_if false history = None
+told_if true history = Some history
 
 -- a whole packet, received within the clock's range, with the key that it gives then
 pub record IsKeyedRow (row : Row) : Type 0 where
@@ -90,14 +97,16 @@ IsPositionOf history table key None = (front : ℕ) → has_row_at table key (hi
 abbrev pub AreInKeyOrder : List Row → Type 0
 AreInKeyOrder rows = IsSortedByKey (λ (row : Row). row.key) key_cmp rows
 
--- a source gives no rows for a fault where its count has risen, for damage where it doesn't tell its rows, and else for want of memory
+-- A source that may fail gives no rows for a fault where its count has risen, and for damage where it doesn't tell its rows;
+-- any gives none for want of memory. For these two its count stays.
 abbrev pub IsRowFault : RowSourceState → RowSourceState → RowFault → Type 0
-IsRowFault old new DiskFault = raised old.faults ≤ new.faults
-IsRowFault old new (Damaged file at) = IsNone old.history
-IsRowFault old new OutOfMemory = Unit {0}
+IsRowFault old new DiskFault = old.may_fail × (raised old.faults ≤ new.faults)
+IsRowFault old new (Damaged file at) = old.may_fail × IsNone old.history × (new.faults ≡ old.faults)
+IsRowFault old new OutOfMemory = new.faults ≡ old.faults
 
--- a source tells what it told, it may give no other rows, and its count of faults hasn't fallen
+-- a source tells what it told, it may give no other rows, it may fail only where it might, and its count of faults hasn't fallen
 pub record UsedRowSource (old new : RowSourceState) : Type 0 where
   pub told : new.history ≡ old.history
   pub no_others : (row : Row) → new.may_give row → old.may_give row
+  pub no_other_fault : new.may_fail → old.may_fail
   pub later : old.faults ≤ new.faults

@@ -1,6 +1,6 @@
 //! A replay that is read piece by piece.
 
-ghost use Rattle.std.specs.Prelude.{◌≡◌, ◌<◌, ◌≤◌, ◌++◌, ◌↔◌, ℕ, List, [], length, Some, Contains, IfOk, IfErr, IfSome, OnErr};
+ghost use Rattle.std.specs.Prelude.{◌≡◌, ◌<◌, ◌≤◌, ◌++◌, ◌↔◌, ℕ, List, [], length, Some, Contains, IfOk, IfErr, IfSome, OnErr, OnOk};
 ghost use Rattle.std.specs.List.{AllByRecursion};
 ghost use Rattle.arch_types.specs.declared.row.Row.{Row};
 ghost use Rattle.arch_types.specs.Directions.{truncated};
@@ -112,8 +112,10 @@ impl Cursor {
         ensures in_key_order { IfOk result AreInKeyOrder }
         ensures asked { AsksTheSame self.old self.new }
         ensures refused { IfErr result (IsRowFault (R.state source.old) (R.state source.new)) }
+        ensures no_fault { OnOk result ((R.state source.new).faults ≡ (R.state source.old).faults) }
         ensures unmoved { OnErr result (self.new ≡ self.old) }
         ensures source { UsedRowSource (R.state source.old) (R.state source.new) }
+        ensures left { R.leaves source.old source.new }
     {
         let most = given_at_most(limit, self.left) as usize;
         if most == 0 {

@@ -1,6 +1,6 @@
 //! Ranges of times within days.
 
-ghost use Rattle.std.specs.Prelude.{◌≡◌, ℤ, ◌<ℤ◌, ◌≤ℤ◌, true, IfOk, IfErr, IfSome};
+ghost use Rattle.std.specs.Prelude.{◌≡◌, ℤ, ◌<ℤ◌, ◌≤ℤ◌, true, IfOk, IfErr, IfSome, OnOk};
 ghost use Rattle.std.specs.List.{AllByRecursion};
 ghost use Rattle.arch_types.specs.declared.row.Row.{Row as ARow};
 ghost use Rattle.arch_types.specs.Table.{is_in_time_range};
@@ -70,7 +70,9 @@ pub fn rows_on_days<R: RowSource>(
     ensures each { IfOk result (AllByRecursion (IsRowBetween table parts.now from to)) }
     ensures in_key_order { IfOk result AreInKeyOrder }
     ensures refused { IfErr result (IsRowFault (R.state source.old) (R.state source.new)) }
+    ensures no_fault { OnOk result ((R.state source.new).faults ≡ (R.state source.old).faults) }
     ensures source { UsedRowSource (R.state source.old) (R.state source.new) }
+    ensures left { R.leaves source.old source.new }
 {
     let (start, end) = cut_to_days(parts, from, to);
     source.rows_between(alloc, table, parts, start, end, front)

@@ -1,6 +1,6 @@
 //! The next rows of a replay, read of a source.
 
-ghost use Rattle.std.specs.Prelude.{◌≡◌, ◌<◌, ◌≤◌, ◌++◌, [], length, drop, filter, IfOk, IfErr, IfSome};
+ghost use Rattle.std.specs.Prelude.{◌≡◌, ◌<◌, ◌≤◌, ◌++◌, [], length, drop, filter, IfOk, IfErr, IfSome, OnOk};
 ghost use Rattle.std.specs.List.{AllByRecursion};
 ghost use Rattle.partitions.specs.Partitions.{AreRising};
 ghost use Rattle.replay_merge.specs.Replay.{is_listed_name};
@@ -62,7 +62,9 @@ fn read_day<R: RowSource>(
     ensures given { IfOk result (λ day. AllByRecursion (R.state source.old).may_give day.1) }
     ensures each { IfOk result (λ day. AllByRecursion (IsWanted wanted.now) day.1) }
     ensures refused { IfErr result (IsRowFault (R.state source.old) (R.state source.new)) }
+    ensures no_fault { OnOk result ((R.state source.new).faults ≡ (R.state source.old).faults) }
     ensures source { UsedRowSource (R.state source.old) (R.state source.new) }
+    ensures left { R.leaves source.old source.new }
 {
     let count = first_day(parts);
     let listed = listed_parts(alloc, wanted, &parts[..count])?;
@@ -97,7 +99,9 @@ pub(crate) fn fetch<R: RowSource>(
     ensures given { IfOk result (λ day. AllByRecursion (R.state source.old).may_give day.1) }
     ensures each { IfOk result (λ day. AllByRecursion (IsWanted wanted.now) day.1) }
     ensures refused { IfErr result (IsRowFault (R.state source.old) (R.state source.new)) }
+    ensures no_fault { OnOk result ((R.state source.new).faults ≡ (R.state source.old).faults) }
     ensures source { UsedRowSource (R.state source.old) (R.state source.new) }
+    ensures left { R.leaves source.old source.new }
 {
     let mut read = 0;
     while read < parts.len() {

@@ -1,7 +1,8 @@
 // Replays: the rows of a table with a time in a range and a packet name of some, in key order, as they stood at a front.
 //
 // A `RowSource` gives the rows below a front of one partition, a day and a packet name, or of several in a range of times. What else than
-// rows has a position in its history is not known here: it tells the rows below each front, and nothing here counts them. A `Cursor`
+// rows has a position in its history is not known here: it tells the rows below each front, and nothing here counts them. What reading
+// leaves of a source, it says by a relation of its own (`leaves`), which whoever reads it hands on. A `Cursor`
 // goes over the partitions that it was given, day after day, and hands their rows on piece by piece: what the calls of `next` gave is the
 // replay, whatever was added to the source in the meantime. Contracts see it as a `CursorView` (specs/Cursor.antt), and `rest_of` is what
 // it has still to give. What the replay of a request is stands here alone (`replay_of`, specs/Replay.antt): the store and the plain machine

@@ -1,6 +1,6 @@
 //! Sources of rows.
 
-ghost use Rattle.std.specs.Prelude.{◌≡◌, IfOk, IfErr, IfSome};
+ghost use Rattle.std.specs.Prelude.{◌≡◌, IfOk, IfErr, IfSome, OnOk};
 ghost use Rattle.std.specs.List.{AllByRecursion};
 ghost use Rattle.arch_types.specs.Table.{range_of};
 ghost use Rattle.partitions.specs.Partitions.{AreRising};
@@ -18,6 +18,9 @@ pub trait RowSource {
     /// The history that it tells, the rows that it may give, and how often it has failed.
     ghost state: { Self → RowSourceState };
 
+    /// What reading leaves of it.
+    ghost leaves: { Self → Self → Type 0 };
+
     /// The rows of a partition of a table with a position below the front, in the order of their keys. Refused with `DiskFault`,
     /// `Damaged` or `OutOfMemory`, and the same call may be made again.
     fn rows(
@@ -33,7 +36,9 @@ pub trait RowSource {
         ensures each { IfOk result (AreRowsOf table partition.now) }
         ensures history { IfSome (state self.old).history AreRowSourceHistories }
         ensures refused { IfErr result (IsRowFault (state self.old) (state self.new)) }
-        ensures source { UsedRowSource (state self.old) (state self.new) };
+        ensures no_fault { OnOk result ((state self.new).faults ≡ (state self.old).faults) }
+        ensures source { UsedRowSource (state self.old) (state self.new) }
+        ensures left { leaves self.old self.new };
 
     /// The rows of some partitions of a table, which rise, with `from <= time < to` and a position below the front, in the order of
     /// their keys. Refused as `rows`, and the same call may be made again.
@@ -55,7 +60,9 @@ pub trait RowSource {
         ensures each { IfOk result (AllByRecursion (IsRowBetween table parts.now from to)) }
         ensures in_key_order { IfOk result AreInKeyOrder }
         ensures refused { IfErr result (IsRowFault (state self.old) (state self.new)) }
+        ensures no_fault { OnOk result ((state self.new).faults ≡ (state self.old).faults) }
         ensures source { UsedRowSource (state self.old) (state self.new) }
+        ensures left { leaves self.old self.new }
     {
         let mut rows = Vec::new(alloc);
         for partition in parts {
@@ -81,7 +88,9 @@ pub trait RowSource {
         ensures each { IfOk result (AreRowsIn table from to) }
         ensures history { IfSome (state self.old).history AreRowSourceHistories }
         ensures refused { IfErr result (IsRowFault (state self.old) (state self.new)) }
-        ensures source { UsedRowSource (state self.old) (state self.new) };
+        ensures no_fault { OnOk result ((state self.new).faults ≡ (state self.old).faults) }
+        ensures source { UsedRowSource (state self.old) (state self.new) }
+        ensures left { leaves self.old self.new };
 
     /// The position of the row that has a key in a table: one of the whole history, of which fronts are lengths. Refused as `rows`, and
     /// the same call may be made again.
@@ -90,5 +99,13 @@ pub trait RowSource {
             IsPositionOf history table key found)) }
         ensures history { IfSome (state self.old).history AreRowSourceHistories }
         ensures refused { IfErr result (IsRowFault (state self.old) (state self.new)) }
-        ensures source { UsedRowSource (state self.old) (state self.new) };
+        ensures no_fault { OnOk result ((state self.new).faults ≡ (state self.old).faults) }
+        ensures source { UsedRowSource (state self.old) (state self.new) }
+        ensures left { leaves self.old self.new };
+
+    /// It is left as it was, where nothing is read.
+    ghost none_left: { (source : Self) → leaves source source };
+
+    /// What reading leaves of what reading left is what reading leaves.
+    ghost both_left: { (first between last : Self) → leaves first between → leaves between last → leaves first last };
 }

@@ -2,7 +2,7 @@
 use Rattle.std.specs.Prelude.{◌≡◌, ℕ, ◌≤◌, IsTrue, List, Option, Some, None, true, false}
 use Rattle.std.specs.List.{AllByRecursion, Contains}
 use Rattle.std.specs.Ordering.{is_lt}
-use Rattle.arch_disk.specs.Disk.{Device, raised}
+use Rattle.arch_disk.specs.Disk.{Device, NoFault, raised}
 use Rattle.arch_types.specs.declared.key.Key.{Key}
 use Rattle.arch_types.specs.declared.row.Row.{Row}
 use Rattle.arch_types.specs.declared.row_fault.RowFault.{RowFault}
@@ -28,11 +28,12 @@ row_fault run_faults.Limit = row_faults.OutOfMemory
 row_fault run_faults.OutOfMemory = row_faults.OutOfMemory
 
 -- A read failed, which the count of faults tells, or memory is wanting; on a disk that tells what it holds it is never
--- damage.
+-- damage. For damage and want of memory no call failed.
 abbrev pub IsReadFault : {D : Type 0} → Device D → D → D → RowFault → Type 0
 IsReadFault device before after row_faults.DiskFault = raised (device.fault_count before) ≤ device.fault_count after
-IsReadFault device before after (row_faults.Damaged file at) = IsTrue device.is_transparent → ⊥
-IsReadFault device before after row_faults.OutOfMemory = Unit {0}
+IsReadFault device before after (row_faults.Damaged file at) =
+    (IsTrue device.is_transparent → ⊥) × NoFault device before after
+IsReadFault device before after row_faults.OutOfMemory = NoFault device before after
 
 -- a row's key is below this one
 abbrev pub IsBelowKey : Key → Placed → Type 0

@@ -1,27 +1,23 @@
 -- What a source of sealed rows tells.
-use Rattle.std.specs.Prelude.{ℕ, IsTrue, List, Bool, true, false, Option, Some, None}
+use Rattle.std.specs.Prelude.{IsTrue, List}
 use Rattle.std.specs.Borrow.{MutBor}
 use Rattle.std.specs.List.{Contains}
 use Rattle.arch_disk.specs.Disk.{Device}
-use Rattle.arch_types.specs.declared.row.Row.{Row}
-use Rattle.replay_merge.specs.RowSource.{AreRowSourceHistories, RowSourceState}
+use Rattle.replay_merge.specs.RowSource.{AreRowSourceHistories, RowSourceState, told_if}
 use Rattle.run_pages.specs.Placed.{rows_of_placed}
 use Rattle.run_files.specs.declared.run.Run.{Run}
 use Rattle.sealed_rows.specs.Rows.{rows_below, rows_of_runs}
 use Rattle.sealed_rows.specs.Calls.{AreRunsOn}
 
--- a history, where it is told
-abbrev pub told_if : Bool → (ℕ → List Row) → Option (ℕ → List Row)
-told_if false history = None
-told_if true history = Some history
-
--- The rows of all runs, where the disk tells what it holds; then it gives no others. Its faults are the disk's.
+-- The rows of all runs, where the disk tells what it holds; then it gives no others. It may fail, and its faults are the
+-- disk's.
 abbrev pub sealed_state : {D : Type 0} → Device D → List Run → D → RowSourceState
 sealed_state device runs disk =
     let placed = rows_of_runs (device.reads disk) runs in
     record {
       history = told_if device.is_transparent (rows_below placed);
       may_give = λ row. IsTrue device.is_transparent → Contains (rows_of_placed placed) row;
+      may_fail = Unit {0};
       faults = device.fault_count disk;
     }
 

@@ -80,9 +80,20 @@ impl<'a, D: Disk> SealedRows<'a, D> {
 }
 
 impl<'a, D: Disk> RowSource for SealedRows<'a, D> {
+    ghost use Rattle.std.proofs.Common.{◌≡◌, ◌∙◌, refl};
+    ghost use Rattle.arch_disk.specs.Disk.{OnlyReads};
+    ghost use Rattle.arch_disk.proofs.Moments.{looked_none, looked_on};
     ghost use Rattle.sealed_rows.specs.Sealed.{sealed_state};
 
     ghost state = { λ sealed. sealed_state D.device sealed.runs sealed.disk.now };
+
+    // the disk is only read
+    ghost leaves = { λ old new. (new.runs ≡ old.runs) × OnlyReads D.device old.disk.now new.disk.now };
+
+    ghost none_left = { λ sealed. (refl, looked_none D.device sealed.disk.now) };
+
+    ghost both_left = { λ first between last one two.
+        (two.0 ∙ one.0, looked_on D.device first.disk.now between.disk.now last.disk.now one.1 two.1) };
 
     /// Those of the partition's day are read.
     fn rows(

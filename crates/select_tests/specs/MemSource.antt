@@ -18,9 +18,9 @@ abbrev pub rows_at_fronts : Bool → List Row → Option (ℕ → List Row)
 rows_at_fronts true rows = Some (λ front. take front rows)
 rows_at_fronts false rows = None
 
--- it gives its own rows alone, also where it tells none
+-- it gives its own rows alone, also where it tells none, and it may fail
 abbrev pub mem_source_state : MemSourceView → RowSourceState
-mem_source_state s = record { history = rows_at_fronts s.is_known s.rows; may_give = Contains s.rows; faults = s.faults }
+mem_source_state s = record { history = rows_at_fronts s.is_known s.rows; may_give = Contains s.rows; may_fail = Unit {0}; faults = s.faults }
 
 -- whether a row is of a table and a partition
 abbrev pub is_in_table_and_partition : ℕ → Partition → Row → Bool

@@ -1,6 +1,6 @@
 //! A source of rows in memory.
 
-ghost use Rattle.std.specs.Prelude.{◌≡◌, ◌&&◌, ℕ, List, [], filter, take, true, IfOk, IfErr, IfSome};
+ghost use Rattle.std.specs.Prelude.{◌≡◌, ◌&&◌, ℕ, List, [], filter, take, true, IfOk, IfErr, IfSome, OnOk};
 ghost use Rattle.arch_types.specs.declared.row.Row.{Row};
 ghost use Rattle.std.specs.List.{list_any};
 ghost use Rattle.arch_types.specs.Packet.{IsPacket};
@@ -94,7 +94,9 @@ impl MemSource {
     fn fail_in_turn(&mut self) -> Result<(), RowFault>
         ensures history { IfSome (mem_source_state self.old).history AreRowSourceHistories }
         ensures refused { IfErr result (IsRowFault (mem_source_state self.old) (mem_source_state self.new)) }
+        ensures no_fault { OnOk result ((mem_source_state self.new).faults ≡ (mem_source_state self.old).faults) }
         ensures source { UsedRowSource (mem_source_state self.old) (mem_source_state self.new) }
+        ensures left { (self.new.rows ≡ self.old.rows) × (self.new.is_known ≡ self.old.is_known) }
     {
         match self.calls {
             Some(0) => {
@@ -115,9 +117,17 @@ impl MemSource {
 }
 
 impl RowSource for MemSource {
+    ghost use Rattle.std.proofs.Common.{◌≡◌, ◌∙◌, refl};
     ghost use Rattle.select_tests.specs.MemSource.{mem_source_state};
 
     ghost state = { λ s. mem_source_state s };
+
+    // it counts its faults
+    ghost leaves = { λ old new. (new.rows ≡ old.rows) × (new.is_known ≡ old.is_known) };
+
+    ghost none_left = { λ source. (refl, refl) };
+
+    ghost both_left = { λ first between last one two. (two.0 ∙ one.0, two.1 ∙ one.1) };
 
     fn rows(
         &mut self,

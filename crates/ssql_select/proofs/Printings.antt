@@ -33,7 +33,7 @@ module _ (first now new : OutputState) (old octets : List ℕ) (flushed : Append
 -- ---- lines
 
 module _ {A : Type 0} (line : A → List ℕ) (front : List ℕ) (rows : List A) (i : ℕ) where
-  lines_left : (front ++ flat_map line (take i rows)) ++ flat_map line (drop i rows) ≡ front ++ flat_map line rows
+  pub lines_left : (front ++ flat_map line (take i rows)) ++ flat_map line (drop i rows) ≡ front ++ flat_map line rows
   lines_left =
       append_assoc front (flat_map line (take i rows)) (flat_map line (drop i rows))
       ∙ ap (λ (l : List ℕ). front ++ l) (sym (flat_map-append line (take i rows) (drop i rows)) ∙ ap (flat_map line) (take-append-drop i rows))
@@ -47,7 +47,7 @@ module _ {A : Type 0} (line : A → List ℕ) (front : List ℕ) (rows : List A)
   lines_done first now left le is = subst (λ (l : List A). IsPrinted first now (front ++ flat_map line l) left) (take_all i rows le) is
 
 module _ {A : Type 0} (line : A → List ℕ) (front : List ℕ) (rows : List A) (i : ℕ) (row : A) (within : i < length rows) (is_row : row ≡ get_or rows i row) (octets : List ℕ) (are : octets ≡ line row) where
-  lines_next : (front ++ flat_map line (take i rows)) ++ octets ≡ front ++ flat_map line (take (i + 1) rows)
+  pub lines_next : (front ++ flat_map line (take i rows)) ++ octets ≡ front ++ flat_map line (take (i + 1) rows)
   lines_next =
       let next : i + 1 ≡ suc i = omega arith in
       append_assoc front (flat_map line (take i rows)) octets

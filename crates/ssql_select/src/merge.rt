@@ -1,6 +1,6 @@
 //! The rows of a day, of all sources.
 
-ghost use Rattle.std.specs.Prelude.{◌≡◌, ◌++◌, IfOk, IfErr, IfSome};
+ghost use Rattle.std.specs.Prelude.{◌≡◌, ◌++◌, IfOk, IfErr, IfSome, OnOk};
 ghost use Rattle.std.specs.List.{AllByRecursion};
 ghost use Rattle.arch_types.specs.Table.{sorted};
 ghost use Rattle.partitions.specs.Partitions.{AreRising};
@@ -45,7 +45,9 @@ fn rows_by_table<R: RowSource>(
     ensures given { IfOk result (λ rows. AllByRecursion (R.state source.old).may_give rows.items) }
     ensures each { IfOk result (λ rows. AllByRecursion IsKeyedRow rows.items) }
     ensures refused { IfErr result (IsRowFault (R.state source.old) (R.state source.new)) }
+    ensures no_fault { OnOk result ((R.state source.new).faults ≡ (R.state source.old).faults) }
     ensures source { UsedRowSource (R.state source.old) (R.state source.new) }
+    ensures left { R.leaves source.old source.new }
 {
     let mut rows = Vec::new(alloc);
     for table in tables {
@@ -71,7 +73,9 @@ pub(crate) fn merged_rows<R: RowSource>(
     ensures given { IfOk result (λ rows. AllByRecursion (R.state source.old).may_give rows.items) }
     ensures each { IfOk result (λ rows. AllByRecursion IsKeyedRow rows.items) }
     ensures refused { IfErr result (IsRowFault (R.state source.old) (R.state source.new)) }
+    ensures no_fault { OnOk result ((R.state source.new).faults ≡ (R.state source.old).faults) }
     ensures source { UsedRowSource (R.state source.old) (R.state source.new) }
+    ensures left { R.leaves source.old source.new }
 {
     if let [table] = tables {
         let rows = rows_on_days(alloc, source, *table, parts, bounds.from, bounds.to, front)?;

@@ -114,7 +114,9 @@ fn select_days<R: RowSource, L: Ledger>(
     ensures steps { IfSome (R.state source.old).history (λ history. steps.new ≤ steps.old + length (filter
         (is_of_parts parts.now) (merged_between statement.now.sources bounds.now.from bounds.now.to (history front)))) }
     ensures refused { IfErr result (IsRowFault (R.state source.old) (R.state source.new)) }
+    ensures no_fault { OnOk result ((R.state source.new).faults ≡ (R.state source.old).faults) }
     ensures source { UsedRowSource (R.state source.old) (R.state source.new) }
+    ensures left { R.leaves source.old source.new }
 {
     let tables = statement.sources.as_slice();
     let mut left = parts;
@@ -154,7 +156,9 @@ fn select_rows<R: RowSource, L: Ledger>(
     ensures steps { IfSome (R.state source.old).history (λ history. steps.new ≤ steps.old + length
         (rows_looked_at statement.now parts.now (history front))) }
     ensures refused { IfErr result (IsRowFault (R.state source.old) (R.state source.new)) }
+    ensures no_fault { OnOk result ((R.state source.new).faults ≡ (R.state source.old).faults) }
     ensures source { UsedRowSource (R.state source.old) (R.state source.new) }
+    ensures left { R.leaves source.old source.new }
 {
     let bounds = bounds(alloc, &statement.condition)?;
     let parts = rising_once(alloc, parts)?;
@@ -191,7 +195,9 @@ pub fn select<'a, R: RowSource, L: Ledger>(
     ensures steps { IfSome (R.state source.old).history (λ history. steps.new ≤ steps.old + length
         (rows_looked_at statement.now parts.now (history front))) }
     ensures refused { IfErr result (IsRowFault (R.state source.old) (R.state source.new)) }
+    ensures no_fault { OnOk result ((R.state source.new).faults ≡ (R.state source.old).faults) }
     ensures source { UsedRowSource (R.state source.old) (R.state source.new) }
+    ensures left { R.leaves source.old source.new }
 {
     let rows = select_rows(alloc, statement, source, parts, front, steps)?;
     Ok(SelectionText::of(statement.columns.as_slice(), names, rows))

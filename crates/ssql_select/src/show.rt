@@ -77,7 +77,9 @@ pub fn partition_lines<R: RowSource>(
     ensures lines { IfOk result (λ lines. IfSome (R.state source.old).history (λ history.
         lines.items ≡ spec.partition_lines table (history front) parts.now)) }
     ensures refused { IfErr result (IsRowFault (R.state source.old) (R.state source.new)) }
+    ensures no_fault { OnOk result ((R.state source.new).faults ≡ (R.state source.old).faults) }
     ensures source { UsedRowSource (R.state source.old) (R.state source.new) }
+    ensures left { R.leaves source.old source.new }
 {
     let mut lines = Vec::new(alloc);
     for partition in parts {

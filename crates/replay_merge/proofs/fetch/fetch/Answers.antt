@@ -1,5 +1,5 @@
 use Rattle.std.proofs.lemmas.List.{take_rest}
-use Rattle.replay_merge.proofs.Giving.{given_before}
+use Rattle.replay_merge.proofs.Giving.{fault_before, fault_passed, given_before}
 use Rattle.replay_merge.proofs.Reading.{rising_rest}
 use Rattle.replay_merge.proofs.fetch.fetch.Goals as goal
 
@@ -8,3 +8,8 @@ read_day-requires-clause-rising g c = rw (take_rest c.args.parts.now c.loop-read
 
 pub returns-then-len-gt0-clause-given : goal.returns-then-len-gt0-clause-given
 returns-then-len-gt0-clause-given g c = given_before c.loop-read.invariant.used c.in_ok-count.rows c.in_ok-count.ensures.given
+
+pub returns-in_err-count-clause-refused : goal.returns-in_err-count-clause-refused
+returns-in_err-count-clause-refused g c =
+    fault_passed c.from_residual.result c.in_err-count.field-0.0 (g.R.RowSource.state c.args.source.now) (g.R.RowSource.state c.read_day.new.source) c.from_residual.ensures.1
+    (fault_before c.loop-read.invariant.used c.loop-read.invariant.calm (g.R.RowSource.state c.read_day.new.source) c.in_err-count.field-0.0 c.in_err-count.ensures.refused)

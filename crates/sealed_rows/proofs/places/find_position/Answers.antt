@@ -28,7 +28,7 @@ position_in-requires g c = record {
 
 pub returns-in_err-position-clause-refused : goal.returns-in_err-position-clause-refused
 returns-in_err-position-clause-refused g c =
-    let refused = fault_since g.D.Disk.device c.args.disk.now c.loop-run.disk c.position_in.new.disk c.in_err-position.field-0.0 c.loop-run.invariant.looked c.in_err-position.ensures.refused in
+    let refused = fault_since g.D.Disk.device c.args.disk.now c.loop-run.disk c.position_in.new.disk c.in_err-position.field-0.0 c.loop-run.invariant.looked c.loop-run.invariant.no_fault c.in_err-position.ensures.refused in
     search rules
 
 pub returns-in_err-position-clause-looked : goal.returns-in_err-position-clause-looked

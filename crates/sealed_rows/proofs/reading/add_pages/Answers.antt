@@ -1,14 +1,15 @@
 use Rattle.std.proofs.Common.{◌≡◌, ◌*◌, List, take, drop, refl, sym, ap, ◌∙◌, subst, rules, arith}
 use Rattle.std.specs.List.{AllByRecursion}
 use Rattle.arch_disk.proofs.Moments.{looked_none, looked_on}
+use Rattle.arch_types.specs.declared.row_fault.RowFault.TheVariants.{OutOfMemory}
 use Rattle.run_pages.specs.Placed.{Placed}
 use Rattle.run_pages.specs.Pages.{rows_of_page}
 use Rattle.run_pages.specs.Runs.{page_of_rows}
 use Rattle.run_files.specs.Run.{run_file}
 use Rattle.run_files.proofs.RunPages.{held_on}
-use Rattle.sealed_rows.specs.Calls.{IsOutside}
+use Rattle.sealed_rows.specs.Calls.{IsOutside, IsReadFault}
 use Rattle.sealed_rows.specs.Rows.{rows_in}
-use Rattle.sealed_rows.proofs.Faults.{fault_since}
+use Rattle.sealed_rows.proofs.Faults.{fault_since, passed_on}
 use Rattle.sealed_rows.proofs.Gathering.{all_pages, before_first, page_more, page_wanted}
 use Rattle.sealed_rows.proofs.Held.{holds_on, rows_in_held}
 use Rattle.sealed_rows.proofs.reading.add_pages.Goals as goal
@@ -38,11 +39,16 @@ read_page-requires-clause-held g c = λ transparent. held_on g.D.Disk.device c.a
 
 pub returns-in_err-held-clause-refused : goal.returns-in_err-held-clause-refused
 returns-in_err-held-clause-refused g c =
-    let refused = fault_since g.D.Disk.device c.args.disk.now c.loop-page.disk c.read_page.new.disk c.in_err-held.field-0.0 c.loop-page.invariant.looked c.in_err-held.ensures.refused in
+    let refused = fault_since g.D.Disk.device c.args.disk.now c.loop-page.disk c.read_page.new.disk c.in_err-held.field-0.0 c.loop-page.invariant.looked c.loop-page.invariant.no_fault c.in_err-held.ensures.refused in
     search rules
 
 pub returns-in_err-held-clause-looked : goal.returns-in_err-held-clause-looked
 returns-in_err-held-clause-looked g c = looked_on g.D.Disk.device c.args.disk.now c.loop-page.disk c.read_page.new.disk c.loop-page.invariant.looked c.in_err-held.ensures.looked
+
+-- there was no memory for the rows of a page that was read
+pub returns-in_err-rows-clause-refused : goal.returns-in_err-rows-clause-refused
+returns-in_err-rows-clause-refused g c =
+    passed_on c.from_residual-in_err-rows.result OutOfMemory (IsReadFault g.D.Disk.device c.args.disk.now c.read_page.new.disk) c.from_residual-in_err-rows.ensures.1 (c.in_ok-held.ensures.told ∙ c.loop-page.invariant.no_fault)
 
 pub returns-in_err-rows-clause-looked : goal.returns-in_err-rows-clause-looked
 returns-in_err-rows-clause-looked g c = looked_on g.D.Disk.device c.args.disk.now c.loop-page.disk c.read_page.new.disk c.loop-page.invariant.looked c.in_ok-held.ensures.looked

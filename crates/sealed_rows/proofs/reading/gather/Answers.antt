@@ -27,7 +27,7 @@ add_run-requires-clause-held g c = λ transparent.
 
 pub returns-in_err-rows-clause-refused : goal.returns-in_err-rows-clause-refused
 returns-in_err-rows-clause-refused g c =
-    let refused = fault_since g.D.Disk.device c.args.disk.now c.loop-run.disk c.add_run.new.disk c.in_err-rows.field-0.0 c.loop-run.invariant.looked c.in_err-rows.ensures.refused in
+    let refused = fault_since g.D.Disk.device c.args.disk.now c.loop-run.disk c.add_run.new.disk c.in_err-rows.field-0.0 c.loop-run.invariant.looked c.loop-run.invariant.no_fault c.in_err-rows.ensures.refused in
     search rules
 
 pub returns-in_err-rows-clause-looked : goal.returns-in_err-rows-clause-looked

@@ -1,11 +1,12 @@
 use Rattle.std.proofs.Common.{◌≡◌, ◌∙◌, ℕ, List, Option, reverse, true, sym, subst}
 use Rattle.std.specs.Prelude.{filter, IfSome}
 use Rattle.arch_types.specs.declared.row.Row.{Row}
+use Rattle.arch_types.specs.declared.row_fault.RowFault.TheVariants.{OutOfMemory}
 use Rattle.arch_types.specs.Table.{sorted}
 use Rattle.partitions.specs.Rows.{is_of_parts}
 use Rattle.ssql_select.specs.Selection.{is_enough, is_selected, merged_between, rows_between_of}
 use Rattle.ssql_select.proofs.Limits.{still_within}
-use Rattle.replay_merge.proofs.Giving.{given_before, used_twice}
+use Rattle.replay_merge.proofs.Giving.{fault_before, fault_passed, given_before, used_twice}
 use Rattle.ssql_select.proofs.Selecting.{day_given, day_told, day_counted, steps_within, days_done, days_enough, none_left}
 use Rattle.ssql_select.proofs.select.select_days.Goals as goal
 
@@ -28,6 +29,8 @@ days-preserved g c =
     let new = c.add_met.new.selected.items in
     record {
       used = used_twice used c.in_ok-rows.ensures.source;
+      calm = c.in_ok-rows.ensures.no_fault ∙ c.days.invariant.calm;
+      reads_left = g.met.R.RowSource.both_left c.args.source.now c.days.source c.merged_rows.new.source c.days.invariant.reads_left c.in_ok-rows.ensures.left;
       rising = c.split_day.ensures.rest;
       within = still_within statement.limit found new (filter (is_selected statement.condition) (reverse turned)) c.in_ok-add_met.ensures.rows;
       given = day_given (g.R.RowSource.state c.args.source.now).may_give (is_selected statement.condition) statement.limit statement.direction found new rows turned
@@ -79,3 +82,15 @@ returns-clause-rows g c =
     let found = c.days.selected.items in
     let most : is_enough statement.limit found ≡ true = rw c.as_slice.ensures.value at (sym c.is_enough.ensures ∙ c.days-test.false) in
     days_enough told statement left parts bounds.from bounds.to front found most c.days.invariant.within c.days.invariant.rows
+
+-- ---- why none are given
+
+pub returns-in_err-rows-clause-refused : goal.returns-in_err-rows-clause-refused
+returns-in_err-rows-clause-refused g c =
+    fault_passed c.from_residual.result c.in_err-rows.field-0.0 (g.R.RowSource.state c.args.source.now) (g.R.RowSource.state c.merged_rows.new.source) c.from_residual.ensures.1
+    (fault_before c.days.invariant.used c.days.invariant.calm (g.R.RowSource.state c.merged_rows.new.source) c.in_err-rows.field-0.0 c.in_err-rows.ensures.refused)
+
+pub returns-in_err-add_met-clause-refused : goal.returns-in_err-add_met-clause-refused
+returns-in_err-add_met-clause-refused g c =
+    fault_passed c.from_residual-in_err-add_met.result OutOfMemory (g.R.RowSource.state c.args.source.now) (g.R.RowSource.state c.merged_rows.new.source) c.from_residual-in_err-add_met.ensures.1
+    (c.in_ok-rows.ensures.no_fault ∙ c.days.invariant.calm)

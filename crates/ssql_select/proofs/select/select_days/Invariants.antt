@@ -13,6 +13,8 @@ invariant-days g l =
     let told = (g.R.RowSource.state l.fn.source).history in
     record {
       used : UsedRowSource (g.R.RowSource.state l.fn.source) (g.R.RowSource.state l.source);
+      calm : (g.R.RowSource.state l.source).faults ≡ (g.R.RowSource.state l.fn.source).faults;
+      reads_left : g.R.RowSource.leaves l.fn.source l.source;
       rising : AreRising l.left;
       within : truncated l.statement.limit l.selected.items ≡ l.selected.items;
       given : AllByRecursion (g.R.RowSource.state l.fn.source).may_give l.selected.items;

@@ -10,6 +10,8 @@ use Rattle.replay_merge.proofs.row_source.RowSource.rows_between.Given as goal
 abbrev pub invariant-loop-partition : goal.invariant-loop-partition
 invariant-loop-partition g l = record {
   used : UsedRowSource (g.Self.RowSource.state l.fn.self) (g.Self.RowSource.state l.self);
+  calm : (g.Self.RowSource.state l.self).faults ≡ (g.Self.RowSource.state l.fn.self).faults;
+  left : g.Self.RowSource.leaves l.fn.self l.self;
   rows : IfSome (g.Self.RowSource.state l.fn.self).history (λ history.
       l.rows.items ≡ by_parts (take l.partition-index l.parts) (range_of l.table l.from l.to (history l.front)));
   each : AllByRecursion (IsRowBetween l.table l.parts l.from l.to) l.rows.items;
