@@ -31,7 +31,7 @@ none_any : (row : Row) (rows : List Row) → AllByRecursion (λ later. is_duplic
 none_any row [] none = refl
 none_any row (x ∷ rows) none = rw (duplicates_back row x ∙ none.0) (none_any row rows none.1)
 
-or_false : (x y : Bool) → (x || y) ≡ false → (x ≡ false) × (y ≡ false)
+pub or_false : (x y : Bool) → (x || y) ≡ false → (x ≡ false) × (y ≡ false)
 or_false true y is = absurd cc
 or_false false y is = (refl, is)
 
@@ -116,7 +116,7 @@ module _ (placed : List Placed) (rows : List Row) (order : AreInOrder (behind_po
   pub all_in_order : (P : Row → Type 0) → AllByRecursion P (rows_of_placed placed) → AllByRecursion P rows
   all_in_order P all = all_rows P rows (λ i row at. placed_at P placed i row all (order.each i row at))
 
-  pub long_as_order : length placed ≡ length rows
+  long_as_order : length placed ≡ length rows
   long_as_order = omega (arith, order.as_many, length-map {B = ℕ × Row} placed (λ (at : Placed). (at.position, at.row)))
 
   pub within_of_order : (e : ℕ) → IsWithin e rows → IsWithin e (rows_of_placed placed)

@@ -1,5 +1,5 @@
 -- The rows of all runs are judged as they were read.
-use Rattle.std.proofs.Common.{◌≡◌, ℕ, List, [], ◌∷◌, ◌++◌, true, None, refl, sym, ◌∙◌, subst, arith}
+use Rattle.std.proofs.Common.{◌≡◌, ℕ, List, [], ◌∷◌, ◌++◌, length, map, true, None, refl, sym, ◌∙◌, subst}
 use Rattle.std.specs.Prelude.{◌==◌, ◌&&◌, Option, Some}
 use Rattle.std.specs.List.{AllByRecursion, flat_map}
 use Rattle.std.proofs.lemmas.Bool.{and_parts}
@@ -10,11 +10,12 @@ use Rattle.octet_fields.specs.Exact.{IsOctets}
 use Rattle.history_items.specs.Items.{items_of}
 use Rattle.history_items.proofs.ItemLists.{no_databases}
 use Rattle.run_pages.specs.Order.{are_ordered, follows}
-use Rattle.run_pages.specs.Placed.{Placed, rows_of_placed}
+use Rattle.run_pages.specs.Placed.{Placed, behind_positions, rows_of_placed}
 use Rattle.run_pages.specs.Runs.{IsRunFile, first_row_key}
 use Rattle.run_pages.proofs.OrderedRows.{eq_true}
 use Rattle.seal_codec.specs.declared.seal.Seal.{Seal}
 use Rattle.seal_codec.specs.declared.seal.SealedRun.{SealedRun}
+use Rattle.sealed_sums.specs.InOrder.{AreInOrder}
 use Rattle.archive_images.specs.declared.head.Head.{Head}
 use Rattle.archive_images.specs.Entries.{Archive, FilledArchive, IsPlaced, filled_archive}
 use Rattle.archive_images.specs.SealFiles.{HaveParts, HaveRuns, Part}
@@ -22,9 +23,10 @@ use Rattle.archive_images.proofs.Archived.{all_more}
 use Rattle.archive_images.specs.Below.{AreSealedFills, PartsMake, fillings_of, rows_of_part, rows_of_parts}
 use Rattle.sealed_images.specs.Damage.{AreRunsIn, AreSealsIn, rows_of_placed_runs}
 use Rattle.sealed_images.specs.Laws.{RowsAreJudgedAsRead}
-use Rattle.sealed_images.specs.Verdict.{AreAllPlaced, AreRunsPlaced, MaySealAsRead}
-use Rattle.sealed_images.proofs.AnyOrder.{all_in_order, all_of_order, history_in_order, history_of_order, long_as_order, within_in_order, within_of_order}
+use Rattle.sealed_images.specs.Verdict.{AreAllPlaced, ArePositions, AreRunsPlaced, MaySealAsRead}
+use Rattle.sealed_images.proofs.AnyOrder.{all_in_order, all_of_order, history_in_order, history_of_order, within_in_order, within_of_order}
 use Rattle.sealed_images.proofs.LogReads.{placed_same}
+use Rattle.sealed_images.proofs.Positions.{positions_of_order, rows_in_order}
 
 -- ---- the table of a run
 
@@ -123,38 +125,46 @@ all_bare P (at ∷ placed) all = (all.0, all_bare P placed all.1)
 
 -- ---- the law
 
+-- rows that may be sealed as they were read may be in the order of their positions
+in_order : (image : Image) (old : Archive) (all : List Seal) (sealed : ℕ) (parts : List Part) → AreSealsIn image old [] all parts → (may : MaySealAsRead old all sealed parts)
+    → (rows : List Row) → AreInOrder (behind_positions (rows_of_parts parts)) rows → length rows ≡ sealed → PartsMake old all sealed parts (filled_archive old.head old.exponent (items_of rows) (fillings_of parts))
+in_order image old all sealed parts are may rows order count =
+    let placed : List Placed = rows_of_parts parts in
+    record {
+      rows = rows;
+      in_order = order;
+      count = count;
+      admitted = record {
+        history = history_in_order placed rows order may.history;
+        placed = placed_same old.head [] (items_of rows) refl (no_databases rows) rows
+            (all_in_order placed rows order (IsPlaced old.head []) (bare_all (IsPlaced old.head []) placed (all_parts_placed old.head all parts may.placed)));
+        octets = all_in_order placed rows order (λ (row : Row). IsOctets row.packet) may.octets;
+        within = within_in_order placed rows order old.exponent may.within;
+      };
+      fills = fills_had image old [] all parts are;
+      made_is = refl;
+    }
+
 pub judged_as_read : RowsAreJudgedAsRead
 judged_as_read image old all sealed parts are = (there, back)
   where
     there : MaySealAsRead old all sealed parts → HaveParts image all parts × (made : FilledArchive) × PartsMake old all sealed parts made
-    there may = (
-      parts_had image old [] all parts are may.placed,
-      filled_archive old.head old.exponent (items_of may.rows) (fillings_of parts),
-      record {
-        rows = may.rows;
-        in_order = may.in_order;
-        count = omega (arith, may.count, long_as_order (rows_of_parts parts) may.rows may.in_order);
-        admitted = record {
-          history = history_in_order (rows_of_parts parts) may.rows may.in_order may.history;
-          placed = placed_same old.head [] (items_of may.rows) refl (no_databases may.rows) may.rows
-              (all_in_order (rows_of_parts parts) may.rows may.in_order (IsPlaced old.head []) (bare_all (IsPlaced old.head []) (rows_of_parts parts) (all_parts_placed old.head all parts may.placed)));
-          octets = all_in_order (rows_of_parts parts) may.rows may.in_order (λ (row : Row). IsOctets row.packet) may.octets;
-          within = within_in_order (rows_of_parts parts) may.rows may.in_order old.exponent may.within;
-        };
-        fills = fills_had image old [] all parts are;
-        made_is = refl;
-      },
-    )
+    there may =
+        let found = rows_in_order (rows_of_parts parts) sealed may.positions in (
+          parts_had image old [] all parts are may.placed,
+          filled_archive old.head old.exponent (items_of found.0) (fillings_of parts),
+          in_order image old all sealed parts are may found.0 found.1 found.2,
+        )
 
     back : HaveParts image all parts × (made : FilledArchive) × PartsMake old all sealed parts made → MaySealAsRead old all sealed parts
-    back (have, made, make) = record {
-      placed = parts_placed image old.head all parts have (all_bare (IsPlaced old.head []) (rows_of_parts parts)
-          (all_of_order (rows_of_parts parts) make.rows make.in_order (IsPlaced old.head [])
-          (placed_same old.head (items_of make.rows) [] (no_databases make.rows) refl make.rows make.admitted.placed)));
-      rows = make.rows;
-      in_order = make.in_order;
-      count = omega (arith, make.count, long_as_order (rows_of_parts parts) make.rows make.in_order);
-      history = history_of_order (rows_of_parts parts) make.rows make.in_order make.admitted.history;
-      octets = all_of_order (rows_of_parts parts) make.rows make.in_order (λ (row : Row). IsOctets row.packet) make.admitted.octets;
-      within = within_of_order (rows_of_parts parts) make.rows make.in_order old.exponent make.admitted.within;
-    }
+    back (have, made, make) =
+        let placed : List Placed = rows_of_parts parts in
+        record {
+          placed = parts_placed image old.head all parts have (all_bare (IsPlaced old.head []) placed
+              (all_of_order placed make.rows make.in_order (IsPlaced old.head [])
+              (placed_same old.head (items_of make.rows) [] (no_databases make.rows) refl make.rows make.admitted.placed)));
+          positions = subst (ArePositions (map (λ (at : Placed). at.position) placed)) make.count (positions_of_order placed make.rows make.in_order);
+          history = history_of_order placed make.rows make.in_order make.admitted.history;
+          octets = all_of_order placed make.rows make.in_order (λ (row : Row). IsOctets row.packet) make.admitted.octets;
+          within = within_of_order placed make.rows make.in_order old.exponent make.admitted.within;
+        }

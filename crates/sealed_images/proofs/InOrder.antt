@@ -22,7 +22,7 @@ got_right (x ∷ xs) ys k =
     let next : suc (length xs) + k ≡ suc (length xs + k) = omega arith in
     ap (λ (m : ℕ). slice_get (x ∷ (xs ++ ys)) m) next ∙ got_right xs ys k
 
-got_cases : {X : Type 0} (xs ys : List X) (p : ℕ) (x : X) → slice_get (xs ++ ys) p ≡ Some x
+pub got_cases : {X : Type 0} (xs ys : List X) (p : ℕ) (x : X) → slice_get (xs ++ ys) p ≡ Some x
     → (slice_get xs p ≡ Some x) ⊎ ((k : ℕ) × (p ≡ length xs + k) × (slice_get ys k ≡ Some x))
 got_cases [] ys p x is = inr (p, omega arith, is)
 got_cases (y ∷ xs) ys zero x is = inl is

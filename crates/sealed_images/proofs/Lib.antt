@@ -14,3 +14,4 @@ pub mod FillsSealed
 pub mod Sealing
 pub mod AnyOrder
 pub mod AsRead
+pub mod Positions

@@ -55,7 +55,7 @@ has_row_same e interval h k same has = by (list_any (is_row_of_interval e interv
     by true is = some_row e interval k (sym same ∙ is)
     by false is = absurd (no_row e interval h has.position is has.stands)
 
-there_below : {X : Type 0} (xs : List X) (p : ℕ) (x : X) → slice_get xs p ≡ Some x → p < length xs
+pub there_below : {X : Type 0} (xs : List X) (p : ℕ) (x : X) → slice_get xs p ≡ Some x → p < length xs
 there_below [] p x is = absurd cc
 there_below (y ∷ xs) zero x is = omega arith
 there_below (y ∷ xs) (suc p) x is = omega (arith, there_below xs p x is)
@@ -110,8 +110,8 @@ module _ (old : Archive) (sealed : ℕ) (placed : List Placed) (rows : List Row)
 
   -- ---- one record
 
-  may_add : (was more : List Row) (fillings : Fillings (List SetRow)) → AreAdmitted (archive old.head old.exponent (items_of (rows ++ was))) more → MayAdd old sealed in_runs was more
-  may_add was more fillings may = record {
+  may_add : (was more : List Row) → AreAdmitted (archive old.head old.exponent (items_of (rows ++ was))) more → MayAdd old sealed in_runs was more
+  may_add was more may = record {
     spelled = may.spelled;
     placed = placed_same old.head (items_of (rows ++ was)) (items_of (in_runs ++ was)) (no_databases (rows ++ was)) (no_databases (in_runs ++ was)) more may.placed;
     octets = may.octets;
@@ -168,7 +168,7 @@ module _ (old : Archive) (sealed : ℕ) (placed : List Placed) (rows : List Row)
   reads_from was fillings (entries.Rows more ∷ es) filled r =
       let next : r.0 ≡ over (was ++ more) fillings = r.1.1 ∙ ap (λ (h : List Item). filled_archive old.head old.exponent h fillings) (more_items was more) in (
         was ++ more,
-        inl (record { rows = more; body_is = refl; may = may_add was more fillings r.1.0; now_is = refl }),
+        inl (record { rows = more; body_is = refl; may = may_add was more r.1.0; now_is = refl }),
         subst (λ (l : List Row). ReadsTo (FollowsInLog old sealed in_runs) (was ++ more) (map entry_octets es) l) (append_assoc was more (rows_of_entries es))
             (reads_from (was ++ more) fillings es filled (subst (λ (a : FilledArchive). Replays (Some a) es (Some filled)) next r.2)),
       )

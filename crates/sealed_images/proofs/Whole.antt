@@ -31,14 +31,14 @@ behind_manifest : (image : Image) (m : Manifest) (file at : ℕ) → SaysManifes
 behind_manifest image m file at says (inl here) = absurd (zero_is_whole image m at says here.1)
 behind_manifest image m file at says (inr later) = subst (λ (x : Manifest). IsBehindZero image x file at) (manifest_once (image 0) later.0 m later.1 says) later.2
 
-not_none : (xs : List Seal) (x : Seal) → [] ≡ xs ++ x ∷ [] → ⊥
+pub not_none : (xs : List Seal) (x : Seal) → [] ≡ xs ++ x ∷ [] → ⊥
 not_none [] x is = absurd cc
 not_none (y ∷ xs) x is = absurd cc
 
 -- ---- an image that stands for an archive
 
 -- file 0 says its entries alone
-plain_says : (image : Image) (filled : FilledArchive) (s : StandsSealed image filled) → IsPlainLog {A = FilledArchive} image s.log s.beginning s.base → SaysManifest (image 0) (record { before = s.entries; old = filled; all = [] })
+pub plain_says : (image : Image) (filled : FilledArchive) (s : StandsSealed image filled) → IsPlainLog {A = FilledArchive} image s.log s.beginning s.base → SaysManifest (image 0) (record { before = s.entries; old = filled; all = [] })
 plain_says image filled s plain = record {
   has = record {
     has = subst (λ (l : List (List ℕ)). HasRecords (image 0) l) (sym (append-nil (map entry_octets s.entries)))
@@ -51,7 +51,7 @@ plain_says image filled s plain = record {
   replays = subst (λ (b : Option FilledArchive). Replays b s.entries (Some filled)) plain.2 s.replays;
 }
 
-abbrev manifest_of : {image : Image} {log : ℕ} {beginning : List (List ℕ)} {base : Option FilledArchive} → IsSealed image log beginning base → Manifest
+abbrev pub manifest_of : {image : Image} {log : ℕ} {beginning : List (List ℕ)} {base : Option FilledArchive} → IsSealed image log beginning base → Manifest
 manifest_of x = record { before = x.before; old = x.old; all = x.earlier ++ x.last ∷ [] }
 
 -- the log isn't broken, and the rows of all runs may be sealed

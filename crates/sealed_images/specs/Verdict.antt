@@ -1,14 +1,12 @@
 -- What is asked of the rows of all runs, as they were read.
-use Rattle.std.specs.Prelude.{◌≡◌, ℕ, List, [], ◌∷◌, length}
-use Rattle.std.specs.List.{AllByRecursion}
-use Rattle.arch_types.specs.declared.row.Row.{Row}
+use Rattle.std.specs.Prelude.{◌≡◌, ℕ, ◌<◌, List, [], ◌∷◌, length, map, nat_eq}
+use Rattle.std.specs.List.{AllByRecursion, IsDistinct}
 use Rattle.arch_types.specs.History.{IsHistory}
 use Rattle.octet_fields.specs.Exact.{IsOctets}
 use Rattle.archive_history.specs.Limits.{IsWithin}
-use Rattle.run_pages.specs.Placed.{Placed, behind_positions, rows_of_placed}
+use Rattle.run_pages.specs.Placed.{Placed, rows_of_placed}
 use Rattle.seal_codec.specs.declared.seal.Seal.{Seal}
 use Rattle.seal_codec.specs.declared.seal.SealedRun.{SealedRun}
-use Rattle.sealed_sums.specs.InOrder.{AreInOrder}
 use Rattle.archive_images.specs.declared.head.Head.{Head}
 use Rattle.archive_images.specs.Entries.{Archive, IsPlaced}
 use Rattle.archive_images.specs.SealFiles.{Part}
@@ -27,13 +25,17 @@ AreAllPlaced head [] parts = parts ≡ []
 AreAllPlaced head (seal ∷ all) [] = ⊥
 AreAllPlaced head (seal ∷ all) (part ∷ parts) = AreRunsPlaced head seal.runs part.runs × AreAllPlaced head all parts
 
+-- these positions are 0 to below so many, each once
+pub record ArePositions (told : List ℕ) (count : ℕ) : Type 0 where
+  pub once : IsDistinct nat_eq told
+  pub below : AllByRecursion (λ position. position < count) told
+  pub all : length told ≡ count
+
 -- The rows of all runs may be sealed, in whichever order they were read: each is of the table that is named for its run,
 -- they stand at the positions from 0 to below the number, each once, no table has a key twice, and they pass no limit.
 pub record MaySealAsRead (old : Archive) (all : List Seal) (sealed : ℕ) (parts : List Part) : Type 0 where
   pub placed : AreAllPlaced old.head all parts
-  pub rows : List Row
-  pub in_order : AreInOrder (behind_positions (rows_of_parts parts)) rows
-  pub count : length (rows_of_parts parts) ≡ sealed
+  pub positions : ArePositions (map (λ at. at.position) (rows_of_parts parts)) sealed
   pub history : IsHistory (rows_of_placed (rows_of_parts parts))
   pub octets : AllByRecursion (λ row. IsOctets row.packet) (rows_of_placed (rows_of_parts parts))
   pub within : IsWithin old.exponent (rows_of_placed (rows_of_parts parts))

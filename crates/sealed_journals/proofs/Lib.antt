@@ -1,0 +1,2 @@
+pub mod LogsOnce
+pub mod Kept

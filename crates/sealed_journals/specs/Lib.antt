@@ -1,0 +1,4 @@
+pub mod Journals
+pub mod Counts
+pub mod Runs
+pub mod Laws

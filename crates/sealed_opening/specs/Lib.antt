@@ -1,0 +1,5 @@
+pub mod Manifest
+pub mod Positions
+pub mod ReadRefusals
+pub mod Records
+pub mod Zero
