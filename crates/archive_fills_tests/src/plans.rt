@@ -1,5 +1,5 @@
 // What a plan has of intervals: the set of one that isn't late, the packets of one that is.
-ghost use Rattle.std.specs.Prelude.{◌≡◌};
+ghost use Rattle.archive_fills_tests.specs.Growth.{GoesOnFrom};
 
 use crate::calls::are_packets;
 use arch_disk::Disk;
@@ -35,7 +35,7 @@ pub(crate) fn request(alloc: Global, parameter: &[u8], from: i64, to: i64) -> Op
 
 /// The plan of `v` over a range.
 fn planned<D: Disk>(alloc: Global, store: &mut Store<D>, from: i64, to: i64) -> Option<Plan>
-    ensures { store.new ≡ store.old }
+    ensures { GoesOnFrom store.old store.new }
 {
     let request = request(alloc, b"v", from, to)?;
     let Ok(found) = store.find(request) else {
@@ -80,7 +80,7 @@ pub(crate) fn shows<D: Disk>(
     front: u64,
     parts: &[Over],
 ) -> bool
-    ensures { store.new ≡ store.old }
+    ensures { GoesOnFrom store.old store.new }
 {
     match planned(alloc, store, from, to) {
         Some(plan) => is_plan(&plan, front, parts),

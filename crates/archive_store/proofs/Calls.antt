@@ -23,8 +23,11 @@ use Rattle.archive_store.specs.Calls.{AreIngested, IsBatchUnread, IsOutsideRefus
 use Rattle.archive_store.specs.Replays.{memory_state}
 use Rattle.archive_images.specs.Stands.{StandsFor}
 use Rattle.archive_store.specs.StoreView.{StoreView, AddsFault, archive_of}
-use Rattle.archive_store.proofs.Ingesting.{added}
-use Rattle.archive_store.proofs.UnreadRows.{read_same, refusal_is_memory, told_in_memory}
+use Rattle.archive_store.proofs.Ingesting.{added, few_fresh, fresh_in}
+use Rattle.archive_store.specs.Pages.{TellsRows}
+use Rattle.archive_store.specs.UnreadRows.{IsReadOn}
+use Rattle.archive_store.specs.ReadOn.{read_none}
+use Rattle.archive_store.proofs.ReadOn.{left_on, reads_on}
 use Rattle.archive_images.proofs.Exact.{stands_once, stands_not_damaged, damaged_once, none_not_damaged, none_not_stands}
 
 -- what holds of the refusal that a `?` hands on
@@ -43,54 +46,45 @@ module _ {D : Type 0} (device : Device D) where
   -- rows that were not appended are those of a batch
   pub rows_refused : (old new : StoreView D) (rows fresh : List Row) (e : Refusal) → fresh ≡ fresh_of old.history rows → pending_fault_of old.fills ≡ None → fresh_of old.history rows ≢ []
       → IsBelowLimits old.exponent old.records old.history rows → IsRowsRefusal device old new fresh e → IsIngestRefusal device old new rows e
-  rows_refused old new rows fresh DiskFault is healed some_new below refusal = inl (record { healed = healed; fresh = fresh; some_new = λ none. some_new (sym is ∙ none); told = λ _. record { fresh_is = is; below = below }; fault = refusal })
+  rows_refused old new rows fresh DiskFault is healed some_new below refusal = inl (record { healed = healed; fresh = fresh; some_new = λ none. some_new (sym is ∙ none); of_batch = fresh_in old.history rows fresh is; few = few_fresh old.history rows fresh is; told = λ _. record { fresh_is = is; below = below }; fault = refusal })
   rows_refused old new rows fresh OutOfMemory is healed some_new below refusal = (healed, inl refusal)
   rows_refused old new rows fresh _ is healed some_new below refusal = absurd refusal
 
   -- rows in memory of which the batch wasn't classified
   pub batch_unread : (store : StoreView D) (rows : List Row) (before after : List Item) (fault : RowFault) → pending_fault_of store.fills ≡ None → IsRowFault (memory_state before) (memory_state after) fault → IsIngestRefusal device store store rows (refusal_of_rows fault)
-  batch_unread store rows before after unread.DiskFault healed is = absurd (omega (arith, is))
-  batch_unread store rows before after (unread.Damaged file at) healed is = absurd cc
+  batch_unread store rows before after unread.DiskFault healed is = absurd is.0
+  batch_unread store rows before after (unread.Damaged file at) healed is = absurd is.0
   batch_unread store rows before after unread.OutOfMemory healed is = (healed, inl refl)
 
-  -- rows in memory are read unless memory is wanting
-  read_in_memory : (old new : StoreView D) (e : Refusal) → IsBatchUnread device old new e → (e ≡ OutOfMemory → ⊥) → ⊥
-  read_in_memory old new e is other = other (refusal_is_memory device old new e is.unread)
-
-  -- so an ingest is refused by one of four,
+  -- an ingest is refused by one of four, or since rows aren't read,
   pub ingest_cases : (old new : StoreView D) (rows : List Row) (P : Refusal → Type 0) (e : Refusal) → IsIngestRefusal device old new rows e
       → ((faults : ℕ) → IsIngestRefusal device old new rows (NeedsReopen faults) → P (NeedsReopen faults))
       → ((which : Which) (number : ℕ) → IsIngestRefusal device old new rows (Limit which number) → P (Limit which number))
       → (IsIngestFailed device old new rows → P DiskFault)
+      → ((refusal : Refusal) → IsBatchUnread device old new refusal → P refusal)
       → (IsIngestRefusal device old new rows OutOfMemory → P OutOfMemory) → P e
-  ingest_cases old new rows P (Damaged file at) is reopen limit fault memory = absurd (read_in_memory old new (Damaged file at) is (λ same. cc))
-  ingest_cases old new rows P DiskFault (inl failed) reopen limit fault memory = fault failed
-  ingest_cases old new rows P DiskFault (inr unread) reopen limit fault memory = absurd (read_in_memory old new DiskFault unread (λ same. cc))
-  ingest_cases old new rows P (NeedsReopen faults) is reopen limit fault memory = reopen faults is
-  ingest_cases old new rows P (Limit which number) is reopen limit fault memory = limit which number is
-  ingest_cases old new rows P OutOfMemory is reopen limit fault memory = memory is
-  ingest_cases old new rows P _ is reopen limit fault memory = absurd is
+  ingest_cases old new rows P (Damaged file at) is reopen limit fault unread memory = unread (Damaged file at) is
+  ingest_cases old new rows P DiskFault (inl failed) reopen limit fault unread memory = fault failed
+  ingest_cases old new rows P DiskFault (inr is) reopen limit fault unread memory = unread DiskFault is
+  ingest_cases old new rows P (NeedsReopen faults) is reopen limit fault unread memory = reopen faults is
+  ingest_cases old new rows P (Limit which number) is reopen limit fault unread memory = limit which number is
+  ingest_cases old new rows P OutOfMemory is reopen limit fault unread memory = memory is
+  ingest_cases old new rows P _ is reopen limit fault unread memory = absurd is
 
-  -- which holds the new rows of the batch,
-  pub failed_fault : (old new : StoreView D) (rows : List Row) → IsIngestFailed device old new rows → AddsFault device old new true (Rows (fresh_of old.history rows))
-  failed_fault old new rows failed = subst (λ (l : List Row). AddsFault device old new true (Rows l)) (failed.told (told_in_memory device old)).fresh_is failed.fault
+  -- a fault holds the new rows of the batch, where the store tells its rows,
+  pub failed_fault : (old new : StoreView D) (rows : List Row) → TellsRows device old → IsIngestFailed device old new rows → AddsFault device old new true (Rows (fresh_of old.history rows))
+  failed_fault old new rows told failed = subst (λ (l : List Row). AddsFault device old new true (Rows l)) (failed.told told).fresh_is failed.fault
 
   -- as the history does once they came,
-  pub ingested_rows : (old new : StoreView D) (rows : List Row) (outcomes : List Inserted) → AreIngested device old new rows outcomes → new.history ≡ after_rows old.history rows
-  ingested_rows old new rows outcomes is = is.history ∙ added old.history rows is.fresh (is.told (told_in_memory device old)).fresh_is
+  pub ingested_rows : (old new : StoreView D) (rows : List Row) (outcomes : List Inserted) → TellsRows device old → AreIngested device old new rows outcomes → new.history ≡ after_rows old.history rows
+  ingested_rows old new rows outcomes told is = is.history ∙ added old.history rows is.fresh (is.told told).fresh_is
 
-  -- and leaves all but where a write failed,
-  pub ingest_untouched : (old new : StoreView D) (rows : List Row) (e : Refusal) → IsIngestRefusal device old new rows e → (e ≡ DiskFault) ⊎ (new ≡ old)
-  ingest_untouched old new rows e is =
-      ingest_cases old new rows (λ r. (r ≡ DiskFault) ⊎ (new ≡ old)) e is (λ faults r. inr r.1) (λ which number r. inr (read_same device old new r.2)) (λ r. inl refl) (λ r. inr (read_same device old new r.1))
-
-  -- which then leaves rows in a fault
-  pub ingest_fault : (old new : StoreView D) (rows : List Row) (e : Refusal) → IsIngestRefusal device old new rows e → e ≡ DiskFault → (fresh : List Row) × AddsFault device old new true (Rows fresh)
-  ingest_fault old new rows e is fault = by (subst (IsIngestRefusal device old new rows) fault is)
-    where
-      by : IsIngestRefusal device old new rows DiskFault → (fresh : List Row) × AddsFault device old new true (Rows fresh)
-      by (inl failed) = (failed.fresh, failed.fault)
-      by (inr unread) = absurd (read_in_memory old new DiskFault unread (λ same. cc))
+  -- and all but where a write failed is as reads leave it
+  pub ingest_left : (old new : StoreView D) (rows : List Row) (e : Refusal) → IsIngestRefusal device old new rows e → ((e ≡ DiskFault) × IsIngestFailed device old new rows) ⊎ IsReadOn device old new
+  ingest_left old new rows e is =
+      ingest_cases old new rows (λ r. ((r ≡ DiskFault) × IsIngestFailed device old new rows) ⊎ IsReadOn device old new) e is
+      (λ faults r. inr (subst (IsReadOn device old) (sym r.1) (read_none device old))) (λ which number r. inr (reads_on device old new r.2)) (λ failed. inl (refl, failed))
+      (λ refusal r. inr (left_on device old new refusal r.unread r.left)) (λ r. inr (reads_on device old new r.1))
 
   -- ---- reopens
 

@@ -11,13 +11,13 @@ same_prefix {A = A} old new is = subst (λ (l : List A). IsPrefix old l) (sym is
 
 module _ {D : Type 0} where
   -- nothing was added
-  pub goes_same : (old new : StoreView D) → new.history ≡ old.history → new.fills ≡ old.fills → new.head ≡ old.head → new.exponent ≡ old.exponent → new.opened ≡ old.opened → OnlyAppends old new
-  goes_same old new history fills head exponent opened = record { history = same_prefix old.history new.history history; fills = same_prefix old.fills new.fills fills; head = head; exponent = exponent; opened = opened }
+  pub goes_same : (old new : StoreView D) → new.history ≡ old.history → new.fills ≡ old.fills → new.head ≡ old.head → new.exponent ≡ old.exponent → new.opened ≡ old.opened → new.sealed ≡ old.sealed → OnlyAppends old new
+  goes_same old new history fills head exponent opened sealed = record { history = same_prefix old.history new.history history; fills = same_prefix old.fills new.fills fills; head = head; exponent = exponent; opened = opened; sealed = sealed }
 
   -- items were added to the history
-  pub goes_items : (old new : StoreView D) (more : List Item) → new.history ≡ old.history ++ more → new.fills ≡ old.fills → new.head ≡ old.head → new.exponent ≡ old.exponent → new.opened ≡ old.opened → OnlyAppends old new
-  goes_items old new more history fills head exponent opened = record { history = (more, sym history); fills = same_prefix old.fills new.fills fills; head = head; exponent = exponent; opened = opened }
+  pub goes_items : (old new : StoreView D) (more : List Item) → new.history ≡ old.history ++ more → new.fills ≡ old.fills → new.head ≡ old.head → new.exponent ≡ old.exponent → new.opened ≡ old.opened → new.sealed ≡ old.sealed → OnlyAppends old new
+  goes_items old new more history fills head exponent opened sealed = record { history = (more, sym history); fills = same_prefix old.fills new.fills fills; head = head; exponent = exponent; opened = opened; sealed = sealed }
 
   -- an item was added to the fill list
-  pub goes_fill : (old new : StoreView D) (item : Fill) → new.history ≡ old.history → new.fills ≡ old.fills ++ item ∷ [] → new.head ≡ old.head → new.exponent ≡ old.exponent → new.opened ≡ old.opened → OnlyAppends old new
-  goes_fill old new item history fills head exponent opened = record { history = same_prefix old.history new.history history; fills = (item ∷ [], sym fills); head = head; exponent = exponent; opened = opened }
+  pub goes_fill : (old new : StoreView D) (item : Fill) → new.history ≡ old.history → new.fills ≡ old.fills ++ item ∷ [] → new.head ≡ old.head → new.exponent ≡ old.exponent → new.opened ≡ old.opened → new.sealed ≡ old.sealed → OnlyAppends old new
+  goes_fill old new item history fills head exponent opened sealed = record { history = same_prefix old.history new.history history; fills = (item ∷ [], sym fills); head = head; exponent = exponent; opened = opened; sealed = sealed }

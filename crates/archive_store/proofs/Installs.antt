@@ -71,6 +71,7 @@ module _ {D : Type 0} where
     head = next.head ∙ first.head;
     exponent = next.exponent ∙ first.exponent;
     opened = next.opened ∙ first.opened;
+    sealed = next.sealed ∙ first.sealed;
   }
 
   -- ---- a fill that is given up
@@ -82,6 +83,7 @@ module _ {D : Type 0} where
     head = refl;
     exponent = refl;
     opened = refl;
+    sealed = refl;
   })
 
   -- ---- all flights end
@@ -93,6 +95,7 @@ module _ {D : Type 0} where
     head = refl;
     exponent = refl;
     opened = refl;
+    sealed = refl;
   })
 
   pub same_disk : (old new : StoreView D) (i : Interval) → IsAbandoned old new i → old.disk ≡ new.disk

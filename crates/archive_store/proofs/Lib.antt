@@ -14,10 +14,12 @@ pub mod Outcomes
 pub mod PlainLog
 pub mod Planning
 pub mod Positions
+pub mod ReadOn
 pub mod UnreadRows
 pub mod Refusals
 pub mod ReplayedRows
 pub mod SameFaults
+pub mod SourceState
 pub mod Sending
 pub mod TaskRows
 pub use Rattle.archive_images.proofs.Exact

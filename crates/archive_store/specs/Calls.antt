@@ -1,5 +1,5 @@
 -- What the calls of a store answer, and what each answer leaves of the store and of its disk.
-use Rattle.std.specs.Prelude.{◌≡◌, ◌≢◌, ◌≤◌, ◌⊎◌, ℕ, ◌+◌, ◌++◌, List, [], map, true, IsTrue, None, Some, Result, Ok, Err, IsErrAnd, MatchResult}
+use Rattle.std.specs.Prelude.{◌≡◌, ◌≢◌, ◌≤◌, ◌⊎◌, ℕ, ◌+◌, ◌++◌, List, [], length, map, Contains, true, IsTrue, None, Some, Result, Ok, Err, IsErrAnd, MatchResult}
 use Rattle.std.specs.List.{AllByRecursion}
 use Rattle.arch_disk.specs.Image.{Image}
 use Rattle.arch_disk.specs.Disk.{Device, LeavesOnly, NoFault, NoWriteFailed, raised}
@@ -67,12 +67,16 @@ pub record IsFreshBatch {D : Type 0} (old : StoreView D) (rows fresh : List Row)
   pub fresh_is : fresh ≡ fresh_of old.history rows
   pub below : IsBelowLimits old.exponent old.records old.history rows
 
--- the new rows stand behind the history, in one record more; without such rows nothing was written
+-- the new rows stand behind the history, in one record more; without such rows nothing was written; each row has an
+-- outcome
 pub record AreIngested {D : Type 0} (device : Device D) (old new : StoreView D) (rows : List Row)
     (outcomes : List Inserted) : Type 0 where
   pub healed : pending_fault_of old.fills ≡ None
   pub fresh : List Row
+  pub of_batch : AllByRecursion (Contains rows) fresh
+  pub few : length fresh ≤ length rows
   pub told : TellsRows device old → IsFreshBatch old rows fresh
+  pub each : length outcomes ≡ length rows
   pub outcomes_are : TellsRows device old → outcomes ≡ outcomes_of old.history rows
   pub history : new.history ≡ old.history ++ items_of fresh
   pub fills : new.fills ≡ old.fills
@@ -93,6 +97,8 @@ pub record IsIngestFailed {D : Type 0} (device : Device D) (old new : StoreView 
   pub healed : pending_fault_of old.fills ≡ None
   pub fresh : List Row
   pub some_new : fresh ≢ []
+  pub of_batch : AllByRecursion (Contains rows) fresh
+  pub few : length fresh ≤ length rows
   pub told : TellsRows device old → IsFreshBatch old rows fresh
   pub fault : AddsFault device old new true (Rows fresh)
 
@@ -224,6 +230,7 @@ pub record IsStoreCreated {D : Type 0} (device : Device D) (disk : D) (head : He
   pub head_is : store.head ≡ head
   pub exponent : store.exponent ≡ format_1_exponent
   pub records : store.records ≡ 1
+  pub sealed : store.sealed ≡ 0
   pub opened : store.opened ≡ store.disk
   pub no_failed_write : NoWriteFailed device disk store.disk
   pub no_fault : NoFault device disk store.disk

@@ -21,7 +21,7 @@ use Rattle.archive_images.specs.Stands.{StandsFilled}
 use Rattle.archive_store.specs.StoreView.{StoreView, FaultInvariant}
 
 -- what contracts see of a store: the disk now and as it was opened, the journal's records, the head, the exponent of
--- the intervals, the history, what happened to fills, and the fills that are there
+-- the intervals, the history, what happened to fills, and the fills that are there; no row stands in a run yet
 abbrev pub view_of : {D : Type 0} → D → D → Journal → Head → ℕ → List Item → List Fill → PlacedFills → StoreView D
 view_of disk opened journal head exponent history fills filled = record {
   history = history;
@@ -32,6 +32,7 @@ view_of disk opened journal head exponent history fills filled = record {
   records = count_of journal;
   disk = disk;
   opened = opened;
+  sealed = 0;
 }
 
 -- what a crash leaves and what the log holds, by the archive of the opening, and how journal, head and faults go

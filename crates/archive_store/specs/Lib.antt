@@ -8,6 +8,7 @@ pub mod Limits
 pub mod PlainLog
 pub mod Plans
 pub mod UnreadRows
+pub mod ReadOn
 pub mod Replays
 pub mod StoreView
 pub mod Classifying
@@ -19,6 +20,7 @@ pub mod Keeping
 pub mod LateFills
 pub mod Marks
 pub mod Pages
+pub mod PrintFaults
 pub use Rattle.archive_images.specs.Entries
 pub use Rattle.archive_images.specs.Images
 pub use Rattle.archive_images.specs.Stands

@@ -1,5 +1,5 @@
 -- What a store answers of replays and of the partitions of a table.
-use Rattle.std.specs.Prelude.{◌≡◌, ◌↔◌, ℕ, ◌<◌, List, length, Some, Contains}
+use Rattle.std.specs.Prelude.{◌≡◌, ◌↔◌, ℕ, ◌<◌, IsTrue, List, length, Some, Contains}
 use Rattle.std.specs.List.{AllByRecursion}
 use mathlib.Core.List.{IsPrefix}
 use Rattle.arch_disk.specs.Disk.{Device}
@@ -17,9 +17,10 @@ use Rattle.partitions.specs.Bounds.{MayHold}
 use Rattle.partitions.specs.Partitions.{AreRising}
 use Rattle.replay_merge.specs.Cursor.{CursorView, rest_of}
 use Rattle.replay_merge.specs.Replay.{replay_of}
-use Rattle.replay_merge.specs.RowSource.{RowSourceState}
+use Rattle.replay_merge.specs.RowSource.{RowSourceState, told_if}
 use Rattle.archive_images.specs.declared.head.Head.{Head}
 use Rattle.archive_images.specs.Entries.{IsArchivedRow}
+use Rattle.archive_store.specs.Pages.{HasPages, is_told}
 use Rattle.archive_store.specs.StoreView.{StoreView}
 
 -- ---- the store as a source of rows
@@ -28,13 +29,29 @@ use Rattle.archive_store.specs.StoreView.{StoreView}
 abbrev pub rows_below : List Item → ℕ → List Row
 rows_below history front = rows_in (prefix front history)
 
--- its rows, which are in memory, are told whatever the disk tells, it gives no others, and its faults are the disk's
-abbrev pub source_state : {D : Type 0} → Device D → StoreView D → RowSourceState
-source_state device store = record { history = Some (rows_below store.history); may_give = Contains (rows_in store.history); faults = device.fault_count store.disk }
+-- a row that a store may give: one of its own, where it tells them, and always one that its archive may have
+pub record MayGive {D : Type 0} (device : Device D) (store : StoreView D) (row : Row) : Type 0 where
+  pub own : IsTrue (is_told device store) → Contains (rows_in store.history) row
+  pub archived : IsArchivedRow store.head store.history row
 
--- the rows of a history in memory are told, it gives no others, and reading them makes no fault
+-- It tells its rows unless they stand on pages of a disk that doesn't tell what it holds. It may fail where some stand on
+-- pages, and its faults are the disk's.
+abbrev pub source_state : {D : Type 0} → Device D → StoreView D → RowSourceState
+source_state device store = record {
+  history = told_if (is_told device store) (rows_below store.history);
+  may_give = MayGive device store;
+  may_fail = HasPages store;
+  faults = device.fault_count store.disk;
+}
+
+-- the rows of a history in memory are told, it gives no others, and reading them never fails
 abbrev pub memory_state : List Item → RowSourceState
-memory_state history = record { history = Some (rows_below history); may_give = Contains (rows_in history); faults = 0 }
+memory_state history = record {
+  history = Some (rows_below history);
+  may_give = Contains (rows_in history);
+  may_fail = ⊥;
+  faults = 0;
+}
 
 -- a history in memory whose rows are those that a store gives, with a table for each name of the head
 pub record IsStoredHistory (head : Head) (history : HistoryView) : Type 0 where

@@ -15,7 +15,8 @@ use Rattle.archive_images.specs.Stands.{StandsFilled, StandsFor, IsSoundImage}
 use Rattle.archive_images.specs.Unacknowledged.{IsUnacknowledged}
 
 -- the history and the fill list, the fills that are there, the head, the exponent of the intervals, how many records
--- the journal has, the disk, and the disk as it was at the opening
+-- the journal has, the disk, the disk as it was at the opening, and how many rows stand in runs: the first ones of the
+-- history
 pub record StoreView (D : Type 0) : Type 0 where
   pub history : List Item
   pub fills : List Fill
@@ -25,6 +26,7 @@ pub record StoreView (D : Type 0) : Type 0 where
   pub records : ℕ
   pub disk : D
   pub opened : D
+  pub sealed : ℕ
 
 -- what a store stands for
 abbrev pub archive_of : {D : Type 0} → StoreView D → Archive
@@ -89,10 +91,11 @@ pub record AddsFault {D : Type 0} (device : Device D) (old new : StoreView D) (w
   pub rose : raised (device.fault_count old.disk) ≤ device.fault_count new.disk
   pub writes : device.failed_writes new.disk ≡ writes_after wrote (device.failed_writes old.disk)
 
--- both lists begin with the old ones, and head, exponent and opening stay
+-- both lists begin with the old ones, and head, exponent and opening stay, and which rows stand in runs
 pub record OnlyAppends {D : Type 0} (old new : StoreView D) : Type 0 where
   pub history : IsPrefix old.history new.history
   pub fills : IsPrefix old.fills new.fills
   pub head : new.head ≡ old.head
   pub exponent : new.exponent ≡ old.exponent
   pub opened : new.opened ≡ old.opened
+  pub sealed : new.sealed ≡ old.sealed

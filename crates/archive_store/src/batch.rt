@@ -36,6 +36,9 @@ pub fn received_row(packet: Octets, rectime: i64, link: u16, pname: u16) -> Row
     }
 }
 
+/// For how many arrivals there is room from the first one on, where memory lets: as many as a link sends at once.
+const USUAL_ARRIVALS: usize = 64;
+
 /// Arrivals in their order.
 #[derive(Debug, Drop)]
 pub struct Arrivals {
@@ -73,6 +76,10 @@ impl Arrivals {
         ensures err { OnErr result (self.new ≡ self.old) }
     {
         self.items.push(arrival)?;
+        if self.items.len() == 1 {
+            // where there's no memory for that, the next arrivals ask for their own
+            let _ = self.items.reserve(USUAL_ARRIVALS - 1);
+        }
         Ok(())
     }
 }

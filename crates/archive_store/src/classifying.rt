@@ -94,7 +94,9 @@ fn outcome<R: RowSource>(
         Says (items ++ items_of classified.now.fresh) row outcome) }
     ensures history { IfSome (R.state source.old).history AreRowSourceHistories }
     ensures refused { IfErr result (IsRowFault (R.state source.old) (R.state source.new)) }
+    ensures no_fault { OnOk result ((R.state source.new).faults ≡ (R.state source.old).faults) }
     ensures source { UsedRowSource (R.state source.old) (R.state source.new) }
+    ensures left { R.leaves source.old source.new }
 {
     if let Some(position) = source.position(alloc, at.table, at.key)? {
         return Ok(Inserted::Duplicate(position));
@@ -145,7 +147,9 @@ fn classify_row<R: RowSource>(
         OnOk result (IsClassified items (rows ++ in_table row.now table ∷ []) classified.new) }
     ensures last { OnOk result (NoneAbove classified.new.last classified.new.fresh) }
     ensures refused { IfErr result (IsRowFault (R.state source.old) (R.state source.new)) }
+    ensures no_fault { OnOk result ((R.state source.new).faults ≡ (R.state source.old).faults) }
     ensures source { UsedRowSource (R.state source.old) (R.state source.new) }
+    ensures left { R.leaves source.old source.new }
 {
     row.packet.is_octets();
     let at = TableKey {
@@ -179,7 +183,9 @@ fn classify_arrival<R: RowSource>(
         OnOk result (IsClassified items (rows ++ arrival_rows arrival.now) classified.new) }
     ensures last { OnOk result (NoneAbove classified.new.last classified.new.fresh) }
     ensures refused { IfErr result (IsRowFault (R.state source.old) (R.state source.new)) }
+    ensures no_fault { OnOk result ((R.state source.new).faults ≡ (R.state source.old).faults) }
     ensures source { UsedRowSource (R.state source.old) (R.state source.new) }
+    ensures left { R.leaves source.old source.new }
 {
     for table in arrival.tables.as_slice() {
         classify_row(alloc, source, classified, &arrival.row, *table, known)?;
@@ -206,7 +212,9 @@ pub(crate) fn classify<R: RowSource>(
     ensures classified { IfOk result (λ classified. (items : List AnItem) → TellsItems (R.state source.old) items known →
         IsClassified items (batch_rows batch.now) classified) }
     ensures refused { IfErr result (IsRowFault (R.state source.old) (R.state source.new)) }
+    ensures no_fault { OnOk result ((R.state source.new).faults ≡ (R.state source.old).faults) }
     ensures source { UsedRowSource (R.state source.old) (R.state source.new) }
+    ensures left { R.leaves source.old source.new }
 {
     let count = batch.arrivals.as_slice().len();
     let mut classified = ClassifiedBatch {

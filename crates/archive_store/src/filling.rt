@@ -1,13 +1,14 @@
 //! Late intervals and their fills.
 
-ghost use Rattle.std.specs.Prelude.{◌≡◌, ◌↔◌, ◌<◌, ◌≤◌, [], ◌∷◌, ◌++◌, length, IfOk, IfErr, IfSome, OnErr, OnOk, IsTrue};
+ghost use Rattle.std.specs.Prelude.{◌≡◌, ◌↔◌, ◌<◌, ◌≤◌, [], ◌∷◌, ◌++◌, length, IfOk, IfErr, IfSome, OnErr, OnOk, IsTrue, Some};
 ghost use Rattle.std.specs.Arc.{arc_value};
 ghost use Rattle.std.specs.List.{AllByRecursion};
 ghost use Rattle.arch_types.specs.Table.{range_of};
 ghost use Rattle.history_items.specs.Late.{IsLate};
 ghost use Rattle.history_items.specs.declared.fills.Fill.TheVariants as noted;
+ghost use Rattle.intervals.specs.declared.interval.Interval.{Interval as AnInterval};
 ghost use Rattle.intervals.specs.Interval.{interval_end, interval_start, HasClockTime};
-ghost use Rattle.interval_fills.specs.Steps.{all_freed, freed};
+ghost use Rattle.interval_fills.specs.Steps.{IsNextToFill, all_freed, freed};
 ghost use Rattle.replay_merge.specs.RowSource.{IsRowFault, UsedRowSource};
 ghost use Rattle.store_fills.specs.Built.{IsTaskRows};
 
@@ -47,7 +48,9 @@ pub(crate) fn rows_of<R: RowSource>(
     ensures given { IfOk result (AllByRecursion (R.state source.old).may_give) }
     ensures in_order { IfOk result (IsTaskRows exponent interval) }
     ensures refused { IfErr result (IsRowFault (R.state source.old) (R.state source.new)) }
+    ensures no_fault { OnOk result ((R.state source.new).faults ≡ (R.state source.old).faults) }
     ensures source { UsedRowSource (R.state source.old) (R.state source.new) }
+    ensures left { R.leaves source.old source.new }
 {
     source.range(
         alloc,
@@ -77,6 +80,8 @@ fn prepare_task<R: RowSource>(
     ensures room { OnOk result ((2 ≤ tracker.new.room) × (1 ≤ tracker.new.flight_room)) }
     ensures same { (tracker.new.fills ≡ tracker.old.fills) × (tracker.new.marks ≡ tracker.old.marks) }
     ensures refused { IfErr result (IsRowFault (R.state source.old) (R.state source.new)) }
+    ensures no_fault { OnOk result ((R.state source.new).faults ≡ (R.state source.old).faults) }
+    ensures left { R.leaves source.old source.new }
 {
     tracker.reserve_flight()?;
     Ok(FillTask {
@@ -91,7 +96,7 @@ fn prepare_task<R: RowSource>(
 impl<D: Disk> Store<D> {
     ghost use Rattle.archive_store.specs.UnreadRows.{IsLeftByRefusal, IsReadRefusal};
     ghost use Rattle.archive_store.specs.StoreView.{OnlyAppends};
-    ghost use Rattle.archive_store.specs.Tasks.{IsFillBegun};
+    ghost use Rattle.archive_store.specs.Tasks.{IsFillBegun, machine_state};
 
     /// Whether an interval has rows that no fill has seen. Takes no memory.
     pub fn is_late(&self, interval: Interval) -> bool
@@ -110,6 +115,8 @@ impl<D: Disk> Store<D> {
             IsTaskRows task.exponent task.interval task.rows)) }
 
         // Refused, where its rows aren't read, all but a disk that was read, and its fault, is as it was.
+        ensures late { OnErr result ((interval : AnInterval)
+            × IsNextToFill self.old.exponent (machine_state self.old) (Some interval)) }
         ensures refused { IfErr result (IsReadRefusal D.device self.old self.new) }
         ensures same { IfErr result (IsLeftByRefusal D.device self.old self.new) }
         ensures grows { OnlyAppends self.old self.new }

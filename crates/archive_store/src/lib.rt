@@ -23,9 +23,9 @@
 // intervals, and has copies of the rows of those that are late. A replay goes over them by a cursor of replay_merge; a
 // step of it borrows them.
 // Where rows are read it is by a source of replay_merge, which may refuse, and contracts say what was read where the
-// store tells its rows (`TellsRows`, specs/Pages.antt). All rows stand in memory: so each store tells them, and a source
-// of them (src/history_source.rt) is refused for want of memory alone. That no row stands on a page of the disk is said
-// by `HasPages` alone.
+// store tells its rows (`TellsRows`, specs/Pages.antt), and what reading leaves (specs/UnreadRows.antt): a store is such a
+// source itself. All rows stand in memory as yet, which this crate alone knows (`view_of`, specs/Inside.antt): callers know
+// that rows stand on pages where `sealed` is above 0 (`HasPages`), and what holds where it is 0.
 // To be changed together: `Applies` of archive_images, archive_reading and `IsBatch`; the limits in archive_history,
 // those of refusals, and specs/Limits.antt.
 //
@@ -66,6 +66,7 @@ mod interval_rows;
 mod keeping;
 pub mod laws;
 mod marks;
+pub mod print_faults;
 mod replaying;
 mod retrieving;
 mod segments;
@@ -74,7 +75,6 @@ mod store;
 pub use archive_images::Head;
 pub use batch::{Arrival, Arrivals, Batch, Ingested, received_row};
 pub use finding::{FoundReplay, FoundRequest, refusal_of_ask};
-pub use history_source::HistorySource;
 pub use marks::Mark;
 pub use store::Store;
 pub use store_fills::{FillTask, Filled};

@@ -19,6 +19,7 @@ use Rattle.param_segments.specs.Rows.{SetRow}
 use Rattle.store_fills.specs.Filled.{HoldsRows}
 use Rattle.store_fills.specs.Sound.{Filling}
 use Rattle.archive_store.specs.Entries.{FilledArchive}
+use Rattle.archive_store.specs.Pages.{TellsRows}
 use Rattle.archive_store.specs.UnreadRows.{IsReadRefusal}
 use Rattle.archive_store.specs.StoreView.{StoreView, filled_of}
 use Rattle.archive_verify.specs.declared.compared_sets.SetDifference.{SetDifference}
@@ -97,9 +98,16 @@ ReportsMismatch filled (Mismatch interval name key stored replayed) =
     IsNamedMismatch filled interval name (record { key = key; stored = stored; replayed = replayed })
 ReportsMismatch filled _ = ⊥
 
--- why an archive is not found sound: its first mismatch, or that its rows aren't read
+-- a refusal names a cell that is stored otherwise than rows give it
+abbrev pub IsMismatch : Refusal → Type 0
+IsMismatch (Mismatch interval name key stored replayed) = Unit {0}
+IsMismatch _ = ⊥
+
+-- why an archive is not found sound: a mismatch, its first where the store tells its rows, or that its rows aren't read
 abbrev pub IsVerifyRefusal : {D : Type 0} → Device D → StoreView D → StoreView D → Refusal → Type 0
-IsVerifyRefusal device old new refusal = ReportsMismatch (filled_of old) refusal ⊎ IsReadRefusal device old new refusal
+IsVerifyRefusal device old new refusal =
+    (IsMismatch refusal × (TellsRows device old → ReportsMismatch (filled_of old) refusal))
+    ⊎ IsReadRefusal device old new refusal
 
 -- ---- how much there is
 

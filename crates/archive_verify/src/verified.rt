@@ -4,9 +4,10 @@ ghost use Rattle.std.specs.Prelude.{◌≡◌, ◌<◌, Some, map, filter, lengt
 ghost use Rattle.std.specs.List.{AllByRecursion};
 ghost use Rattle.history_items.specs.Late.{is_late_in, last_in};
 ghost use Rattle.interval_walks.specs.Turns.{IntervalsRise};
+ghost use Rattle.archive_store.specs.Pages.{TellsRows};
 ghost use Rattle.archive_store.specs.StoreView.{filled_of};
 ghost use Rattle.archive_store.specs.UnreadRows.{IsLeftByAnswer, IsLeftByRead, IsReadFault};
-ghost use Rattle.archive_verify.specs.Verified.{HoldBelow, HoldCurrentFills, HoldsWhereCurrent, IsCounted, IsIntervalMismatch, IsMismatchOf, IsVerifyRefusal};
+ghost use Rattle.archive_verify.specs.Verified.{HoldBelow, HoldCurrentFills, HoldsWhereCurrent, IsCounted, IsIntervalMismatch, IsMismatchOf, IsVerifyRefusal, database_of_archive};
 
 use crate::compared_sets::{SetDifference, set_difference};
 use arch_disk::Disk;
@@ -46,8 +47,14 @@ fn interval_difference<D: Disk>(
     interval: Interval,
 ) -> Result<Option<SetDifference>, RowFault>
     requires { IsSome (last_in store.old.exponent interval store.old.history) }
-    ensures some { IfOk result (λ o. IfSome o (IsIntervalMismatch (filled_of store.old) interval)) }
-    ensures none { IfOk result (λ o. IfNone o (HoldsWhereCurrent (filled_of store.old) interval)) }
+    ensures some { TellsRows D.device store.old →
+        IfOk result (λ o. IfSome o (IsIntervalMismatch (filled_of store.old) interval)) }
+    ensures none { TellsRows D.device store.old →
+        IfOk result (λ o. IfNone o (HoldsWhereCurrent (filled_of store.old) interval)) }
+
+    // Whatever the disk tells, its parameter is one of the database in force.
+    ensures known { IfOk result (λ o. IfSome o (λ d.
+        d.parameter < length (database_of_archive (filled_of store.old)).parameters)) }
     ensures refused { IfErr result (IsReadFault D.device store.old store.new) }
     ensures same { IsLeftByRead D.device store.old store.new result }
 {
@@ -71,9 +78,13 @@ fn first_difference_among<D: Disk>(
 ) -> Result<Option<IntervalDifference>, RowFault>
     requires rising { IntervalsRise intervals.now }
     requires rows { AllByRecursion (λ i. IsSome (last_in store.old.exponent i store.old.history)) intervals.now }
-    ensures some { IfOk result (λ o. IfSome o (λ d. IsIntervalMismatch (filled_of store.old) d.interval d.sets
+    ensures some { TellsRows D.device store.old → IfOk result (λ o. IfSome o (λ d.
+        IsIntervalMismatch (filled_of store.old) d.interval d.sets
         × HoldBelow (filled_of store.old) intervals.now d.interval)) }
-    ensures none { IfOk result (λ o. IfNone o (AllByRecursion (HoldsWhereCurrent (filled_of store.old)) intervals.now)) }
+    ensures none { TellsRows D.device store.old → IfOk result (λ o.
+        IfNone o (AllByRecursion (HoldsWhereCurrent (filled_of store.old)) intervals.now)) }
+    ensures known { IfOk result (λ o. IfSome o (λ d.
+        d.sets.parameter < length (database_of_archive (filled_of store.old)).parameters)) }
     ensures refused { IfErr result (IsReadFault D.device store.old store.new) }
     ensures same { IsLeftByRead D.device store.old store.new result }
 {
@@ -132,11 +143,12 @@ fn mismatch_of(
 ///
 /// Refuses by `Mismatch` at the least interval, parameter and key that differ, and else as rows aren't read.
 pub fn verify<D: Disk>(alloc: Global, store: &mut Store<D>) -> Result<Sound, Refusal>
-    // Ok: each fill that stands for an interval holds the cells that the interval's rows give.
-    ensures sound { IfOk result (λ _. HoldCurrentFills (filled_of store.old)) }
+    // Ok, where the store tells its rows: each fill that stands for an interval holds the cells that the interval's
+    // rows give.
+    ensures sound { TellsRows D.device store.old → IfOk result (λ _. HoldCurrentFills (filled_of store.old)) }
     ensures counted { IfOk result (IsCounted store.old) }
 
-    // Refused: the first cell that is stored otherwise than rows give it, or rows that aren't read.
+    // Refused: the first cell that is stored otherwise than rows give it, or rows aren't read.
     ensures refused { IfErr result (IsVerifyRefusal D.device store.old store.new) }
 
     // Whatever it answers, all but a disk that was read, and the fault of a failed read, is as it was.

@@ -1,5 +1,5 @@
 -- Sheets of asks: read before all else, checked, and answered.
-use Rattle.std.proofs.Common.{◌≡◌, ◌∙◌, ◌+◌, ◌<◌, ◌⊎◌, inl, inr, ℕ, suc, List, [], ◌∷◌, ◌++◌, length, Option, Some, None, refl, sym, ap, subst, arith, append-nil, append_assoc}
+use Rattle.std.proofs.Common.{◌≡◌, ◌∙◌, ◌+◌, ◌<◌, ◌⊎◌, inl, inr, ℕ, suc, List, [], ◌∷◌, ◌++◌, length, Option, Some, None, refl, sym, ap, subst, arith, append_assoc}
 use Rattle.std.specs.Prelude.{Result, Ok, Err, unwrap_or}
 use Rattle.std.specs.Arc.{arc_value}
 use Rattle.arch_disk.specs.Disk.{Device}
@@ -17,10 +17,9 @@ use Rattle.command_plans.specs.Plan.{OfMemory, OfInputs, CommandPlan, Way, Retur
 use Rattle.command_plans.proofs.Plans.{allows_map_done, cut, determined, determined_map_done, ended, gave}
 use Rattle.outer_traits.specs.declared.print_fault.PrintFault.{PrintFault}
 use Rattle.outer_traits.specs.declared.print_fault.PrintFault.TheVariants as unprinted
-use Rattle.line_buffer.specs.Output.{IsBuffered}
-use Rattle.line_buffer.specs.Printed.{IsPrinted, PrintsText}
+use Rattle.line_buffer.specs.Printed.{IsPrinted, PrintsRows, PrintsText}
 use Rattle.command_runs.specs.Finishing.{IsFinished}
-use Rattle.line_buffer.proofs.PrintedTexts.{all_then, cut_front, left_cut, left_written, part_front, printed_cut}
+use Rattle.line_buffer.proofs.PrintedTexts.{all_then, cut_front, part_front, printed_cut, printed_on, rows_front, rows_then}
 use Rattle.command_plans.specs.Inputs.{AnsweredByPlan, WasRead}
 use Rattle.command_plans.proofs.Inputs.{reads_determined}
 use Rattle.history_items.specs.Databases.{database_in}
@@ -34,8 +33,6 @@ use Rattle.command_plans.proofs.Ledgers.{used_inputs_then}
 use Rattle.retrieval.specs.AnswerText.{answer_lines}
 use Rattle.refusals.specs.Refusal.{refusal_of_print}
 use Rattle.retrieval.specs.FilledAnswer.{IsFilledAnswer, filled_answer}
-use Rattle.retrieval.specs.FoundAsks.{asks_found}
-use Rattle.retrieval.specs.declared.found_asks.FoundAsk.{FoundAsk}
 use Rattle.ask_answers.specs.Asks.{AreAnswerable, ArePrinted, AreRefused, after_asks_check, archive_ask_text, archive_asks_text, asked_plan, asks_check_plan, with_sources}
 use Rattle.command_runs.specs.Command.{Progress, Effects, EndedAt, HasEffects, Ran, RanOver, failed_at, nothing_done, sources_at}
 use Rattle.command_runs.specs.Report.{unopened}
@@ -144,18 +141,33 @@ module _ (s : Progress) (archive : Archive) where
 
 -- ---- asks one after the other
 
--- the text of the first ask, beside what is buffered
-pub next_text : (filled : FilledArchive) (k : ℕ) (first now : Option (List ℕ)) (all held : List ℕ) (asks : List Ask) (ask : Ask) (rest : List Ask) → asks ≡ ask ∷ rest →
-    IsBuffered first now all (held ++ archive_asks_text filled k asks) → IsBuffered first now all ((held ++ archive_ask_text filled k ask) ++ archive_asks_text filled (k + 1) rest)
-next_text filled k first now all held asks ask rest e h =
+-- the text of asks is that of the first, and of those behind it
+pub next_asks : (filled : FilledArchive) (k : ℕ) (asks : List Ask) (ask : Ask) (rest : List Ask) → asks ≡ ask ∷ rest → archive_ask_text filled k ask ++ archive_asks_text filled (k + 1) rest ≡ archive_asks_text filled k asks
+next_asks filled k asks ask rest e =
     let more : suc k ≡ k + 1 = omega arith in
-    let text : held ++ archive_asks_text filled k asks ≡ (held ++ archive_ask_text filled k ask) ++ archive_asks_text filled (k + 1) rest =
-    ap (λ (l : List Ask). held ++ archive_asks_text filled k l) e
-    ∙ sym (append_assoc held (archive_ask_text filled k ask) (archive_asks_text filled (suc k) rest))
-    ∙ ap (λ (n : ℕ). (held ++ archive_ask_text filled k ask) ++ archive_asks_text filled n rest) more in
-    subst (λ (t : List ℕ). IsBuffered first now all t) text h
+    ap (λ (n : ℕ). archive_ask_text filled k ask ++ archive_asks_text filled n rest) (sym more) ∙ ap (archive_asks_text filled k) (sym e)
 
--- one failed, whose front is a front of all, behind some without a failed write
+-- a text that was printed is another, where rows are told
+rows_as : {X : Type 0} (Told : Type 0) (r : Result X PrintFault) (first new : OutputState) (buffered a b left : List ℕ) → (Told → a ≡ b) → PrintsRows Told r first new buffered a left → PrintsRows Told r first new buffered b left
+rows_as Told r first new buffered a b left same (printed, is, put) = (printed, λ tells. is tells ∙ same tells, put)
+
+-- Texts were printed, and where rows are told others stand behind them, of which one comes now.
+module _ (Told : Type 0) (first now new : OutputState) (printed held left all text more : List ℕ) (tells : Told → printed ++ left ≡ all) (is : IsPrinted first now printed held) (next : text ++ more ≡ left) where
+  told_on : (here : List ℕ) → (Told → here ≡ text) → Told → (printed ++ here) ++ more ≡ all
+  told_on here told t = append_assoc printed here more ∙ ap (λ (l : List ℕ). printed ++ (l ++ more)) (told t) ∙ ap (λ (l : List ℕ). printed ++ l) next ∙ tells t
+
+  -- it was printed,
+  pub asks_on : {X : Type 0} (x : X) (last : List ℕ) → PrintsRows {X = X} Told (Ok x) now new held text last → (so_far : List ℕ) × (Told → so_far ++ more ≡ all) × IsPrinted first new so_far last
+  asks_on x last (here, told, put) = (printed ++ here, told_on here told, printed_on first now new printed here held last is put)
+
+  -- or not to its end
+  pub asks_fail : (X : Type 0) {Y : Type 0} (r : Result Y PrintFault) (e : PrintFault) (last : List ℕ) → r ≡ Err e → PrintsRows {X = X} Told (Err e) now new held text last → PrintsRows {X = Y} Told r first new [] all last
+  asks_fail X {Y} r e last of failed =
+      rows_as Told r first new [] ((printed ++ text) ++ more) all last (told_on text (λ t. refl))
+      (rows_front Told {X = Y} X r e first new [] (printed ++ text) more last last of
+      (rows_then Told {X = X} {Y = Unit {0}} tt (Err e) first now new [] printed text held last (printed, λ t. refl, is) failed))
+
+-- one failed whose text is known, a front of whose front is a front of all, behind some without a failed write
 pub one_failed : {X : Type 0} (r : Result X PrintFault) (e inner : PrintFault) (first now new : OutputState) (all part lost last : List ℕ) → r ≡ Err e → e ≡ inner → Stays first.faults now.faults →
     PrintsText {X = X} (Err inner) now new part lost → (WritesSome now.written new.written part → WritesSome first.written new.written all) → PrintsText r first new all last
 one_failed r e unprinted.Write first now new all part lost last is same stays failed more = rw (is, same) (record {
@@ -166,12 +178,6 @@ one_failed r e unprinted.Write first now new all part lost last is same stays fa
 one_failed r e unprinted.DiskFault first now new all part lost last is same stays failed more = absurd failed
 one_failed r e (unprinted.Damaged file at) first now new all part lost last is same stays failed more = absurd failed
 one_failed r e unprinted.OutOfMemory first now new all part lost last is same stays failed more = rw (is, same) (record { some = more failed.some; no_fault = failed.no_fault ∙ stays })
-
--- behind the last ask none is left
-pub no_text : (filled : FilledArchive) (k : ℕ) (first now : Option (List ℕ)) (all held : List ℕ) (asks : List FoundAsk) → asks ≡ [] →
-    IsBuffered first now all (held ++ archive_asks_text filled k (asks_found asks)) → IsBuffered first now all held
-no_text filled k first now all held asks none h =
-    subst (IsBuffered first now all) (ap (λ (left : List FoundAsk). held ++ archive_asks_text filled k (asks_found left)) none ∙ append-nil held) h
 
 -- ---- what is printed
 
@@ -192,14 +198,7 @@ found_text filled k found answer at is =
     ∙ ap (λ (cells : List Cell). answer_lines k (length history) db found.number cells) (is.cells ∙ ap (λ (n : ℕ). filled_answer db n found.request filled.plain.exponent history fillings) number)
     ∙ sym (ap (λ (o : Option ℕ). answer_lines k (length history) db (unwrap_or o 0) (filled_answer db (unwrap_or o 0) found.request filled.plain.exponent history fillings)) at.number)
 
--- all went on, or not to its end
-pub finished_text : (asks : List Ask) (refusal : Option Refusal) (before mid now : OutputState) (text left : List ℕ) → IsPrinted before mid text left → IsFinished refusal mid now left →
-    ArePrinted asks refusal before now text
-finished_text asks None before mid now text left is written = left_written before mid now text left is written
-finished_text asks (Some WriteFault) before mid now text left is part = left_cut before mid now text left is part
-finished_text asks (Some other) before mid now text left is never = absurd never
-
--- and so with a line behind it
+-- all went on, or not to its end, with a line behind it
 pub finished_line : (asks : List Ask) (refusal known : Option Refusal) (before mid now : OutputState) (text left line last : List ℕ) → known ≡ refusal → last ≡ left ++ line →
     IsPrinted before mid text left → IsFinished refusal mid now last → ArePrinted asks known before now (text ++ line)
 finished_line asks refusal known before mid now text left line last is put printed finished =
@@ -210,15 +209,7 @@ finished_line asks refusal known before mid now text left line last is put print
     each (Some WriteFault) part = printed_cut before mid now text line left printed part
     each (Some other) never = absurd never
 
--- the answers didn't
-pub unfinished_text : (asks : List Ask) (fault : PrintFault) (before now : OutputState) (text left : List ℕ) → 0 < length asks → PrintsText {X = Unit {0}} (Err fault) before now text left →
-    ArePrinted asks (Some (refusal_of_print fault)) before now text
-unfinished_text asks unprinted.Write before now text left some printed = printed
-unfinished_text asks unprinted.DiskFault before now text left some printed = absurd printed
-unfinished_text asks (unprinted.Damaged file at) before now text left some printed = absurd printed
-unfinished_text asks unprinted.OutOfMemory before now text left some printed = (some, printed)
-
--- and so with a line that was to come
+-- the answers didn't, with a line that was to come
 pub unfinished_line : (asks : List Ask) (fault : PrintFault) (before now : OutputState) (text left line : List ℕ) → 0 < length asks → PrintsText {X = Unit {0}} (Err fault) before now text left →
     ArePrinted asks (Some (refusal_of_print fault)) before now (text ++ line)
 unfinished_line asks unprinted.Write before now text left line some printed = cut_front before now text line printed

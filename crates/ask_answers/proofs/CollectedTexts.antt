@@ -25,7 +25,7 @@ use Rattle.line_buffer.specs.Output.{IsBuffered}
 use Rattle.live_asks.specs.declared.answered.AskAnswer.{AskAnswer}
 use Rattle.live_asks.specs.declared.answered.AskAnswer.TheVariants as collected
 use Rattle.live_asks.specs.declared.answered.ReplayedRows.{ReplayedRows}
-use Rattle.live_asks.specs.LiveAsks.{AreAnswered, DiskFacts, HasReplayOf, IsAnsweredInTurn, every_fourth}
+use Rattle.live_asks.specs.LiveAsks.{AreAnswered, AreTold, DiskFacts, HasReplayOf, IsAnsweredInTurn, every_fourth}
 use Rattle.retrieval.specs.declared.found_asks.FoundAsk.{FoundAsk}
 use Rattle.retrieval.specs.declared.found_asks.FoundAsk.TheVariants as looked_up
 use Rattle.retrieval.specs.FoundAsks.{ask_found, asks_found}
@@ -136,12 +136,13 @@ collected_values opened over fillings k request answer same is =
     ∙ ap (λ (l : List Cell). answer_lines k (length over) db number l) (is.cells ∙ ap (λ (n : ℕ). filled_answer db n request opened.plain.exponent over fillings) (sym number_is))
 
 -- of rows, by the packet names that there were
-pub collected_replay : (archive : Archive) (over : List Item) (k : ℕ) (request : ReplayRequest) (replayed : ReplayedRows) → names_in archive.head.mdb over ≡ names_in archive.head.mdb archive.history → HasReplayOf archive.head over request replayed
+pub collected_replay : (facts : DiskFacts) → AreTold facts → (archive : Archive) (over : List Item) (k : ℕ) (request : ReplayRequest) (replayed : ReplayedRows) → names_in archive.head.mdb over ≡ names_in archive.head.mdb archive.history
+    → HasReplayOf facts archive.head over request replayed
     → collected_answer_text archive k (asked.Replay request) (collected.Replay replayed) ≡ replay_text archive.head over k request
-collected_replay archive over k request replayed same is =
+collected_replay facts told archive over k request replayed same is =
     let names = names_in archive.head.mdb over in
     let table_is : unwrap_or (table_number archive.head.tables request.table) 0 ≡ is.table = ap (λ (o : Option ℕ). unwrap_or o 0) is.table_is in
     ap (λ (l : List Text). replay_lines k replayed.front l request.table replayed.rows) (sym same)
     ∙ ap (λ (n : ℕ). replay_lines k n names request.table replayed.rows) is.front
-    ∙ ap (λ (l : List Row). replay_lines k (length over) names request.table l) is.rows
+    ∙ ap (λ (l : List Row). replay_lines k (length over) names request.table l) (is.rows told)
     ∙ ap (λ (n : ℕ). replay_lines k (length over) names request.table (replay_of names n request (rows_in over))) (sym table_is)

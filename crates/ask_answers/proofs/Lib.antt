@@ -1,2 +1,3 @@
 pub mod AskSheets
+pub mod AskSteps
 pub mod CollectedTexts

@@ -5,7 +5,7 @@ use Rattle.std.specs.List.{AllByRecursion, list_any}
 use Rattle.std.proofs.lemmas.Bool.Decides.{nat_tests}
 use Rattle.asks.specs.declared.ask.Ask.{Ask}
 use Rattle.refusals.specs.declared.refusal.Refusal.{Refusal}
-use Rattle.refusals.specs.declared.refusal.Refusal.TheVariants.{BadPacket, Limit, ReadFault}
+use Rattle.refusals.specs.declared.refusal.Refusal.TheVariants.{BadPacket, Damaged, DiskFault, Limit, OutOfMemory, ReadFault}
 use Rattle.refusals.specs.declared.refusal.Which.TheVariants.{DumpOctets}
 use Rattle.refusals.specs.Limits.{limit_of}
 use Rattle.outer_traits.specs.Outside.{Files}
@@ -56,21 +56,25 @@ link_of_dump link (Refused refusal ∷ ends) others t is some =
     let same : reported refusal None ≡ t = cc (is) in absurd (no_link t.link (sym (ap (λ (x : ReportedRefusal). x.link) same)) some)
 
 -- a reader's cause is one of a filler's, too
-reader_cause : (failed : Option Addition) (refusal : Option Refusal) → IsReaderCause refusal → IsFillerCause failed refusal
-reader_cause failed None is = tt
-reader_cause failed (Some refusal) is = subst (λ (e : Refusal). IsFillerCause failed (Some e)) (sym is) tt
+reader_cause : (facts : DiskFacts) (failed : Option Addition) (refusal : Option Refusal) → IsReaderCause facts refusal → IsFillerCause facts failed refusal
+reader_cause facts failed None is = tt
+reader_cause facts failed (Some OutOfMemory) is = tt
+reader_cause facts failed (Some DiskFault) paged = inr paged
+reader_cause facts failed (Some (Damaged file at)) untold = untold
+reader_cause facts failed (Some other) is = absurd is
 
-all_causes : (failed : Option Addition) (readers : ℕ) (others : List (Option Refusal)) → AllByRecursion IsReaderCause (take readers others) → AllByRecursion (IsFillerCause failed) (drop readers others)
-    → AllByRecursion (IsFillerCause failed) others
-all_causes failed zero others causes rest = rest
-all_causes failed (suc readers) [] causes rest = tt
-all_causes failed (suc readers) (other ∷ others) causes rest = (reader_cause failed other causes.0, all_causes failed readers others causes.1 rest)
+all_causes : (facts : DiskFacts) (failed : Option Addition) (readers : ℕ) (others : List (Option Refusal)) → AllByRecursion (IsReaderCause facts) (take readers others)
+    → AllByRecursion (IsFillerCause facts failed) (drop readers others) → AllByRecursion (IsFillerCause facts failed) others
+all_causes facts failed zero others causes rest = rest
+all_causes facts failed (suc readers) [] causes rest = tt
+all_causes facts failed (suc readers) (other ∷ others) causes rest = (reader_cause facts failed other causes.0, all_causes facts failed readers others causes.1 rest)
 
-others_cause : (failed : Option Addition) (others : List (Option Refusal)) → AllByRecursion (IsFillerCause failed) others → (t : ReportedRefusal) → reported_of_others others ≡ Some t → IsFillerCause failed (Some t.refusal)
-others_cause failed [] all t is = absurd (cc (is))
-others_cause failed (None ∷ others) all t is = others_cause failed others all.1 t is
-others_cause failed (Some refusal ∷ others) all t is =
-    let same : reported refusal None ≡ t = cc (is) in subst (λ (x : ReportedRefusal). IsFillerCause failed (Some x.refusal)) same all.0
+others_cause : (facts : DiskFacts) (failed : Option Addition) (others : List (Option Refusal)) → AllByRecursion (IsFillerCause facts failed) others → (t : ReportedRefusal) → reported_of_others others ≡ Some t
+    → IsFillerCause facts failed (Some t.refusal)
+others_cause facts failed [] all t is = absurd (cc (is))
+others_cause facts failed (None ∷ others) all t is = others_cause facts failed others all.1 t is
+others_cause facts failed (Some refusal ∷ others) all t is =
+    let same : reported refusal None ≡ t = cc (is) in subst (λ (x : ReportedRefusal). IsFillerCause facts failed (Some x.refusal)) same all.0
 
 module _ (files : Files) (clock : Option ℤ) (words : LoadWords) (before : FilledArchive) (facts : DiskFacts) (asks : List Ask) (c : JobsOutcome) (came : CameToJobs files clock words before facts asks c) where
   abbrev Came : ℕ → Type 0
@@ -95,7 +99,7 @@ module _ (files : Files) (clock : Option ℤ) (words : LoadWords) (before : Fill
   -- All links came whole, and a reader or a filler was refused; that is reported.
   pub record IsOtherRefused (t : ReportedRefusal) : Type 0 where
     pub all : Earlier (words.link + length words.dumps)
-    pub cause : IsFillerCause c.failed (Some t.refusal)
+    pub cause : IsFillerCause facts c.failed (Some t.refusal)
 
   later : (link : ℕ) → Earlier link → Came link → Earlier (suc link)
   later link earlier here other low high = elim (below_or_is other link high) [
@@ -126,7 +130,7 @@ module _ (files : Files) (clock : Option ℤ) (words : LoadWords) (before : Fill
     reported_from : (link : ℕ) (names : List (List ℕ)) (ends : List LinkEnd) → AreNamesFrom files clock words before facts asks c came link names → AreLoaded files clock words before facts asks c came link names ends → Earlier link → Unreads ends
         → reported_of link ends c.others ≡ Some t → IsFirstRefused t ⊎ IsOtherRefused t
     reported_from link [] [] are loaded earlier unreads is =
-        let last = are.last in inr (record { all = λ other low high. earlier other low (omega (arith, high, last)); cause = others_cause c.failed c.others (all_causes c.failed (min 4 (length came.g.asks)) c.others came.outcome.readers came.outcome.fillers) t is })
+        let last = are.last in inr (record { all = λ other low high. earlier other low (omega (arith, high, last)); cause = others_cause facts c.failed c.others (all_causes facts c.failed (min 4 (length came.g.asks)) c.others came.outcome.readers came.outcome.fillers) t is })
     reported_from link [] (end ∷ ends) are loaded earlier unreads is = absurd loaded
     reported_from link (name ∷ names) [] are loaded earlier unreads is = absurd loaded
     reported_from link (name ∷ names) (Whole summary ∷ ends) are loaded earlier unreads is =

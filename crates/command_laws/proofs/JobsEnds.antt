@@ -1,12 +1,12 @@
 -- Where a load ends behind its jobs: the disk that is handed back, and what a refusal is reported by.
-use Rattle.std.proofs.Common.{◌≡◌, ◌∙◌, ℕ, ℤ, ◌+◌, ◌-◌, ◌≤◌, List, length, true, Option, Some, None, refl, ap, subst, arith}
+use Rattle.std.proofs.Common.{◌≡◌, ◌⊎◌, ◌∙◌, inl, inr, ℕ, ℤ, ◌+◌, ◌-◌, ◌≤◌, List, length, Bool, true, false, Option, Some, None, refl, ap, subst, arith}
 use Rattle.std.specs.Prelude.{IsSome, IsTrue}
 use Rattle.std.proofs.lemmas.List.{length-append}
 use Rattle.arch_disk.specs.Disk.{Device, raised}
 use Rattle.arch_types.specs.declared.row.Row.{Row}
 use Rattle.asks.specs.declared.ask.Ask.{Ask}
 use Rattle.refusals.specs.declared.refusal.Refusal.{Refusal}
-use Rattle.refusals.specs.declared.refusal.Refusal.TheVariants.{DiskFault, Limit}
+use Rattle.refusals.specs.declared.refusal.Refusal.TheVariants.{Limit}
 use Rattle.refusals.specs.declared.refusal.Which.TheVariants.{Records}
 use Rattle.outer_traits.specs.Outside.{Files}
 use Rattle.history_items.specs.declared.fills.Addition.{Addition}
@@ -19,12 +19,13 @@ use Rattle.live_asks.specs.LiveAsks.{DiskFacts}
 use Rattle.load_session.specs.During.{with_history}
 use Rattle.live_session.specs.declared.reported.ReportedRefusal.{ReportedRefusal}
 use Rattle.live_session.specs.Outcome.{JobsOutcome}
+use Rattle.command_plans.specs.Ledger.{RoseIf}
 use Rattle.command_words.specs.Job.{LoadWords}
 use Rattle.command_runs.specs.declared.report.Report.{Report}
 use Rattle.command_runs.specs.Causes.{IsCountedSince, IsLogNear}
 use Rattle.command_runs.specs.Command.{EndedAt, Progress}
 use Rattle.command_runs.specs.Extension.{IsExtended, filled_at}
-use Rattle.command_runs.specs.FillingPlan.{filled_to}
+use Rattle.command_runs.specs.FillingPlan.{FillingEnd, Refused, Unread, Unwritten, Whole, filled_to}
 use Rattle.command_runs.proofs.Openings.{plain_stands}
 use Rattle.load_command.specs.Load.{job_refused, write_failed}
 use Rattle.load_command.specs.Loading.{log_behind, pending_behind}
@@ -78,36 +79,48 @@ module _ (files : Files) (clock : Option ℤ) (words : LoadWords) (before : Fill
     -- ---- no write failed
 
     module _ (none : c.failed ≡ None) where
-      abbrev behind : Option Refusal → Progress
+      abbrev behind : FillingEnd → Progress
       behind end = filled_to before c.reached (job_refused dumps before c t) end
 
       unfailed : {Q : Type 0} → IsSome c.failed → Q
       unfailed some = let never = subst IsSome none some in absurd (cc (never))
 
-      reported_end : (s : Progress) → EndedAt device (effects e) s (Some t.refusal) s.failed → IsLoadedDisk → s.report.opened ≡ true → s.report.after ≡ length c.reached → s.report.link ≡ t.link → Exact
+      -- the count of the disk's faults rose where a read failed
+      rose : (faults : Bool) → RoseIf faults (device.fault_count e.disk) (device.fault_count e.disk') → faults ≡ true → raised (device.fault_count e.disk) ≤ device.fault_count e.disk'
+      rose true counted is = counted
+      rose false counted is = absurd (cc (is))
+
+      reported_end : (s : Progress) → EndedAt device (effects e) s (Some t.refusal) s.failed → (c.unread ≡ true → raised (device.fault_count e.disk) ≤ device.fault_count e.disk') → IsLoadedDisk → s.report.opened ≡ true → s.report.after ≡ length c.reached → s.report.link ≡ t.link → Exact
           → ((number : ℕ) → t.refusal ≡ Limit Records number → AreRecordsPassed device e before c.reached) → IsReportedEnd files clock words before facts asks c came device e t
-      reported_end s did disk opened after link exact recorded = record {
+      reported_end s did unread disk opened after link exact recorded = record {
         refusal = ap (λ (r : Report). r.refusal) did.report;
         opened = ap (λ (r : Report). r.opened) did.report ∙ opened;
         link = ap (λ (r : Report). r.link) did.report ∙ link;
         holds = is_reached disk (ap (λ (r : Report). r.after) did.report ∙ after);
         exact = λ none. exact;
-        faulted = unfailed;
+        faulted = risen;
         pending = λ faults is some. unfailed some;
         recorded = recorded;
       }
+        where
+          risen : IsSome c.failed ⊎ (c.unread ≡ true) → raised (device.fault_count e.disk) ≤ device.fault_count e.disk'
+          risen (inl some) = unfailed some
+          risen (inr is) = unread is
 
       -- whatever the filling came to
-      pub filled_end : (end : Option Refusal) → EndedAt device (effects e) (behind end) (Some t.refusal) (behind end).failed → IsLoadedDisk × IsReportedEnd files clock words before facts asks c came device e t
-      filled_end None did =
+      pub filled_end : (end : FillingEnd) → EndedAt device (effects e) (behind end) (Some t.refusal) (behind end).failed → IsLoadedDisk × IsReportedEnd files clock words before facts asks c came device e t
+      filled_end Whole did =
           let disk = extended_disk files now words before c.reached device e (did.disk.1 known).extended in
-          (disk, reported_end (behind None) did disk refl refl refl (kept_stands (did.disk.1 known).extended) (by_log did.log))
-      filled_end (Some DiskFault) did =
+          (disk, reported_end (behind Whole) did (rose c.unread did.disk.0.faults) disk refl refl refl (kept_stands (did.disk.1 known).extended) (by_log did.log))
+      filled_end Unwritten did =
           let disk = unfilled_disk files now words before c.reached device e (did.disk.1 known) in
-          (disk, reported_end (behind (Some DiskFault)) did disk refl refl refl (did.disk.1 known).durable.reads (by_log did.log))
-      filled_end (Some other) did =
+          (disk, reported_end (behind Unwritten) did (λ is. did.disk.0.faults) disk refl refl refl (did.disk.1 known).durable.reads (by_log did.log))
+      filled_end Unread did =
           let disk = extended_disk files now words before c.reached device e (did.disk.1 known) in
-          (disk, reported_end (behind (Some other)) did disk refl refl refl (kept_stands (did.disk.1 known)) (by_log did.log))
+          (disk, reported_end (behind Unread) did (λ is. did.disk.0.faults) disk refl refl refl (kept_stands (did.disk.1 known)) (by_log did.log))
+      filled_end Refused did =
+          let disk = extended_disk files now words before c.reached device e (did.disk.1 known) in
+          (disk, reported_end (behind Refused) did (rose c.unread did.disk.0.faults) disk refl refl refl (kept_stands (did.disk.1 known)) (by_log did.log))
 
     -- ---- a write failed
 
@@ -122,7 +135,7 @@ module _ (files : Files) (clock : Option ℤ) (words : LoadWords) (before : Fill
       link = ap (λ (r : Report). r.link) did.report;
       holds = is_reached disk (ap (λ (r : Report). r.after) did.report);
       exact = exact;
-      faulted = λ some. rose;
+      faulted = λ any. rose;
       pending = λ faults is some. subst (λ (r : Refusal). IsCountedSince device e.disk e.disk' (pending_behind r)) is did.pending;
       recorded = by_log did.log;
     }

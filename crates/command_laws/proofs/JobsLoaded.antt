@@ -25,7 +25,7 @@ use Rattle.history_items.proofs.ItemLists.{rows_of_rows}
 use Rattle.archive_store.specs.Head.{Head}
 use Rattle.archive_store.specs.Entries.{FilledArchive}
 use Rattle.stream_graph.specs.declared.statement.RouteStatement.{RouteStatement}
-use Rattle.live_asks.specs.LiveAsks.{DiskFacts}
+use Rattle.live_asks.specs.LiveAsks.{AreTold, DiskFacts}
 use Rattle.load_session.specs.declared.session.DumpSummary.{DumpSummary}
 use Rattle.load_session.specs.Batches.{batch_at}
 use Rattle.load_session.specs.Receiving.{Receiving, arrived, receiving, rows_received}
@@ -91,20 +91,20 @@ some_left (Some octets) dump some is = ap Some is
 
 -- ---- what came of one link
 
-loads_at : (files : Files) (exponent : ℕ) (failed : Option Addition) (low history : List Item) (g : JobSetting) (first : ℕ) (names : List (List ℕ)) (ends : List LinkEnd)
-    → AreLinksLoaded (extension exponent low history failed) g first (dumps_of (Some files) names) ends → (place link : ℕ) (name : List ℕ) → link ≡ first + place → slice_get names place ≡ Some name
-    → (end : LinkEnd) × LinkLoads exponent failed history (receiving g.head low g.route link g.moment) (get files name) end
-loads_at files exponent failed low history g first [] ends loaded place link name number is = absurd (cc (is))
-loads_at files exponent failed low history g first (other ∷ names) [] loaded place link name number is = absurd loaded
-loads_at files exponent failed low history g first (other ∷ names) (end ∷ ends) loaded zero link name number is =
+loads_at : (facts : DiskFacts) (files : Files) (exponent : ℕ) (failed : Option Addition) (low history : List Item) (g : JobSetting) (first : ℕ) (names : List (List ℕ)) (ends : List LinkEnd)
+    → AreLinksLoaded facts (extension exponent low history failed) g first (dumps_of (Some files) names) ends → (place link : ℕ) (name : List ℕ) → link ≡ first + place → slice_get names place ≡ Some name
+    → (end : LinkEnd) × LinkLoads facts exponent failed history (receiving g.head low g.route link g.moment) (get files name) end
+loads_at facts files exponent failed low history g first [] ends loaded place link name number is = absurd (cc (is))
+loads_at facts files exponent failed low history g first (other ∷ names) [] loaded place link name number is = absurd loaded
+loads_at facts files exponent failed low history g first (other ∷ names) (end ∷ ends) loaded zero link name number is =
     let same : other ≡ name = cc (is) in
     let first_is : first ≡ link = omega (arith, number) in (
       end,
-      subst (λ (n : ℕ). LinkLoads exponent failed history (receiving g.head low g.route n g.moment) (get files name) end) first_is
-          (subst (λ (n : List ℕ). LinkLoads exponent failed history (receiving g.head low g.route first g.moment) (get files n) end) same loaded.0),
+      subst (λ (n : ℕ). LinkLoads facts exponent failed history (receiving g.head low g.route n g.moment) (get files name) end) first_is
+          (subst (λ (n : List ℕ). LinkLoads facts exponent failed history (receiving g.head low g.route first g.moment) (get files n) end) same loaded.0),
     )
-loads_at files exponent failed low history g first (other ∷ names) (end ∷ ends) loaded (suc place) link name number is =
-    loads_at files exponent failed low history g (suc first) names ends loaded.1 place link name (omega (arith, number)) is
+loads_at facts files exponent failed low history g first (other ∷ names) (end ∷ ends) loaded (suc place) link name number is =
+    loads_at facts files exponent failed low history g (suc first) names ends loaded.1 place link name (omega (arith, number)) is
 
 -- where the first link was refused by a fault of the disk, that is reported
 reported_of_fault : (link : ℕ) (ends : List LinkEnd) (others : List (Option Refusal)) (t : ReportedRefusal) (end : LinkEnd) → slice_get ends 0 ≡ Some end → refusal_of_end end ≡ Some DiskFault
@@ -143,6 +143,7 @@ pub record CameToJobs (files : Files) (clock : Option ℤ) (words : LoadWords) (
   pub there : AreThere files words.dumps
   pub g : JobSetting
   pub given : IsSettingOf before.plain clock route asks g
+  pub told : AreTold facts
   pub outcome : IsJobsOutcome facts before g words.link (dumps_of (Some files) words.dumps) c
 
 module _ (files : Files) (clock : Option ℤ) (words : LoadWords) (before : FilledArchive) (facts : DiskFacts) (asks : List Ask) (c : JobsOutcome) (came : CameToJobs files clock words before facts asks c) where
@@ -157,7 +158,7 @@ module _ (files : Files) (clock : Option ℤ) (words : LoadWords) (before : Fill
   to link = receiving came.g.head low came.g.route link came.g.moment
 
   abbrev pub Loads : ℕ → List ℕ → LinkEnd → Type 0
-  Loads link name end = LinkLoads before.plain.exponent c.failed c.reached (to link) (get files name) end
+  Loads link name end = LinkLoads facts before.plain.exponent c.failed c.reached (to link) (get files name) end
 
   pub dump_there : (link : ℕ) (name : List ℕ) → ComesBy words link name → IsSome (get files name)
   dump_there link name comes = there_at files words.dumps came.there comes.place name comes.name_is
@@ -177,7 +178,7 @@ module _ (files : Files) (clock : Option ℤ) (words : LoadWords) (before : Fill
   }
 
   -- what became of a link's dump that was sent
-  module _ (link : ℕ) (name : List ℕ) (comes : ComesBy words link name) (put : List Row) (end : LinkEnd) (sent : IsSentInto before.plain.exponent c.failed c.reached (to link) (get files name) put end) where
+  module _ (link : ℕ) (name : List ℕ) (comes : ComesBy words link name) (put : List Row) (end : LinkEnd) (sent : IsSentInto facts before.plain.exponent c.failed c.reached (to link) (get files name) put end) where
     pub sent_of : IsReadOf (get files name) sent.read
     sent_of = read_of_end (get files name) sent.read end sent.read_to
 
@@ -194,10 +195,10 @@ module _ (files : Files) (clock : Option ℤ) (words : LoadWords) (before : Fill
 
       pub sent_there : All (HasKeyIn c.reached) (arrivals_of sent_dump)
       sent_there = subst (λ (ps : List (List ℕ)). All (HasKeyIn c.reached) (rows_received (to link) ps)) all_taken
-          (arrivals_there c.reached (rows_received (to link) (take sent.came_to.place sent.came_to.packets)) sent.sent.kept)
+          (arrivals_there c.reached (rows_received (to link) (take sent.came_to.place sent.came_to.packets)) (sent.sent came.told).kept)
 
       pub sent_alone : (more : List Row) → c.reached ≡ low ++ items_of more → AllByRecursion (λ row. row.link ≡ link) more → c.reached ≡ after_rows low (arrivals_of sent_dump)
-      sent_alone more grown own = (sent.alone more grown own).1 ∙ ap (λ (ps : List (List ℕ)). after_rows low (rows_received (to link) ps)) all_taken
+      sent_alone more grown own = (sent.alone came.told more grown own).1 ∙ ap (λ (ps : List (List ℕ)). after_rows low (rows_received (to link) ps)) all_taken
 
   -- ---- a dump that is whole
 
@@ -213,7 +214,7 @@ module _ (files : Files) (clock : Option ℤ) (words : LoadWords) (before : Fill
   came_dump : (link : ℕ) (name : List ℕ) → ComesBy words link name → (summary : DumpSummary) → Loads link name (Whole summary) → (d : ReceivedDump) × CameDump link summary d
   came_dump link name comes summary loads = go loads.sent
     where
-      go : IsSentInto before.plain.exponent c.failed c.reached (to link) (get files name) loads.put (Whole summary) → (d : ReceivedDump) × CameDump link summary d
+      go : IsSentInto facts before.plain.exponent c.failed c.reached (to link) (get files name) loads.put (Whole summary) → (d : ReceivedDump) × CameDump link summary d
       go sent =
           let file = some_left (get files name) sent.read (dump_there link name comes) sent.read_to in
           let counted = sent.sent_to.2 in
@@ -265,7 +266,7 @@ module _ (files : Files) (clock : Option ℤ) (words : LoadWords) (before : Fill
   first_name link name names are = are.comes zero link name (omega arith) refl
 
   abbrev pub AreLoaded : ℕ → List (List ℕ) → List LinkEnd → Type 0
-  AreLoaded link names ends = AreLinksLoaded (extension before.plain.exponent low c.reached c.failed) came.g link (dumps_of (Some files) names) ends
+  AreLoaded link names ends = AreLinksLoaded facts (extension before.plain.exponent low c.reached c.failed) came.g link (dumps_of (Some files) names) ends
 
   whole_from : (link : ℕ) (names : List (List ℕ)) (ends : List LinkEnd) → AreNamesFrom link names → AreLoaded link names ends → reported_of link ends c.others ≡ None → AreWholeFrom link ends
   whole_from link [] [] are loaded reported = let last = are.last in
@@ -323,7 +324,7 @@ module _ (files : Files) (clock : Option ℤ) (words : LoadWords) (before : Fill
 
   pub loads_of : (link : ℕ) (name : List ℕ) → ComesBy words link name → (end : LinkEnd) × Loads link name end
   loads_of link name comes =
-      loads_at files before.plain.exponent c.failed low c.reached came.g words.link words.dumps c.ends came.outcome.links comes.place link name comes.number comes.name_is
+      loads_at facts files before.plain.exponent c.failed low c.reached came.g words.link words.dumps c.ends came.outcome.links comes.place link name comes.number comes.name_is
 
   -- what came behind the first history
   come_behind : drop (length low) c.reached ≡ items_of came.outcome.more
@@ -349,10 +350,10 @@ module _ (files : Files) (clock : Option ℤ) (words : LoadWords) (before : Fill
       same : rows_of_link link came.outcome.more ≡ loads.1.put
       same = own_rows link found.0 loads.0 loads.1
 
-      go : IsSentInto before.plain.exponent c.failed c.reached (to link) (get files found.0) loads.1.put loads.0 → HaveCome files moment words before link (rows_of_link link came.outcome.more)
+      go : IsSentInto facts before.plain.exponent c.failed c.reached (to link) (get files found.0) loads.1.put loads.0 → HaveCome files moment words before link (rows_of_link link came.outcome.more)
       go sent =
           let s = sent.came_to in
-          let among = put_among (to link) loads.1.put (take s.place s.packets) (drop s.place s.packets) sent.sent.some in
+          let among = put_among (to link) loads.1.put (take s.place s.packets) (drop s.place s.packets) (sent.sent came.told).some in
           inr (
             sent_dump link found.0 found.1 loads.1.put loads.0 sent,
             sent_received link found.0 found.1 loads.1.put loads.0 sent,
@@ -373,9 +374,9 @@ module _ (files : Files) (clock : Option ℤ) (words : LoadWords) (before : Fill
 
   -- the rows that it was to add are those of a batch
   pub in_hand : (rows : List Row) → c.failed ≡ Some (Rows rows) → AreNewOfBatch files moment words before c.reached rows
-  in_hand rows failed = go (subst (λ (o : Option Addition). IfSome o (IsFailedAddition low c.reached came.g words.link (dumps_of (Some files) words.dumps) c.ends)) failed came.outcome.failed)
+  in_hand rows failed = go (subst (λ (o : Option Addition). IfSome o (IsFailedAddition facts low c.reached came.g words.link (dumps_of (Some files) words.dumps) c.ends)) failed came.outcome.failed)
     where
-      go : IsBatchInHand low c.reached came.g words.link (dumps_of (Some files) words.dumps) c.ends rows → AreNewOfBatch files moment words before c.reached rows
+      go : IsBatchInHand facts low c.reached came.g words.link (dumps_of (Some files) words.dumps) c.ends rows → AreNewOfBatch files moment words before c.reached rows
       go batch =
           let s = batch.came_to in
           let link = words.link + batch.place in
@@ -386,14 +387,14 @@ module _ (files : Files) (clock : Option ℤ) (words : LoadWords) (before : Fill
             d = record { by = to link; packets = s.packets; rest = s.rest };
             received = receives link found.0 comes batch.read of batch.short s.packets s.rest batch.parts;
             place = s.place;
-            rows_are = batch.rows_are ∙ ap (λ (h : List Item). fresh_of h (rows_received (to link) (batch_at s.place s.packets))) batch.reached_is;
+            rows_are = batch.rows_are came.told ∙ ap (λ (h : List Item). fresh_of h (rows_received (to link) (batch_at s.place s.packets))) batch.reached_is;
           }
 
   -- where there is one dump, its link was refused by that fault, which is reported
   pub fault_of_one : length words.dumps ≡ 1 → (rows : List Row) → c.failed ≡ Some (Rows rows) → (t : ReportedRefusal) → reported_of words.link c.ends c.others ≡ Some t → t.refusal ≡ DiskFault
-  fault_of_one one rows failed t is = go (subst (λ (o : Option Addition). IfSome o (IsFailedAddition low c.reached came.g words.link (dumps_of (Some files) words.dumps) c.ends)) failed came.outcome.failed)
+  fault_of_one one rows failed t is = go (subst (λ (o : Option Addition). IfSome o (IsFailedAddition facts low c.reached came.g words.link (dumps_of (Some files) words.dumps) c.ends)) failed came.outcome.failed)
     where
-      go : IsBatchInHand low c.reached came.g words.link (dumps_of (Some files) words.dumps) c.ends rows → t.refusal ≡ DiskFault
+      go : IsBatchInHand facts low c.reached came.g words.link (dumps_of (Some files) words.dumps) c.ends rows → t.refusal ≡ DiskFault
       go batch =
           let found = left_name files words.dumps batch.place batch.left batch.of_link in
           let within = place_within words.dumps batch.place found.0 found.1 in

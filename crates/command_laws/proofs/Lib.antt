@@ -17,6 +17,7 @@ pub mod MadeDumps
 pub mod OnTheWay
 pub mod OnlyUnread
 pub mod OverRows
+pub mod Pages
 pub mod Queried
 pub mod Readings
 pub mod Recovered

@@ -153,12 +153,12 @@ all_there files words whole = from_names files words.dumps (λ place name is.
     let dump = whole (words.link + place) name (record { place = place; number = refl; name_is = is }) in subst IsSome (sym dump.1.file.there) refl)
 
 module _ {D : Type 0} (device : Device D) (e : Call D) (files : Files) (clock : Option ℤ) (words : LoadWords) where
-  abbrev facts : DiskFacts
+  abbrev facts : ℕ → DiskFacts
   facts = disk_facts device e.disk
 
   -- ---- what the jobs came to
 
-  module _ (before : FilledArchive) (ready : IsAsked device e files words before) (c : JobsOutcome) (came : CameToJobs files clock words before facts ready.asks c) where
+  module _ (before : FilledArchive) (ready : IsAsked device e files words before) (c : JobsOutcome) (sealed : ℕ) (came : CameToJobs files clock words before (facts sealed) ready.asks c) where
     -- the dump of a link that came whole is whole
     came_dump : (moment : ℤ) (reached : List Item) (link : ℕ) (name : List ℕ) → CameWhole files moment words before reached link → ComesBy words link name → IsWholeDump files name
     came_dump moment reached link name whole comes =
@@ -176,7 +176,7 @@ module _ {D : Type 0} (device : Device D) (e : Call D) (files : Files) (clock : 
 
     -- ---- all dumps are whole
 
-    complete_so : ((link : ℕ) (name : List ℕ) → ComesBy words link name → IsWholeDump files name) → AreReportedSo device e files clock words before ready.asks c came → Succeeded e ⊎ Hindered
+    complete_so : ((link : ℕ) (name : List ℕ) → ComesBy words link name → IsWholeDump files name) → AreReportedSo device e files clock words before ready.asks c sealed came → Succeeded e ⊎ Hindered
     complete_so whole (inl none) = none.1
     complete_so whole (inr (t, said, cause, cut)) = elim cause [
       | inl broken ↦
@@ -194,7 +194,7 @@ module _ {D : Type 0} (device : Device D) (e : Call D) (files : Files) (clock : 
     -- ---- the dump of a link isn't, and those before it are
 
     module _ (link : ℕ) (name : List ℕ) (comes : ComesBy words link name) (whole : AreWholeBefore files words link) where
-      reported_all : Earlier files clock words before facts ready.asks c came (words.link + length words.dumps) → IsWholeDump files name
+      reported_all : Earlier files clock words before (facts sealed) ready.asks c came (words.link + length words.dumps) → IsWholeDump files name
       reported_all all = let number = comes_of words link name comes in came_dump _ c.reached link name (all link number.0 number.1) comes
 
       comes_to : (other : ℕ) → other ≡ link → ComesBy words other name
@@ -236,8 +236,8 @@ module _ {D : Type 0} (device : Device D) (e : Call D) (files : Files) (clock : 
           let file : HasFile files DumpOctets name is.received.has.read = subst (λ (n : List ℕ). HasFile files DumpOctets n is.received.has.read) same (record { there = is.to_end refl; short = is.received.has.short }) in
           absurd (has_not_long files name is.received.has.read file long)
 
-      overlong_so : IsLongDump files name → AreReportedSo device e files clock words before ready.asks c came → OverlongDue
-      overlong_so long (inl none) = absurd (whole_not_long files name (reported_all (none_reported files clock words before facts ready.asks c came none.0)) long)
+      overlong_so : IsLongDump files name → AreReportedSo device e files clock words before ready.asks c sealed came → OverlongDue
+      overlong_so long (inl none) = absurd (whole_not_long files name (reported_all (none_reported files clock words before (facts sealed) ready.asks c came none.0)) long)
       overlong_so long (inr (t, said, cause, cut)) = elim cause [
         | inl broken ↦
             let bad = broken.3 in
@@ -268,8 +268,8 @@ module _ {D : Type 0} (device : Device D) (e : Call D) (files : Files) (clock : 
             subst (λ (n : ℕ). IsBroken device e (load_given files clock words before) n place kind) here
             (subst (λ (k : BadKind). IsBroken device e (load_given files clock words before) other place k) ending.1 (subst (λ (n : ℕ). IsBroken device e (load_given files clock words before) other n how) ending.0 is))
 
-        broken_so : AreReportedSo device e files clock words before ready.asks c came → IsBroken device e (load_given files clock words before) link place kind ⊎ Hindered
-        broken_so (inl none) = absurd (not_whole (reported_all (none_reported files clock words before facts ready.asks c came none.0)))
+        broken_so : AreReportedSo device e files clock words before ready.asks c sealed came → IsBroken device e (load_given files clock words before) link place kind ⊎ Hindered
+        broken_so (inl none) = absurd (not_whole (reported_all (none_reported files clock words before (facts sealed) ready.asks c came none.0)))
         broken_so (inr (t, said, cause, cut)) = elim cause [
           | inl broken ↦ inl (broken_same broken.0 broken.1 broken.2 broken.3)
           | inr others ↦ elim others [
@@ -309,9 +309,9 @@ module _ {D : Type 0} (device : Device D) (e : Call D) (files : Files) (clock : 
 
   -- by what the jobs came to
   by_session : (P : Type 0) (before : FilledArchive) (ready : IsAsked device e files words before) (there : AreThere files words.dumps) → (WasInterrupted device e → P)
-      → ((c : JobsOutcome) (came : CameToJobs files clock words before (disk_facts device e.disk) ready.asks c) → AreReportedSo device e files clock words before ready.asks c came → P) → P
+      → ((c : JobsOutcome) (sealed : ℕ) (came : CameToJobs files clock words before (disk_facts device e.disk sealed) ready.asks c) → AreReportedSo device e files clock words before ready.asks c sealed came → P) → P
   by_session P before ready there cut go = due_read P ready.begun.within cut (λ way at required. elim (session_due device e files clock words way at before ready there run.transparent required) [
-    | inl went ↦ go went.0 went.1.0 went.1.1
+    | inl went ↦ go went.1 went.0 went.2.0 went.2.1
     | inr off ↦ cut off
   ])
 
@@ -336,13 +336,13 @@ module _ {D : Type 0} (device : Device D) (e : Call D) (files : Files) (clock : 
     complete = λ before ready whole.
         let there = all_there files words whole in
         by_session (Succeeded e ⊎ WasHindered device e files clock words before) before ready there (λ cut. inr (inl cut))
-        (λ c came so. complete_so device e files clock words before ready c came whole so);
+        (λ c sealed came so. complete_so device e files clock words before ready c sealed came whole so);
     overlong = λ before link name ready there whole comes long.
         by_session (IsOverlong device e (load_given files clock words before) link ⊎ (((at : ℕ) × IsBroken device e (load_given files clock words before) link at Version) ⊎ WasHindered device e files clock words before)) before ready there
-        (λ cut. inr (inr (inl cut))) (λ c came so. overlong_so device e files clock words before ready c came link name comes whole long so);
+        (λ cut. inr (inr (inl cut))) (λ c sealed came so. overlong_so device e files clock words before ready c sealed came link name comes whole long so);
     broken = λ before link name packets rest place kind ready there whole comes has bad.
         by_session (IsBroken device e (load_given files clock words before) link place kind ⊎ WasHindered device e files clock words before) before ready there (λ cut. inr (inl cut))
-        (λ c came so. broken_so device e files clock words before ready c came link name comes whole packets rest has place kind bad so);
+        (λ c sealed came so. broken_so device e files clock words before ready c sealed came link name comes whole packets rest has place kind bad so);
     only_overlong = (only_reported device e files clock words run).overlong;
     only_broken = (only_reported device e files clock words run).broken;
     only_pending = (only_reported device e files clock words run).pending;

@@ -19,13 +19,13 @@ use Rattle.live_asks.specs.LiveAsks.{DiskFacts, disk_facts}
 use Rattle.live_session.specs.declared.reported.ReportedRefusal.{ReportedRefusal}
 use Rattle.live_session.specs.Outcome.{JobsOutcome, reported_of}
 use Rattle.command_plans.specs.Ledger.{Counted}
-use Rattle.command_plans.specs.Plan.{CommandPlan, FailedCalls, May, OfInputs, OfOutput, Requires, Stop, Stopped, Way, map_done, refusal_at}
+use Rattle.command_plans.specs.Plan.{Choose, CommandPlan, FailedCalls, May, OfDisk, OfInputs, OfOutput, Requires, Stop, Stopped, Way, map_done, refusal_at}
 use Rattle.command_plans.specs.Sources.{opening_all_plan}
 use Rattle.command_words.specs.Job.{LoadWords}
 use Rattle.command_runs.specs.declared.report.Report.{Report}
 use Rattle.command_runs.specs.ArchiveWork.{opened_plan}
 use Rattle.command_runs.specs.Command.{ArchiveFound, DiskOutcome, EndedAt, HasEffects, NotAsked, Progress, SeekingFailed, failed_at, nothing_done, seeking_failed}
-use Rattle.command_runs.specs.FillingPlan.{after_filling, fill_failed, filled_to}
+use Rattle.command_runs.specs.FillingPlan.{FillingEnd, Refused, Unread, Unwritten, Whole, after_filling, fill_failed, filled_to}
 use Rattle.ask_answers.specs.Asks.{asked_plan, with_sources}
 use Rattle.load_command.specs.Load.{after_jobs, after_links, after_route, answering_asks_plan, archive_load_plan, history_extended, job_refused, jobs_plan, load_printing_plan, loading_plan, read_load_plan, routed_load_plan, routed_plan, write_failed}
 use Rattle.load_command.specs.Loading.{IsRouteAnswer, is_unread, load_asked}
@@ -51,14 +51,14 @@ pub record KeepsDone {D : Type 0} (device : Device D) (e : Call D) (f : Progress
 
 -- What jobs came to: nothing is reported of them, and the load succeeded, or was hindered; or something is, and why.
 abbrev pub AreReportedSo : {D : Type 0} (device : Device D) (e : Call D) (files : Files) (clock : Option ℤ) (words : LoadWords) (before : FilledArchive) (asks : List Ask) (c : JobsOutcome)
-    → CameToJobs files clock words before (disk_facts device e.disk) asks c → Type 0
-AreReportedSo device e files clock words before asks c came =
+    → (sealed : ℕ) → CameToJobs files clock words before (disk_facts device e.disk sealed) asks c → Type 0
+AreReportedSo device e files clock words before asks c sealed came =
     ((reported_of words.link c.ends c.others ≡ None) × (Succeeded e ⊎ WasHindered device e files clock words before))
-    ⊎ ((t : ReportedRefusal) × (e.report.refusal ≡ Some t.refusal) × IsReportedCause files clock words before (disk_facts device e.disk) asks c came device e t
-    × (IsCut files clock words before (disk_facts device e.disk) asks c came device e t.refusal → WasInterrupted device e))
+    ⊎ ((t : ReportedRefusal) × (e.report.refusal ≡ Some t.refusal) × IsReportedCause files clock words before (disk_facts device e.disk sealed) asks c came device e t
+    × (IsCut files clock words before (disk_facts device e.disk sealed) asks c came device e t.refusal → WasInterrupted device e))
 
 module _ {D : Type 0} (device : Device D) (e : Call D) (files : Files) (clock : Option ℤ) (words : LoadWords) (way : Way Progress ⊥) (at : IsEndOf device e way) where
-  abbrev facts : DiskFacts
+  abbrev facts : ℕ → DiskFacts
   facts = disk_facts device e.disk
 
   abbrev dumps : ℕ
@@ -233,15 +233,15 @@ module _ {D : Type 0} (device : Device D) (e : Call D) (files : Files) (clock : 
         linked f keeps (inl cut) = inr (no_memory e way at _ cut)
         linked f keeps (inr answered) = checked f keeps (answered (Ok ready.route) ready.routed)
 
-    abbrev Came : JobsOutcome → Type 0
-    Came c = CameToJobs files clock words before facts ready.asks c
+    abbrev Came : ℕ → JobsOutcome → Type 0
+    Came sealed c = CameToJobs files clock words before (facts sealed) ready.asks c
 
-    abbrev IsSo : (c : JobsOutcome) → Came c → Type 0
-    IsSo c came = AreReportedSo device e files clock words before ready.asks c came
+    abbrev IsSo : (sealed : ℕ) (c : JobsOutcome) → Came sealed c → Type 0
+    IsSo sealed c came = AreReportedSo device e files clock words before ready.asks c sealed came
 
-    module _ (known : IsTrue device.is_transparent) (f : Progress → Progress) (keeps : KeepsDone device e f) (c : JobsOutcome) (came : Came c) where
+    module _ (known : IsTrue device.is_transparent) (f : Progress → Progress) (keeps : KeepsDone device e f) (sealed : ℕ) (c : JobsOutcome) (came : Came sealed c) where
       abbrev now : ℤ
-      now = moment files clock words before facts ready.asks c came
+      now = moment files clock words before (facts sealed) ready.asks c came
 
       abbrev Hindered : Type 0
       Hindered = Succeeded e ⊎ WasHindered device e files clock words before
@@ -266,32 +266,39 @@ module _ {D : Type 0} (device : Device D) (e : Call D) (files : Files) (clock : 
           → WasOverLimit device e files clock words before
       full_log did =
           let disk = extended_disk files now words before c.reached device e (did.disk.1 known) in
-          let fewer = no_fewer files clock words before facts ready.asks c came device e known in record {
+          let fewer = no_fewer files clock words before (facts sealed) ready.asks c came device e known in record {
             moment = now;
             known = came.given.moment;
             reached = c.reached;
-            holds = is_reached files clock words before facts ready.asks c came device e known disk (ap (λ (r : Report). r.after) did.report)
-                (λ one. kept_stands files clock words before facts ready.asks c came device e known (did.disk.1 known));
+            holds = is_reached files clock words before (facts sealed) ready.asks c came device e known disk (ap (λ (r : Report). r.after) did.report)
+                (λ one. kept_stands files clock words before (facts sealed) ready.asks c came device e known (did.disk.1 known));
             which = Records;
             limit = ap (λ (r : Report). r.refusal) did.report;
-            passed = inr (refl, near_passed files clock words before facts ready.asks c came device e known 0 (omega (arith, fewer)) did.log);
+            passed = inr (refl, near_passed files clock words before (facts sealed) ready.asks c came device e known 0 (omega (arith, fewer)) did.log);
           }
 
       filled_due : (full : Bool) → Requires (map_done f (after_filling (history_extended dumps before None c) (load_printing_plan dumps before ready.asks c) full)) way → Hindered
       filled_due true is = inr (inr (inr (full_log (did_at (record (history_extended dumps before None c) { log = Some 0 }) (Some (Limit Records (limit_of Records))) is))))
       filled_due false d = printing_due ready.asks _ _ d
 
-      unrefused_due : (failed : Option Addition) → Requires (map_done f (after_jobs dumps before ready.asks c None failed)) way → Hindered
-      unrefused_due failed (inl cut) = cut_due (no_memory e way at _ cut)
-      unrefused_due failed (inr (inl cut)) =
+      filling_due : Requires (map_done f (May OfDisk (fill_failed before c.reached (history_extended dumps before None c)) (Choose (λ (full : Bool). Unit {0})
+          (after_filling (history_extended dumps before None c) (load_printing_plan dumps before ready.asks c))))) way → Hindered
+      filling_due (inl cut) =
           let s = fill_failed before c.reached (history_extended dumps before None c) in
           cut_due (disk_call e way at (f s) (λ none. let never : ◌≡◌ {A = DiskOutcome} s.disk NotAsked = sym (keeps.disk s) ∙ none in cc (never)) cut)
-      unrefused_due failed (inr (inr chosen)) = filled_due chosen.0 chosen.2
+      filling_due (inr chosen) = filled_due chosen.0 chosen.2
+
+      unrefused_due : (failed : Option Addition) → Requires (map_done f (after_jobs (IsTrue device.is_transparent) dumps before ready.asks c None failed)) way → Hindered
+      unrefused_due failed (inl cut) = cut_due (no_memory e way at _ cut)
+      unrefused_due failed (inr (inl cut)) =
+          let s = history_extended dumps before None c in
+          cut_due (disk_call e way at (f s) (λ none. let never : ◌≡◌ {A = DiskOutcome} s.disk NotAsked = sym (keeps.disk s) ∙ none in cc (never)) cut)
+      unrefused_due failed (inr (inr asked)) = filling_due (asked None tt)
 
       -- ---- something is
 
       cut_reported : (t : ReportedRefusal) (s : Progress) → way ≡ Stopped (f s) (Some t.refusal) → s.failed OfInputs ≡ list_any is_unread c.ends → e.report.refusal ≡ Some t.refusal
-          → IsCut files clock words before facts ready.asks c came device e t.refusal → WasInterrupted device e
+          → IsCut files clock words before (facts sealed) ready.asks c came device e t.refusal → WasInterrupted device e
       cut_reported t s is reads said cut = cut_off device e t.refusal said (go t.refusal cut)
         where
           read : list_any is_unread c.ends ≡ true → IsInterruption device e ReadFault
@@ -299,57 +306,61 @@ module _ {D : Type 0} (device : Device D) (e : Call D) (files : Files) (clock : 
               let failed : failed_at way OfInputs ≡ true = ap (λ (w : Way Progress ⊥). failed_at w OfInputs) is ∙ ap (λ (calls : FailedCalls). calls OfInputs) (keeps.failed s) ∙ reads ∙ any in
               (subst (λ (b : Bool). Counted b e.read_faults e.read_faults') failed at.read).1
 
-          go : (refusal : Refusal) → IsCut files clock words before facts ready.asks c came device e refusal → IsInterruption device e refusal
+          go : (refusal : Refusal) → IsCut files clock words before (facts sealed) ready.asks c came device e refusal → IsInterruption device e refusal
           go OutOfMemory cut = tt
           go ReadFault cut = read cut
           go DiskFault cut = cut
           go other cut = absurd cut
 
       job_due : (t : ReportedRefusal) (s : Progress) → reported_of words.link c.ends c.others ≡ Some t → way ≡ Stopped (f s) (Some t.refusal) → s.failed OfInputs ≡ list_any is_unread c.ends
-          → IsReportedEnd files clock words before facts ready.asks c came device e t → IsSo c came
+          → IsReportedEnd files clock words before (facts sealed) ready.asks c came device e t → IsSo sealed c came
       job_due t s is stopped reads end = inr (
         t,
         end.refusal,
-        cause_of files clock words before facts ready.asks c came device e t end is (first_reported files clock words before facts ready.asks c came t is),
+        cause_of files clock words before (facts sealed) ready.asks c came device e t end is (first_reported files clock words before (facts sealed) ready.asks c came t is),
         cut_reported t s stopped reads end.refusal,
       )
 
-      behind_due : (t : ReportedRefusal) → reported_of words.link c.ends c.others ≡ Some t → c.failed ≡ None → (end : Option Refusal) → way ≡ Stopped (f (filled_to before c.reached (job_refused dumps before c t) end)) (Some t.refusal) → IsSo c came
+      behind_due : (t : ReportedRefusal) → reported_of words.link c.ends c.others ≡ Some t → c.failed ≡ None → (end : FillingEnd) → way ≡ Stopped (f (filled_to before c.reached (job_refused dumps before c t) end)) (Some t.refusal) → IsSo sealed c came
       behind_due t is none end stopped =
           let s = filled_to before c.reached (job_refused dumps before c t) end in
-          job_due t s is stopped (reads end) (filled_end files clock words before facts ready.asks c came device e known dumps t none end (did_at s (Some t.refusal) stopped)).1
+          job_due t s is stopped (reads end) (filled_end files clock words before (facts sealed) ready.asks c came device e known dumps t none end (did_at s (Some t.refusal) stopped)).1
         where
-          reads : (end : Option Refusal) → (filled_to before c.reached (job_refused dumps before c t) end).failed OfInputs ≡ list_any is_unread c.ends
-          reads None = refl
-          reads (Some DiskFault) = refl
-          reads (Some other) = refl
+          reads : (end : FillingEnd) → (filled_to before c.reached (job_refused dumps before c t) end).failed OfInputs ≡ list_any is_unread c.ends
+          reads Whole = refl
+          reads Unwritten = refl
+          reads Unread = refl
+          reads Refused = refl
 
-      jobs_due : (said : Option ReportedRefusal) → reported_of words.link c.ends c.others ≡ said → (failed : Option Addition) → c.failed ≡ failed → Requires (map_done f (after_jobs dumps before ready.asks c said failed)) way → IsSo c came
+      jobs_due : (said : Option ReportedRefusal) → reported_of words.link c.ends c.others ≡ said → (failed : Option Addition) → c.failed ≡ failed → Requires (map_done f (after_jobs (IsTrue device.is_transparent) dumps before ready.asks c said failed)) way → IsSo sealed c came
       jobs_due None is failed has d = inl (is, unrefused_due failed d)
       jobs_due (Some t) is None has d = behind_due t is has d.0 d.2
       jobs_due (Some t) is (Some addition) has stopped =
           let s = write_failed dumps before c t addition in
-          job_due t s is stopped refl (written_end files clock words before facts ready.asks c came device e known dumps t addition has (did_at s (Some t.refusal) stopped)).1
+          job_due t s is stopped refl (written_end files clock words before (facts sealed) ready.asks c came device e known dumps t addition has (did_at s (Some t.refusal) stopped)).1
 
     -- jobs came to something, of which that holds; or memory was wanting, or a call failed, before them
-    pub session_due : IsTrue device.is_transparent → Reads → ((c : JobsOutcome) × ((came : Came c) × IsSo c came)) ⊎ WasInterrupted device e
+    pub session_due : IsTrue device.is_transparent → Reads → ((sealed : ℕ) × (c : JobsOutcome) × ((came : Came sealed c) × IsSo sealed c came)) ⊎ WasInterrupted device e
     session_due known d = elim (to_jobs d) [
       | inl went ↦ inl (go went.0 went.1 went.2)
       | inr cut ↦ inr cut
     ]
       where
-        go : (f : Progress → Progress) → KeepsDone device e f → Requires (map_done f (jobs_plan facts (Some files) clock words before ready.route ready.asks)) way → (c : JobsOutcome) × ((came : Came c) × IsSo c came)
+        go : (f : Progress → Progress) → KeepsDone device e f → Requires (map_done f (jobs_plan facts (Some files) clock words before ready.route ready.asks)) way → (sealed : ℕ) × (c : JobsOutcome) × ((came : Came sealed c) × IsSo sealed c came)
         go f keeps d =
-            let c = d.2.0 in
-            let came : Came c = record {
+            let sealed = d.0 in
+            let chosen = d.2 in
+            let c = chosen.2.0 in
+            let came : Came sealed c = record {
               text = ready.text;
               named = ready.begun.named;
               route = ready.route;
               routed = ready.routed;
               sheet = ready.begun.has;
               there = there;
-              g = d.0;
-              given = d.1;
-              outcome = d.2.1;
+              g = chosen.0;
+              given = chosen.1;
+              told = λ paged. known;
+              outcome = chosen.2.1;
             } in
-            (c, (came, jobs_due known f keeps c came (reported_of words.link c.ends c.others) refl c.failed refl d.2.2))
+            (sealed, c, (came, jobs_due known f keeps sealed c came (reported_of words.link c.ends c.others) refl c.failed refl chosen.2.2))

@@ -24,7 +24,7 @@ use Rattle.stream_graph.specs.declared.statement.RouteStatement.{RouteStatement}
 use Rattle.live_asks.specs.LiveAsks.{DiskFacts, disk_facts}
 use Rattle.live_session.specs.declared.reported.ReportedRefusal.{ReportedRefusal}
 use Rattle.live_session.specs.Outcome.{JobsOutcome, reported_of}
-use Rattle.command_plans.specs.Plan.{CommandPlan, EachEnd, May, OfOutput, Stop, Way, and_then, is_interruption, map_done}
+use Rattle.command_plans.specs.Plan.{Choose, CommandPlan, EachEnd, May, OfDisk, OfOutput, Stop, Way, and_then, is_interruption, map_done}
 use Rattle.command_plans.proofs.Plans.{each_end, end_of}
 use Rattle.command_words.specs.Job.{Load, LoadWords}
 use Rattle.command_words.specs.LoadLimits.{first_refusal, limit_refusal, links_refusal, load_limit_refusal}
@@ -32,7 +32,7 @@ use Rattle.command_runs.specs.declared.report.Report.{Report}
 use Rattle.command_runs.specs.ArchiveWork.{opened_plan}
 use Rattle.command_runs.specs.Causes.{IsCountedSince}
 use Rattle.command_runs.specs.Command.{ArchiveFound, DamageFound, HasEffects, NoneFound, OpeningResult, Progress, after_opening, archive_opened, opening_plan}
-use Rattle.command_runs.specs.FillingPlan.{after_filling, filled_to}
+use Rattle.command_runs.specs.FillingPlan.{FillingEnd, after_filling, fill_failed, filled_to}
 use Rattle.ask_answers.specs.Asks.{after_asks_check, archive_asks_refusal, asked_plan, with_sources}
 use Rattle.load_command.specs.Load.{after_jobs, after_limits, after_links, after_route, answering_asks_plan, archive_load_plan, history_extended, job_refused, jobs_plan, load_plan, load_printing_plan, loading_plan, read_load_plan, routed_load_plan, routed_plan}
 use Rattle.load_command.specs.Loading.{IsRouteAnswer, load_asked}
@@ -45,6 +45,7 @@ use Rattle.command_laws.proofs.Files.{have_read}
 use Rattle.command_laws.proofs.FirstRefused.{first_reported}
 use Rattle.command_laws.proofs.JobsEnds.{filled_end, written_end}
 use Rattle.command_laws.proofs.JobsLoaded.{AreNamesFrom, CameToJobs, all_names, comes_once, first_name, later_names}
+use Rattle.command_laws.proofs.Pages.{read_left as pages_left}
 use Rattle.command_laws.proofs.Readings.{IsUnread, IsUnreadCause, each_behind, each_opened, each_read}
 use Rattle.command_laws.proofs.Runs.{by_job, none_or_some, same_refusal}
 use Rattle.command_laws.proofs.Reported.{IsCut, IsReportedEnd, cause_of}
@@ -144,7 +145,7 @@ module _ {D : Type 0} (device : Device D) (e : Call D) (files : Files) (clock : 
   abbrev Leaves : Way Progress ⊥ → Type 0
   Leaves way = HasEffects device (effects e) way → IsOnlyReported
 
-  abbrev facts : DiskFacts
+  abbrev facts : ℕ → DiskFacts
   facts = disk_facts device e.disk
 
   abbrev dumps : ℕ
@@ -153,19 +154,19 @@ module _ {D : Type 0} (device : Device D) (e : Call D) (files : Files) (clock : 
   -- ---- behind jobs
 
   module _ (known : IsTrue device.is_transparent) where
-    module _ (before : FilledArchive) (asks : List Ask) (c : JobsOutcome) (came : CameToJobs files clock words before facts asks c) where
+    module _ (before : FilledArchive) (asks : List Ask) (c : JobsOutcome) (sealed : ℕ) (came : CameToJobs files clock words before (facts sealed) asks c) where
       -- where the dump of a link is too long, and those before it aren't, it is the first that isn't read
-      first_unread : (link : ℕ) (names : List (List ℕ)) → AreNamesFrom files clock words before facts asks c came link names → (place : ℕ) (name : List ℕ) → slice_get names place ≡ Some name
+      first_unread : (link : ℕ) (names : List (List ℕ)) → AreNamesFrom files clock words before (facts sealed) asks c came link names → (place : ℕ) (name : List ℕ) → slice_get names place ≡ Some name
           → ((other : ℕ) (n : List ℕ) → ComesBy words other n → link ≤ other → other < link + place → (dump : List ℕ) × HasFile files DumpOctets n dump) → (refusal : Refusal) → IsUnreadFor files DumpOctets name refusal
           → IsFirstUnread files (dump_files names) refusal
       first_unread link [] are place name is earlier refusal unread = absurd (cc (is))
       first_unread link (n ∷ names) are zero name is earlier refusal unread =
           let same : n ≡ name = cc (is) in inl (subst (λ (m : List ℕ). IsUnreadFor files DumpOctets m refusal) (sym same) unread)
       first_unread link (n ∷ names) are (suc place) name is earlier refusal unread =
-          let read = earlier link n (first_name files clock words before facts asks c came link n names are) (omega arith) (omega arith) in inr (
+          let read = earlier link n (first_name files clock words before (facts sealed) asks c came link n names are) (omega arith) (omega arith) in inr (
             read.0,
             read.1,
-            first_unread (suc link) names (later_names files clock words before facts asks c came link n names are) place name is
+            first_unread (suc link) names (later_names files clock words before (facts sealed) asks c came link n names are) place name is
                 (λ other m comes low high. earlier other m comes (omega (arith, low)) (omega (arith, high))) refusal unread,
           )
 
@@ -175,7 +176,7 @@ module _ {D : Type 0} (device : Device D) (e : Call D) (files : Files) (clock : 
             have_read files words came.text (Ok asks) came.named came.sheet,
             inr (
               came.there,
-              first_unread words.link words.dumps (all_names files clock words before facts asks c came) long.received.comes.place long.received.name long.received.comes.name_is
+              first_unread words.link words.dumps (all_names files clock words before (facts sealed) asks c came) long.received.comes.place long.received.name long.received.comes.name_is
                   (λ other n comes low high.
                   let whole = long.reported.earlier other low (omega (arith, high, number)) in
                   (whole.1.1.dump, subst (λ (m : List ℕ). HasFile files DumpOctets m whole.1.1.dump) (comes_once words other whole.1.0.name n whole.1.0.comes comes) whole.1.1.file))
@@ -223,15 +224,15 @@ module _ {D : Type 0} (device : Device D) (e : Call D) (files : Files) (clock : 
           apart (inl rows) tells = no_rows rows.limit (limit_of over.which) (subst (λ (w : Which). TellsOfOutside (Limit w (limit_of over.which))) rows.which_is tells)
           apart (inr log) tells = subst (λ (w : Which). TellsOfOutside (Limit w (limit_of over.which))) log.0 tells
 
-      cut_is : (refusal : Refusal) → IsCut files clock words before facts asks c came device e refusal → is_interruption refusal ≡ true
+      cut_is : (refusal : Refusal) → IsCut files clock words before (facts sealed) asks c came device e refusal → is_interruption refusal ≡ true
       cut_is OutOfMemory cut = refl
       cut_is ReadFault cut = refl
       cut_is DiskFault cut = refl
       cut_is other cut = absurd cut
 
       -- what is reported of a job is so
-      reported_of_job : (t : ReportedRefusal) → reported_of words.link c.ends c.others ≡ Some t → StandsFilled (device.reads e.disk) before → IsReportedEnd files clock words before facts asks c came device e t → IsOnlyReported
-      reported_of_job t is stands end = elim (cause_of files clock words before facts asks c came device e t end is (first_reported files clock words before facts asks c came t is)) [
+      reported_of_job : (t : ReportedRefusal) → reported_of words.link c.ends c.others ≡ Some t → StandsFilled (device.reads e.disk) before → IsReportedEnd files clock words before (facts sealed) asks c came device e t → IsOnlyReported
+      reported_of_job t is stands end = elim (cause_of files clock words before (facts sealed) asks c came device e t end is (first_reported files clock words before (facts sealed) asks c came t is)) [
         | inl broken ↦ reported_broken stands broken.0 broken.1 broken.2 broken.3
         | inr others ↦ elim others [
           | inl overlong ↦ reported_overlong stands overlong.0 overlong.1
@@ -256,27 +257,33 @@ module _ {D : Type 0} (device : Device D) (e : Call D) (files : Files) (clock : 
       filled_only true = λ did. reported_other (Limit Records (limit_of Records)) (ap (λ (r : Report). r.refusal) did.report) (λ tells. tells)
       filled_only false = printing_only asks _ _
 
-      behind_only : (t : ReportedRefusal) → reported_of words.link c.ends c.others ≡ Some t → c.failed ≡ None → (end : Option Refusal)
+      abbrev filling : CommandPlan Progress ⊥
+      filling =
+          May OfDisk (fill_failed before c.reached (history_extended dumps before None c))
+          (Choose (λ (full : Bool). Unit {0}) (after_filling (history_extended dumps before None c) (load_printing_plan dumps before asks c)))
+
+      behind_only : (t : ReportedRefusal) → reported_of words.link c.ends c.others ≡ Some t → c.failed ≡ None → (end : FillingEnd)
           → EachEnd {X = ⊥} Leaves (Stop (filled_to before c.reached (job_refused dumps before c t) end) (Some t.refusal))
       behind_only t is none end = λ did.
-          let ended = filled_end files clock words before facts asks c came device e known dumps t none end did in reported_of_job t is ended.0.stands ended.1
+          let ended = filled_end files clock words before (facts sealed) asks c came device e known dumps t none end did in reported_of_job t is ended.0.stands ended.1
 
-      jobs_only : (said : Option ReportedRefusal) → reported_of words.link c.ends c.others ≡ said → (failed : Option Addition) → c.failed ≡ failed → EachEnd Leaves (after_jobs dumps before asks c said failed)
+      jobs_only : (said : Option ReportedRefusal) → reported_of words.link c.ends c.others ≡ said → (failed : Option Addition) → c.failed ≡ failed → EachEnd Leaves (after_jobs (IsTrue device.is_transparent) dumps before asks c said failed)
       jobs_only None is failed has = (
         λ did. reported_cut OutOfMemory (ap (λ (r : Report). r.refusal) did.report) refl,
-        (λ did. reported_cut DiskFault (ap (λ (r : Report). r.refusal) did.report) refl, λ full counted. filled_only full),
+        pages_left Leaves (IsTrue device.is_transparent) known (history_extended dumps before None c) filling (λ did. reported_cut DiskFault (ap (λ (r : Report). r.refusal) did.report) refl)
+            (λ did. reported_cut DiskFault (ap (λ (r : Report). r.refusal) did.report) refl, λ full counted. filled_only full),
       )
       jobs_only (Some t) is None has = λ end ends. behind_only t is has end
       jobs_only (Some t) is (Some addition) has = λ did.
-          let ended = written_end files clock words before facts asks c came device e known dumps t addition has did in reported_of_job t is ended.0.stands ended.1
+          let ended = written_end files clock words before (facts sealed) asks c came device e known dumps t addition has did in reported_of_job t is ended.0.stands ended.1
 
     -- ---- before them
 
     module _ (text : Option (List ℕ)) (named : HasRouteText files words.route text) (there : AreThere files words.dumps) (filled : FilledArchive) where
       module _ (route : List RouteStatement) (routed : IsRouteAnswer filled.plain text (Ok route)) where
         run_only : (asks : List Ask) → HasAsks files words.asks (Ok asks) → EachEnd Leaves (jobs_plan facts (Some files) clock words filled route asks)
-        run_only asks has = λ g given c outcome.
-            jobs_only filled asks c (record { text = text; named = named; route = route; routed = routed; sheet = has; there = there; g = g; given = given; outcome = outcome })
+        run_only asks has = λ sealed any g given c outcome.
+            jobs_only filled asks c sealed (record { text = text; named = named; route = route; routed = routed; sheet = has; there = there; g = g; given = given; told = λ paged. known; outcome = outcome })
             (reported_of words.link c.ends c.others) refl c.failed refl
 
         check_only : (asks : List Ask) → HasAsks files words.asks (Ok asks) → (found : Option Refusal) → found ≡ archive_asks_refusal filled.plain asks

@@ -24,7 +24,7 @@ use Rattle.archive_store.specs.Stands.{IsSoundImage}
 use Rattle.live_asks.specs.declared.answered.AskAnswer.{AskAnswer}
 use Rattle.live_asks.specs.declared.answered.AskAnswer.TheVariants as kept
 use Rattle.live_asks.specs.declared.answered.ReplayedRows.{ReplayedRows}
-use Rattle.live_asks.specs.LiveAsks.{AnswersOver, DiskFacts, HasCellsOf, HasReplayOf, HasRowCellsOf, IsAnsweredInTurn, disk_facts}
+use Rattle.live_asks.specs.LiveAsks.{AnswersOver, AreTold, DiskFacts, HasCellsOf, HasReplayOf, HasRowCellsOf, IsAnsweredInTurn, disk_facts}
 use Rattle.live_session.specs.Outcome.{JobsOutcome, counts_of, reported_of}
 use Rattle.retrieval.specs.AnswerText.{answer_lines}
 use Rattle.retrieval.specs.declared.found_asks.FoundAsk.{FoundAsk}
@@ -66,7 +66,7 @@ between first over last rows later begins is =
 
 -- ---- answers
 
-module _ {D : Type 0} (device : Device D) (e : Call D) (known : IsTrue device.is_transparent) (before : FilledArchive) (reached : List Item) (rows : List Row) (grown : reached ≡ before.plain.history ++ items_of rows) where
+module _ {D : Type 0} (device : Device D) (e : Call D) (known : IsTrue device.is_transparent) (before : FilledArchive) (reached : List Item) (rows : List Row) (grown : reached ≡ before.plain.history ++ items_of rows) (sealed : ℕ) where
   abbrev head : Head
   head = before.plain.head
 
@@ -74,7 +74,10 @@ module _ {D : Type 0} (device : Device D) (e : Call D) (known : IsTrue device.is
   low = before.plain.history
 
   abbrev facts : DiskFacts
-  facts = disk_facts device e.disk
+  facts = disk_facts device e.disk sealed
+
+  told : AreTold facts
+  told paged = known
 
   abbrev Sound : Type 0
   Sound = IsSoundImage (device.reads e.disk)
@@ -88,10 +91,10 @@ module _ {D : Type 0} (device : Device D) (e : Call D) (known : IsTrue device.is
         history = over;
         later = later;
         begins = begins;
-        said = inl (record { fillings = is.fillings; since = is.since known; text_is = collected_values before over is.fillings k request answer same is.filled });
+        said = inl (record { fillings = is.fillings; since = is.since known; text_is = collected_values before over is.fillings k request answer same (is.filled told) });
         over_rows = λ sound.
             ap (λ (d : Database). answer_lines k answer.front d (unwrap_or (parameter_number d request.parameter) 0) answer.cells) (sym same)
-            ∙ ap (λ (n : ℕ). answer_lines k n db number answer.cells) is.filled.front ∙ ap (λ (cells : List Cell). answer_lines k (length over) db number cells) (given (is.cells known sound));
+            ∙ ap (λ (n : ℕ). answer_lines k n db number answer.cells) is.front ∙ ap (λ (cells : List Cell). answer_lines k (length over) db number cells) (given (is.cells known sound));
       }
     where
       given : ((number : ℕ) × (parameter_number (database_in head.mdb over) request.parameter ≡ Some number) × (answer.cells ≡ answer_of (database_in head.mdb over) number request (rows_in over)))
@@ -117,14 +120,14 @@ module _ {D : Type 0} (device : Device D) (e : Call D) (known : IsTrue device.is
       }
 
   -- rows, by the packet names that there were
-  rows_between : (over : List Item) (k : ℕ) (request : ReplayRequest) (replayed : ReplayedRows) → IsPrefix low over → IsPrefix over reached → names_in head.mdb over ≡ names_in head.mdb low → HasReplayOf head over request replayed
+  rows_between : (over : List Item) (k : ℕ) (request : ReplayRequest) (replayed : ReplayedRows) → IsPrefix low over → IsPrefix over reached → names_in head.mdb over ≡ names_in head.mdb low → HasReplayOf facts head over request replayed
       → IsAnswerBetween Sound before reached k (asked.Replay request) (collected_answer_text before.plain k (asked.Replay request) (kept.Replay replayed))
   rows_between over k request replayed later begins same is = record {
     history = over;
     later = later;
     begins = begins;
-    said = inl (record { fillings = before.fillings; since = λ interval. inl refl; text_is = collected_replay before.plain over k request replayed same is });
-    over_rows = λ sound. collected_replay before.plain over k request replayed same is;
+    said = inl (record { fillings = before.fillings; since = λ interval. inl refl; text_is = collected_replay facts told before.plain over k request replayed same is });
+    over_rows = λ sound. collected_replay facts told before.plain over k request replayed same is;
   }
 
   between_text : (k : ℕ) (ask : FoundAsk) (answer : AskAnswer) → IsAnsweredInTurn facts before low reached ask answer → IsAnswerBetween Sound before reached k (ask_found ask) (collected_answer_text before.plain k (ask_found ask) answer)
@@ -163,10 +166,10 @@ module _ {D : Type 0} (device : Device D) (e : Call D) (known : IsTrue device.is
 -- ---- the whole text
 
 module _ (files : Files) (clock : Option ℤ) (words : LoadWords) (before : FilledArchive) {D : Type 0} (device : Device D) (e : Call D) (known : IsTrue device.is_transparent) (asks : List Ask) (c : JobsOutcome)
-    (came : CameToJobs files clock words before (disk_facts device e.disk) asks c) (none : reported_of words.link c.ends c.others ≡ None)
-    (whole : AreWholeFrom files clock words before (disk_facts device e.disk) asks c came words.link c.ends) where
-  each : AreAnsweredInTurns (disk_facts device e.disk) before before.plain.history c.reached came.g.asks c.answers
-  each = each_answered (disk_facts device e.disk) before before.plain.history c.reached came.g.asks c.answers (came.outcome.answered none)
+    (sealed : ℕ) (came : CameToJobs files clock words before (disk_facts device e.disk sealed) asks c) (none : reported_of words.link c.ends c.others ≡ None)
+    (whole : AreWholeFrom files clock words before (disk_facts device e.disk sealed) asks c came words.link c.ends) where
+  each : AreAnsweredInTurns (disk_facts device e.disk sealed) before before.plain.history c.reached came.g.asks c.answers
+  each = each_answered (disk_facts device e.disk sealed) before before.plain.history c.reached came.g.asks c.answers (came.outcome.answered none)
 
   line_is : line_of_load (length before.plain.history) c ≡ line_of_dumps before c.reached whole.dumps
   line_is =
@@ -188,5 +191,5 @@ module _ (files : Files) (clock : Option ℤ) (words : LoadWords) (before : Fill
     asks = asks;
     sheet = came.sheet;
     answered = subst (λ (l : List Ask). AreAnswersBetween (IsSoundImage (device.reads e.disk)) before c.reached 1 l (collected_answers_text before.plain 1 l c.answers)) came.given.asked
-        (answers_between device e known before c.reached came.outcome.more came.outcome.grown 1 came.g.asks c.answers each);
+        (answers_between device e known before c.reached came.outcome.more came.outcome.grown sealed 1 came.g.asks c.answers each);
   }

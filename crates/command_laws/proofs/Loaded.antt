@@ -21,7 +21,7 @@ use Rattle.stream_graph.specs.declared.statement.RouteStatement.{RouteStatement}
 use Rattle.live_asks.specs.LiveAsks.{DiskFacts, disk_facts}
 use Rattle.live_session.specs.declared.reported.ReportedRefusal.{ReportedRefusal}
 use Rattle.live_session.specs.Outcome.{JobsOutcome, reported_of}
-use Rattle.command_plans.specs.Plan.{CommandPlan, EachEnd, May, OfOutput, Stop, Way, and_then, map_done}
+use Rattle.command_plans.specs.Plan.{Choose, CommandPlan, EachEnd, May, OfDisk, OfOutput, Stop, Way, and_then, map_done}
 use Rattle.command_plans.proofs.Plans.{each_end, end_of}
 use Rattle.command_words.specs.Job.{Load, LoadWords}
 use Rattle.command_words.specs.LoadLimits.{load_limit_refusal}
@@ -29,7 +29,7 @@ use Rattle.command_runs.specs.declared.report.Report.{Report}
 use Rattle.command_runs.specs.ArchiveWork.{opened_plan}
 use Rattle.command_runs.specs.Command.{ArchiveFound, DamageFound, HasEffects, NoneFound, OpeningResult, Progress, after_opening, archive_opened, opening_plan}
 use Rattle.command_runs.specs.Extension.{IsAllFilled}
-use Rattle.command_runs.specs.FillingPlan.{after_filling, all_filled, filled_to}
+use Rattle.command_runs.specs.FillingPlan.{FillingEnd, Refused, Unread, Unwritten, Whole, after_filling, all_filled, fill_failed, filled_to}
 use Rattle.command_runs.specs.Moment.{IsMomentOf}
 use Rattle.command_runs.specs.ReadOnly.{IsReadAsBefore, IsReadOnly}
 use Rattle.command_runs.specs.Report.{loaded, read_only, unopened}
@@ -49,6 +49,7 @@ use Rattle.command_laws.proofs.JobsLoaded.{AreWholeFrom, CameToJobs, all_whole, 
 use Rattle.command_laws.proofs.Left.{is_unopened, kept_back, not_asked, opened_once, since_opening, sound_moments, untouched}
 use Rattle.command_laws.proofs.LoadTexts.{answers as printed_answers, load_answers, whole_text}
 use Rattle.command_laws.proofs.OnTheWay.{IsDiskLoaded, extended_disk, read_only_disk, unfilled_disk}
+use Rattle.command_laws.proofs.Pages.{read_left as pages_left}
 use Rattle.command_laws.proofs.Readings.{IsUnread, each_behind, each_opened, each_read, read_or_not}
 use Rattle.command_laws.proofs.Runs.{all_is_some, by_job, none_or_some, same_refusal}
 
@@ -81,7 +82,7 @@ module _ {D : Type 0} (device : Device D) (e : Call D) (files : Files) (clock : 
   abbrev Leaves : Way Progress ⊥ → Type 0
   Leaves way = HasEffects device (effects e) way → Left
 
-  abbrev facts : DiskFacts
+  abbrev facts : ℕ → DiskFacts
   facts = disk_facts device e.disk
 
   abbrev dumps : ℕ
@@ -176,15 +177,15 @@ module _ {D : Type 0} (device : Device D) (e : Call D) (files : Files) (clock : 
 
     -- ---- behind jobs
 
-    module _ (before : FilledArchive) (asks : List Ask) (c : JobsOutcome) (came : CameToJobs files clock words before facts asks c) where
+    module _ (before : FilledArchive) (asks : List Ask) (c : JobsOutcome) (sealed : ℕ) (came : CameToJobs files clock words before (facts sealed) asks c) where
       abbrev now : ℤ
-      now = moment files clock words before facts asks c came
+      now = moment files clock words before (facts sealed) asks c came
 
       abbrev Disk : Type 0
       Disk = IsDiskLoaded files now words before c.reached device e
 
       has_grown : IsGrown files now words before c.reached
-      has_grown = grown files clock words before facts asks c came
+      has_grown = grown files clock words before (facts sealed) asks c came
 
       all_named : (refusal : Refusal) → IsFirstUnread files (load_files words) refusal → ⊥
       all_named refusal first = named_read files words.route words.asks came.text (Ok asks) refusal came.named came.sheet first
@@ -202,10 +203,10 @@ module _ {D : Type 0} (device : Device D) (e : Call D) (files : Files) (clock : 
 
       module _ (none : reported_of words.link c.ends c.others ≡ None) where
         abbrev AllWhole : Type 0
-        AllWhole = AreWholeFrom files clock words before facts asks c came words.link c.ends
+        AllWhole = AreWholeFrom files clock words before (facts sealed) asks c came words.link c.ends
 
         all_came : AllWhole
-        all_came = all_whole files clock words before facts asks c came none
+        all_came = all_whole files clock words before (facts sealed) asks c came none
 
         received_whole : AreReceivedWhole files now words before c.reached all_came.dumps
         received_whole = record {
@@ -214,18 +215,18 @@ module _ {D : Type 0} (device : Device D) (e : Call D) (files : Files) (clock : 
           alone = λ d is.
               let last = (subst (AreReceived files now words before words.link) is all_came.received).1 in
               let one : length words.dumps ≡ 1 = omega (arith, last) in
-              all_came.alone d is came.outcome.more came.outcome.grown (only_rows files clock words before facts asks c came one);
+              all_came.alone d is came.outcome.more came.outcome.grown (only_rows files clock words before (facts sealed) asks c came one);
         }
 
         abbrev text : List ℕ
         text = load_text before.plain asks c
 
         printed_so : PrintsSome e text → (Succeeded e → Prints e text) → IsLoadPrinted device e files now words before c.reached
-        printed_so some all = let is = whole_text files clock words before device e known asks c came none all_came in record {
+        printed_so some all = let is = whole_text files clock words before device e known asks c sealed came none all_came in record {
           dumps = all_came.dumps;
           received = received_whole;
-          answers = printed_answers files clock words before device e known asks c came none all_came;
-          answered = load_answers files clock words before device e known asks c came none all_came;
+          answers = printed_answers files clock words before device e known asks c sealed came none all_came;
+          answered = load_answers files clock words before device e known asks c sealed came none all_came;
           some = subst (PrintsSome e) is some;
           all = λ ok. subst (Prints e) is (all ok);
         }
@@ -278,13 +279,19 @@ module _ {D : Type 0} (device : Device D) (e : Call D) (files : Files) (clock : 
         filled_left true = λ did. left_quiet None (Limit Records (limit_of Records)) no_link_named did.report did.printed (extended_disk files now words before c.reached device e (did.disk.1 known))
         filled_left false = printing_left asks
 
-        unrefused_left : (failed : Option Addition) → EachEnd Leaves (after_jobs dumps before asks c None failed)
+        abbrev filling : CommandPlan Progress ⊥
+        filling =
+            May OfDisk (fill_failed before c.reached (history_extended dumps before None c))
+            (Choose (λ (full : Bool). Unit {0}) (after_filling (history_extended dumps before None c) (load_printing_plan dumps before asks c)))
+
+        unrefused_left : (failed : Option Addition) → EachEnd Leaves (after_jobs (IsTrue device.is_transparent) dumps before asks c None failed)
         unrefused_left failed = (
           λ did. left_quiet None OutOfMemory no_link_named did.report did.printed (extended_disk files now words before c.reached device e (did.disk.1 known)),
-          (
-            λ did. left_quiet None DiskFault no_link_named did.report did.printed (unfilled_disk files now words before c.reached device e (did.disk.1 known)),
-            λ full is. filled_left full,
-          ),
+          pages_left Leaves (IsTrue device.is_transparent) known (history_extended dumps before None c) filling
+              (λ did. left_quiet None DiskFault no_link_named did.report did.printed (extended_disk files now words before c.reached device e (did.disk.1 known))) (
+                λ did. left_quiet None DiskFault no_link_named did.report did.printed (unfilled_disk files now words before c.reached device e (did.disk.1 known)),
+                λ full is. filled_left full,
+              ),
         )
 
       -- ---- a job was refused
@@ -292,24 +299,25 @@ module _ {D : Type 0} (device : Device D) (e : Call D) (files : Files) (clock : 
       of_dump : (t : ReportedRefusal) → reported_of words.link c.ends c.others ≡ Some t → IsSome t.link → TellsOfDump t.refusal
       of_dump t is some = link_of_dump words.link c.ends c.others t is some
 
-      job_left : (t : ReportedRefusal) → reported_of words.link c.ends c.others ≡ Some t → c.failed ≡ None → (end : Option Refusal) → EachEnd {X = ⊥} Leaves (Stop (filled_to before c.reached (job_refused dumps before c t) end) (Some t.refusal))
-      job_left t is none None = λ did. left_quiet t.link t.refusal (of_dump t is) did.report did.printed (filled_end files clock words before facts asks c came device e known dumps t none None did).0
-      job_left t is none (Some DiskFault) = λ did. left_quiet t.link t.refusal (of_dump t is) did.report did.printed (filled_end files clock words before facts asks c came device e known dumps t none (Some DiskFault) did).0
-      job_left t is none (Some other) = λ did. left_quiet t.link t.refusal (of_dump t is) did.report did.printed (filled_end files clock words before facts asks c came device e known dumps t none (Some other) did).0
+      job_left : (t : ReportedRefusal) → reported_of words.link c.ends c.others ≡ Some t → c.failed ≡ None → (end : FillingEnd) → EachEnd {X = ⊥} Leaves (Stop (filled_to before c.reached (job_refused dumps before c t) end) (Some t.refusal))
+      job_left t is none Whole = λ did. left_quiet t.link t.refusal (of_dump t is) did.report did.printed (filled_end files clock words before (facts sealed) asks c came device e known dumps t none Whole did).0
+      job_left t is none Unwritten = λ did. left_quiet t.link t.refusal (of_dump t is) did.report did.printed (filled_end files clock words before (facts sealed) asks c came device e known dumps t none Unwritten did).0
+      job_left t is none Unread = λ did. left_quiet t.link t.refusal (of_dump t is) did.report did.printed (filled_end files clock words before (facts sealed) asks c came device e known dumps t none Unread did).0
+      job_left t is none Refused = λ did. left_quiet t.link t.refusal (of_dump t is) did.report did.printed (filled_end files clock words before (facts sealed) asks c came device e known dumps t none Refused did).0
 
-      jobs_left : (said : Option ReportedRefusal) → reported_of words.link c.ends c.others ≡ said → (failed : Option Addition) → c.failed ≡ failed → EachEnd Leaves (after_jobs dumps before asks c said failed)
+      jobs_left : (said : Option ReportedRefusal) → reported_of words.link c.ends c.others ≡ said → (failed : Option Addition) → c.failed ≡ failed → EachEnd Leaves (after_jobs (IsTrue device.is_transparent) dumps before asks c said failed)
       jobs_left None is failed has = unrefused_left is failed
       jobs_left (Some t) is None has = λ end ends. job_left t is has end
       jobs_left (Some t) is (Some addition) has =
-          λ did. left_quiet t.link t.refusal (of_dump t is) did.report did.printed (written_end files clock words before facts asks c came device e known dumps t addition has did).0
+          λ did. left_quiet t.link t.refusal (of_dump t is) did.report did.printed (written_end files clock words before (facts sealed) asks c came device e known dumps t addition has did).0
 
     -- ---- before them
 
     module _ (text : Option (List ℕ)) (named : HasRouteText files words.route text) (there : AreThere files words.dumps) (filled : FilledArchive) where
       module _ (route : List RouteStatement) (routed : IsRouteAnswer filled.plain text (Ok route)) where
         run_left : (asks : List Ask) → HasAsks files words.asks (Ok asks) → EachEnd Leaves (jobs_plan facts (Some files) clock words filled route asks)
-        run_left asks has = λ g given c outcome.
-            jobs_left filled asks c (record { text = text; named = named; route = route; routed = routed; sheet = has; there = there; g = g; given = given; outcome = outcome })
+        run_left asks has = λ sealed any g given c outcome.
+            jobs_left filled asks c sealed (record { text = text; named = named; route = route; routed = routed; sheet = has; there = there; g = g; given = given; told = λ paged. known; outcome = outcome })
             (reported_of words.link c.ends c.others) refl c.failed refl
 
         check_left : (asks : List Ask) → HasAsks files words.asks (Ok asks) → (found : Option Refusal)

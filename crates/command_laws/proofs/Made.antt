@@ -54,9 +54,10 @@ use Rattle.command_runs.specs.Command.{EndedAt, HasEffects, Progress, behind_mak
 use Rattle.command_runs.specs.Creation.{IsMade, IsMakingFailed, IsStillNone}
 use Rattle.command_runs.specs.Durable.{FailedAtMostOnce}
 use Rattle.command_runs.specs.Extension.{IsAllFilled, IsExtended, filled_at}
-use Rattle.command_runs.specs.FillingPlan.{after_filling, filled_to}
+use Rattle.command_runs.specs.FillingPlan.{FillingEnd, Refused, Unread, Unwritten, Whole, after_filling, filled_to}
 use Rattle.command_runs.specs.Moment.{IsMomentOf}
 use Rattle.command_runs.specs.ReadOnly.{IsReadAsBefore}
+use Rattle.command_runs.specs.Reading.{InMemory}
 use Rattle.command_runs.specs.Report.{loaded, unopened}
 use Rattle.load_command.specs.Load.{after_session, history_extended, job_refused}
 use Rattle.load_command.specs.Loading.{is_unread}
@@ -116,8 +117,8 @@ right_cells reached fillings adds name =
     (filled_answered db format_1_exponent reached fillings (whole_request name) (unwrap_or (parameter_number db name) 0) (right_sound reached fillings adds))
 
 -- comparing finds no mismatch
-compared_right : (reached : List Item) (fillings : Fillings (List SetRow)) (refusal : Refusal) → AddsRightFills made_head format_1_exponent reached no_fillings fillings → IsCompared (filled_at made_archive reached fillings) (Some refusal) → ⊥
-compared_right reached fillings (Mismatch i n k s r) adds named = mismatch_unsound (filled_at made_archive reached fillings) i _ named.first (right_held reached fillings adds)
+compared_right : (reached : List Item) (fillings : Fillings (List SetRow)) (refusal : Refusal) → AddsRightFills made_head format_1_exponent reached no_fillings fillings → IsCompared (Unit {0}) (filled_at made_archive reached fillings) (Some refusal) → ⊥
+compared_right reached fillings (Mismatch i n k s r) adds named = mismatch_unsound (filled_at made_archive reached fillings) i _ (named tt).first (right_held reached fillings adds)
 compared_right reached fillings other adds none = none
 
 -- ---- refusals that are of no dump
@@ -460,20 +461,20 @@ module _ {D : Type 0} (device : Device D) (e : Call D) (clock : Option ℤ) (see
 
       module _ (none : reported_of 1 c.ends c.others ≡ None) where
         -- its archive was compared
-        compared_left : (fillings : Fillings (List SetRow)) → IsFilledBy device c.reached fillings → (found : Option Refusal) → IsCompared (filled_at made_archive c.reached fillings) found
+        compared_left : (fillings : Fillings (List SetRow)) → IsFilledBy device c.reached fillings → (found : Option Refusal) → IsCompared (Unit {0}) (filled_at made_archive c.reached fillings) found
             → EachEnd Behind (summary_or_mismatch seed c (filled_at made_archive c.reached fillings) found)
         compared_left fillings filled None held = (
-          λ did. left_part c came outcome.read none fillings filled OutOfMemory did.report tt did.printed (λ out memory. absurd (memory refl)) (did.disk.1 known),
+          λ did. left_part c came outcome.read.0 none fillings filled OutOfMemory did.report tt did.printed (λ out memory. absurd (memory refl)) (did.disk.1 known),
           (
-            λ did. left_part c came outcome.read none fillings filled WriteFault did.report did.output.counted.1 did.printed (λ out memory. absurd (out refl)) (did.disk.1 known),
-            λ did. left_whole c came outcome.read none fillings filled did.report did.printed (did.disk.1 known),
+            λ did. left_part c came outcome.read.0 none fillings filled WriteFault did.report did.output.counted.1 did.printed (λ out memory. absurd (out refl)) (did.disk.1 known),
+            λ did. left_whole c came outcome.read.0 none fillings filled did.report did.printed (did.disk.1 known),
           ),
         )
         compared_left fillings filled (Some refusal) found = absurd (compared_right c.reached fillings refusal (filled.adds known) found)
 
         summed_left : EachEnd Behind next
         summed_left = λ fillings filled. (
-          λ did. left_silent c came outcome.read OutOfMemory did.report did.printed (filled_disk c came outcome.read none (did.disk.1 known)) (cut_made c came outcome.read OutOfMemory did.report tt),
+          λ did. left_silent c came outcome.read.0 OutOfMemory did.report did.printed (filled_disk c came outcome.read.0 none (did.disk.1 known)) (cut_made c came outcome.read.0 OutOfMemory did.report tt),
           λ found is. compared_left fillings filled found is,
         )
 
@@ -481,31 +482,32 @@ module _ {D : Type 0} (device : Device D) (e : Call D) (clock : Option ℤ) (see
         filled_left true = λ did.
             let x = did.disk.1 known in
             let limit = Limit Records (limit_of Records) in
-            left_silent c came outcome.read limit did.report did.printed (extended_disk files (moment files clock made_words made_archive no_facts [] c came) made_words made_archive c.reached device behind x)
-            (inr (inr (over_since (full_log c came outcome.read none x did.report did.log))))
+            left_silent c came outcome.read.0 limit did.report did.printed (extended_disk files (moment files clock made_words made_archive no_facts [] c came) made_words made_archive c.reached device behind x)
+            (inr (inr (over_since (full_log c came outcome.read.0 none x did.report did.log))))
         filled_left false = summed_left
 
-        unrefused_left : (failed : Option Addition) → EachEnd Behind (after_session 0 made_archive c next None failed)
+        unrefused_left : (failed : Option Addition) → EachEnd Behind (after_session InMemory 0 made_archive c next None failed)
         unrefused_left failed = (
-          λ did. left_silent c came outcome.read OutOfMemory did.report did.printed
-              (extended_disk files (moment files clock made_words made_archive no_facts [] c came) made_words made_archive c.reached device behind (did.disk.1 known)) (cut_made c came outcome.read OutOfMemory did.report tt),
+          λ did. left_silent c came outcome.read.0 OutOfMemory did.report did.printed
+              (extended_disk files (moment files clock made_words made_archive no_facts [] c came) made_words made_archive c.reached device behind (did.disk.1 known)) (cut_made c came outcome.read.0 OutOfMemory did.report tt),
           (
-            λ did. left_silent c came outcome.read DiskFault did.report did.printed
+            λ did. left_silent c came outcome.read.0 DiskFault did.report did.printed
                 (unfilled_disk files (moment files clock made_words made_archive no_facts [] c came) made_words made_archive c.reached device behind (did.disk.1 known))
-                (cut_made c came outcome.read DiskFault did.report (interruption DiskFault did.disk.0.faults)),
+                (cut_made c came outcome.read.0 DiskFault did.report (interruption DiskFault did.disk.0.faults)),
             λ full is. filled_left full,
           ),
         )
 
-      refused_left : (t : ReportedRefusal) → reported_of 1 c.ends c.others ≡ Some t → c.failed ≡ None → (end : Option Refusal) → EachEnd {X = ⊥} Behind (Stop (filled_to made_archive c.reached (job_refused 0 made_archive c t) end) (Some t.refusal))
-      refused_left t is none None = λ did. job_left c came outcome.read t is did.report did.printed (filled_end files clock made_words made_archive no_facts [] c came device behind known 0 t none None did)
-      refused_left t is none (Some DiskFault) = λ did. job_left c came outcome.read t is did.report did.printed (filled_end files clock made_words made_archive no_facts [] c came device behind known 0 t none (Some DiskFault) did)
-      refused_left t is none (Some other) = λ did. job_left c came outcome.read t is did.report did.printed (filled_end files clock made_words made_archive no_facts [] c came device behind known 0 t none (Some other) did)
+      refused_left : (t : ReportedRefusal) → reported_of 1 c.ends c.others ≡ Some t → c.failed ≡ None → (end : FillingEnd) → EachEnd {X = ⊥} Behind (Stop (filled_to made_archive c.reached (job_refused 0 made_archive c t) end) (Some t.refusal))
+      refused_left t is none Whole = λ did. job_left c came outcome.read.0 t is did.report did.printed (filled_end files clock made_words made_archive no_facts [] c came device behind known 0 t none Whole did)
+      refused_left t is none Unwritten = λ did. job_left c came outcome.read.0 t is did.report did.printed (filled_end files clock made_words made_archive no_facts [] c came device behind known 0 t none Unwritten did)
+      refused_left t is none Unread = λ did. job_left c came outcome.read.0 t is did.report did.printed (filled_end files clock made_words made_archive no_facts [] c came device behind known 0 t none Unread did)
+      refused_left t is none Refused = λ did. job_left c came outcome.read.0 t is did.report did.printed (filled_end files clock made_words made_archive no_facts [] c came device behind known 0 t none Refused did)
 
-      session_left : (said : Option ReportedRefusal) → reported_of 1 c.ends c.others ≡ said → (failed : Option Addition) → c.failed ≡ failed → EachEnd Behind (after_session 0 made_archive c next said failed)
+      session_left : (said : Option ReportedRefusal) → reported_of 1 c.ends c.others ≡ said → (failed : Option Addition) → c.failed ≡ failed → EachEnd Behind (after_session InMemory 0 made_archive c next said failed)
       session_left None is failed has = unrefused_left is failed
       session_left (Some t) is None has = λ end ends. refused_left t is has end
-      session_left (Some t) is (Some addition) has = λ did. job_left c came outcome.read t is did.report did.printed (written_end files clock made_words made_archive no_facts [] c came device behind known 0 t addition has did)
+      session_left (Some t) is (Some addition) has = λ did. job_left c came outcome.read.0 t is did.report did.printed (written_end files clock made_words made_archive no_facts [] c came device behind known 0 t addition has did)
 
     load_left : EachEnd Behind (made_load_plan device clock seed)
     load_left = λ moment' clocked c outcome. session_left moment' clocked c outcome (reported_of 1 c.ends c.others) refl c.failed refl

@@ -109,5 +109,6 @@ module _ (seed : ℕ) where
     there = dumps_there;
     g = setting_at moment;
     given = record { head = refl; route_is = refl; moment = clocked; found = tt; asked = refl };
+    told = λ paged. omega (arith, paged);
     outcome = subst (λ (l : List (Option (List ℕ))). IsJobsOutcome no_facts made_archive (setting_at moment) 1 l c) (sym contents_are) came.came;
   }

@@ -1,6 +1,6 @@
 -- A refusal says that a file wasn't read only where one wasn't: of `query`, of `create`.
 use Rattle.std.proofs.Common.{◌≡◌, inl, inr, ℕ, ℤ, ◌+◌, ◌≤◌, List, [], ◌∷◌, length, Bool, true, false, Option, Some, None, refl, sym, ap, subst, arith}
-use Rattle.std.specs.Prelude.{Result, Ok, Err}
+use Rattle.std.specs.Prelude.{IsTrue, Result, Ok, Err}
 use Rattle.arch_disk.specs.Disk.{Device}
 use Rattle.asks.specs.declared.ask.Ask.{Ask}
 use Rattle.mdb_items.specs.declared.sheet.RawMdb.{RawMdb}
@@ -17,13 +17,13 @@ use Rattle.ssql_types.specs.declared.statement.TypedStatement.{TypedStatement}
 use Rattle.archive_store.specs.Head.{Head}
 use Rattle.archive_store.specs.Entries.{FilledArchive}
 use Rattle.script_answers.specs.Scripts.{IsScriptAnswer, after_answer}
-use Rattle.script_answers.specs.Statements.{packet_names}
+use Rattle.script_answers.specs.Statements.{packet_names, statements_text}
 use Rattle.command_plans.specs.Plan.{CommandPlan, EachEnd, Way, and_then, is_interruption, map_done}
 use Rattle.command_plans.proofs.Plans.{each_end, end_of}
 use Rattle.command_words.specs.Job.{Create, CreateWords, Query, Sql}
 use Rattle.command_runs.specs.declared.report.Report.{Report}
 use Rattle.command_runs.specs.Command.{ArchiveFound, DamageFound, HasEffects, NoneFound, OpeningResult, Progress, after_opening, archive_opened, nothing_done, opening_plan}
-use Rattle.ask_answers.specs.Asks.{after_asks_check, archive_asks_refusal, with_sources}
+use Rattle.ask_answers.specs.Asks.{after_asks_check, archive_asks_refusal, archive_asks_text, with_sources}
 use Rattle.query_commands.specs.Query.{answering_plan, answers_plan, archive_asks_plan, query_plan}
 use Rattle.query_commands.specs.Sql.{archive_text_plan, sql_plan, statements_plan, text_plan}
 use Rattle.archive_commands.specs.Create.{IsHeadAnswer, after_making, checking_plan, create_plan, head_inputs, named_inputs, named_script_plan, new_archive_plan, script_behind_plan}
@@ -31,6 +31,7 @@ use Rattle.command_laws.specs.Calls.{Call, IsRun, effects}
 use Rattle.command_laws.specs.Create.{create_files}
 use Rattle.command_laws.specs.NamedFiles.{HasAsksSheet, HasFile, HasScript, HasSheets, IsFirstUnread, IsReadingRefusal, IsUnreadFor, named_file}
 use Rattle.command_laws.proofs.FileRefusals.{TellsOfOutside, no_asks, no_asks_sheet, no_head, no_interruption, no_script, reading_tells}
+use Rattle.command_laws.proofs.Pages.{printed_left}
 use Rattle.command_laws.proofs.Readings.{IsUnreadAmong, among_all, at_first, behind_it, each_behind, each_read, each_sheets, sheet_files}
 use Rattle.command_laws.proofs.Runs.{by_job, none_or_some, same_refusal}
 use Rattle.command_laws.proofs.Ways.{each_in_turn}
@@ -83,35 +84,40 @@ module _ {D : Type 0} (device : Device D) (e : Call D) (files : Files) (name : L
   opening_asked (DamageFound file at) = λ did. other device e files Sheet (Damaged file at) (ap (λ (r : Report). r.refusal) did.report) (λ tells. tells)
   opening_asked (ArchiveFound filled) = tt
 
-  checked_asked : (asks : List Ask) (filled : FilledArchive) (found : Option Refusal) → found ≡ archive_asks_refusal filled.plain asks
-      → EachEnd Asked (and_then (after_asks_check (archive_opened 0 filled) asks found) (answers_plan filled))
-  checked_asked asks filled None is = (
-    λ did. cut device e files Sheet OutOfMemory (ap (λ (r : Report). r.refusal) did.report) refl,
-    (λ did. cut device e files Sheet WriteFault (ap (λ (r : Report). r.refusal) did.report) refl, λ did. none device e files Sheet (ap (λ (r : Report). r.refusal) did.report)),
-  )
-  checked_asked asks filled (Some refusal) is = λ did. other device e files Sheet refusal (ap (λ (r : Report). r.refusal) did.report) (no_asks filled.plain asks refusal (sym is))
+  abbrev Tells : Type 0
+  Tells = IsTrue device.is_transparent
 
-  answering_asked : (sheet : Result (List Ask) Refusal) → HasAsksSheet files name sheet → (filled : FilledArchive) → EachEnd Asked (answering_plan sheet filled)
-  answering_asked (Err refusal) has filled = λ did. other device e files Sheet refusal (ap (λ (r : Report). r.refusal) did.report) (no_asks_sheet has.octets refusal (sym has.sheet_is))
-  answering_asked (Ok asks) has filled = (λ did. cut device e files Sheet OutOfMemory (ap (λ (r : Report). r.refusal) did.report) refl, λ found is. checked_asked asks filled found is)
+  checked_asked : Tells → (asks : List Ask) (filled : FilledArchive) (found : Option Refusal) → found ≡ archive_asks_refusal filled.plain asks
+      → EachEnd Asked (and_then (after_asks_check (archive_opened 0 filled) asks found) (answers_plan Tells filled))
+  checked_asked tells asks filled None is =
+      printed_left Asked Tells tells (archive_opened 0 filled) (archive_asks_text filled 1 asks)
+      (λ did. cut device e files Sheet OutOfMemory (ap (λ (r : Report). r.refusal) did.report) refl)
+      (λ did. cut device e files Sheet DiskFault (ap (λ (r : Report). r.refusal) did.report) refl)
+      (λ did. cut device e files Sheet WriteFault (ap (λ (r : Report). r.refusal) did.report) refl)
+      (λ did. none device e files Sheet (ap (λ (r : Report). r.refusal) did.report))
+  checked_asked tells asks filled (Some refusal) is = λ did. other device e files Sheet refusal (ap (λ (r : Report). r.refusal) did.report) (no_asks filled.plain asks refusal (sym is))
 
-  archive_asked : (sheet : Result (List Ask) Refusal) → HasAsksSheet files name sheet → EachEnd Asked (archive_asks_plan device e.disk sheet)
-  archive_asked sheet has = (
+  answering_asked : Tells → (sheet : Result (List Ask) Refusal) → HasAsksSheet files name sheet → (filled : FilledArchive) → EachEnd Asked (answering_plan Tells sheet filled)
+  answering_asked tells (Err refusal) has filled = λ did. other device e files Sheet refusal (ap (λ (r : Report). r.refusal) did.report) (no_asks_sheet has.octets refusal (sym has.sheet_is))
+  answering_asked tells (Ok asks) has filled = (λ did. cut device e files Sheet OutOfMemory (ap (λ (r : Report). r.refusal) did.report) refl, λ found is. checked_asked tells asks filled found is)
+
+  archive_asked : Tells → (sheet : Result (List Ask) Refusal) → HasAsksSheet files name sheet → EachEnd Asked (archive_asks_plan device e.disk sheet)
+  archive_asked tells sheet has = (
     λ did. cut device e files Sheet OutOfMemory (ap (λ (r : Report). r.refusal) did.report) refl,
-    each_end Asked (opening_plan 0 device e.disk) (answering_plan sheet) (
+    each_end Asked (opening_plan 0 device e.disk) (answering_plan Tells sheet) (
       λ did. cut device e files Sheet OutOfMemory (ap (λ (r : Report). r.refusal) did.report) refl,
       (λ did. cut device e files Sheet DiskFault (ap (λ (r : Report). r.refusal) did.report) refl, λ held h. opening_asked held),
-    ) (λ filled. answering_asked sheet has filled),
+    ) (λ filled. answering_asked tells sheet has filled),
   )
 
-  each_asked : EachEnd Asked (query_plan device e.disk (Some files) name)
-  each_asked = each_read device e OfSheet files SheetOctets (λ octets. asks_of octets) name 0 (λ (sheet : Result (List Ask) Refusal). map_done (with_sources 1) (archive_asks_plan device e.disk sheet))
+  each_asked : Tells → EachEnd Asked (query_plan device e.disk (Some files) name)
+  each_asked tells = each_read device e OfSheet files SheetOctets (λ octets. asks_of octets) name 0 (λ (sheet : Result (List Ask) Refusal). map_done (with_sources 1) (archive_asks_plan device e.disk sheet))
       (λ refusal is cause. unread device e files Sheet refusal (ap (λ (r : Report). r.refusal) is.report) (at_first files SheetOctets name [] refusal cause))
-      (λ octets file. each_behind device e OfSheet files 1 (archive_asks_plan device e.disk (asks_of octets)) (archive_asked (asks_of octets) (record { octets = octets; file = file; sheet_is = refl })))
+      (λ octets file. each_behind device e OfSheet files 1 (archive_asks_plan device e.disk (asks_of octets)) (archive_asked tells (asks_of octets) (record { octets = octets; file = file; sheet_is = refl })))
 
   pub only_asked : (clock : Option ℤ) → IsRun device e files clock (Query name) → OfSheet
   only_asked clock run = by_job device e files clock (Query name) run OfSheet (λ did. cut device e files Sheet OutOfMemory (ap (λ (r : Report). r.refusal) did.report) refl)
-      (λ way allows end. end_of Asked (query_plan device e.disk (Some files) name) way each_asked allows end.did)
+      (λ way allows end. end_of Asked (query_plan device e.disk (Some files) name) way (each_asked run.transparent) allows end.did)
 
 -- ---- `query --sql`
 
@@ -130,33 +136,38 @@ module _ {D : Type 0} (device : Device D) (e : Call D) (files : Files) (name : L
   opening_stated (DamageFound file at) = λ did. other device e files Script (Damaged file at) (ap (λ (r : Report). r.refusal) did.report) (λ tells. tells)
   opening_stated (ArchiveFound filled) = tt
 
-  module _ (text : List ℕ) (file : HasFile files ScriptOctets name text) where
+  abbrev Told : Type 0
+  Told = IsTrue device.is_transparent
+
+  module _ (told : Told) (text : List ℕ) (file : HasFile files ScriptOctets name text) where
     answer_stated : (filled : FilledArchive) (answer : Result (List TypedStatement) Refusal)
         → IsScriptAnswer ScriptPlace.Sql filled.plain.head.tables (packet_names filled.plain.head filled.plain.history) text answer
-        → EachEnd Stated (and_then (after_answer (archive_opened 1 filled) answer) (statements_plan filled))
+        → EachEnd Stated (and_then (after_answer (archive_opened 1 filled) answer) (statements_plan Told filled))
     answer_stated filled (Err refusal) is = λ did. other device e files Script refusal (ap (λ (r : Report). r.refusal) did.report)
         (no_script ScriptPlace.Sql filled.plain.head.tables (packet_names filled.plain.head filled.plain.history) text refusal file.short is)
-    answer_stated filled (Ok statements) is = (
-      λ did. cut device e files Script OutOfMemory (ap (λ (r : Report). r.refusal) did.report) refl,
-      (λ did. cut device e files Script WriteFault (ap (λ (r : Report). r.refusal) did.report) refl, λ did. none device e files Script (ap (λ (r : Report). r.refusal) did.report)),
-    )
+    answer_stated filled (Ok statements) is =
+        printed_left Stated Told told (archive_opened 1 filled) (statements_text filled.plain statements)
+        (λ did. cut device e files Script OutOfMemory (ap (λ (r : Report). r.refusal) did.report) refl)
+        (λ did. cut device e files Script DiskFault (ap (λ (r : Report). r.refusal) did.report) refl)
+        (λ did. cut device e files Script WriteFault (ap (λ (r : Report). r.refusal) did.report) refl)
+        (λ did. none device e files Script (ap (λ (r : Report). r.refusal) did.report))
 
     archive_stated : EachEnd Stated (archive_text_plan device e.disk text)
     archive_stated = (
       λ did. cut device e files Script OutOfMemory (ap (λ (r : Report). r.refusal) did.report) refl,
-      each_end Stated (opening_plan 1 device e.disk) (text_plan text) (
+      each_end Stated (opening_plan 1 device e.disk) (text_plan Told text) (
         λ did. cut device e files Script OutOfMemory (ap (λ (r : Report). r.refusal) did.report) refl,
         (λ did. cut device e files Script DiskFault (ap (λ (r : Report). r.refusal) did.report) refl, λ held h. opening_stated held),
       ) (λ filled. (λ did. cut device e files Script OutOfMemory (ap (λ (r : Report). r.refusal) did.report) refl, λ answer is. answer_stated filled answer is)),
     )
 
-  each_stated : EachEnd Stated (sql_plan device e.disk (Some files) name)
-  each_stated = each_read device e OfScript files ScriptOctets (λ octets. octets) name 0 (archive_text_plan device e.disk)
-      (λ refusal is cause. unread device e files Script refusal (ap (λ (r : Report). r.refusal) is.report) (at_first files ScriptOctets name [] refusal cause)) archive_stated
+  each_stated : Told → EachEnd Stated (sql_plan device e.disk (Some files) name)
+  each_stated told = each_read device e OfScript files ScriptOctets (λ octets. octets) name 0 (archive_text_plan device e.disk)
+      (λ refusal is cause. unread device e files Script refusal (ap (λ (r : Report). r.refusal) is.report) (at_first files ScriptOctets name [] refusal cause)) (archive_stated told)
 
   pub only_stated : (clock : Option ℤ) → IsRun device e files clock (Sql name) → OfScript
   only_stated clock run = by_job device e files clock (Sql name) run OfScript (λ did. cut device e files Script OutOfMemory (ap (λ (r : Report). r.refusal) did.report) refl)
-      (λ way allows end. end_of Stated (sql_plan device e.disk (Some files) name) way each_stated allows end.did)
+      (λ way allows end. end_of Stated (sql_plan device e.disk (Some files) name) way (each_stated run.transparent) allows end.did)
 
 -- ---- `create`
 

@@ -15,8 +15,9 @@ use Rattle.command_plans.specs.Plan.{CommandPlan, EachEnd, Requires, Way, and_th
 use Rattle.command_plans.proofs.Plans.{each_end, end_of}
 use Rattle.command_words.specs.Job.{Query}
 use Rattle.command_runs.specs.declared.report.Report.{Report}
-use Rattle.command_runs.specs.Command.{nothing_done, ArchiveFound, DamageFound, HasEffects, NoneFound, OpeningResult, Progress, after_opening, archive_opened, opening_plan}
+use Rattle.command_runs.specs.Command.{nothing_done, ArchiveFound, DamageFound, HasEffects, NoneFound, OpeningResult, Progress, after_opening, archive_opened, opening_plan, printing_plan}
 use Rattle.command_runs.specs.ReadOnly.{IsReadAsBefore, IsReadOnly}
+use Rattle.command_runs.specs.Reading.{OnPages, printing_read_plan}
 use Rattle.command_runs.specs.Report.{read_only, unopened}
 use Rattle.ask_answers.specs.Asks.{after_asks_check, archive_asks_refusal, archive_asks_text, with_sources}
 use Rattle.query_commands.specs.Query.{answering_plan, answers_plan, archive_asks_plan, query_plan}
@@ -28,6 +29,7 @@ use Rattle.command_laws.proofs.Files.{one_asks_sheet, same_asks}
 use Rattle.command_laws.proofs.Left.{all_opened, all_unopened, not_asked}
 use Rattle.command_laws.proofs.OnlyUnread.{of_one, only_asked}
 use Rattle.command_laws.proofs.OverRows.{asks_over_rows}
+use Rattle.command_laws.proofs.Pages.{printed_left}
 use Rattle.command_laws.proofs.Readings.{IsUnread, each_read, read_due, read_or_not, unread_due}
 use Rattle.command_laws.proofs.Runs.{IsEndOf, all_is_some, by_due, by_job, no_archive_due, no_archive_silent, no_memory, none_is_some, none_or_some, or_disk_failed, or_no_memory, or_unwritten, refused, succeeded}
 use Rattle.command_laws.proofs.Ways.{each_map_done}
@@ -47,6 +49,9 @@ none_refused r refusal none some = let never : ◌≡◌ {A = Option Refusal} No
 module _ {D : Type 0} (device : Device D) (e : Call D) (files : Files) (name : List ℕ) (known : IsTrue device.is_transparent) where
   abbrev Leaves : Way Progress ⊥ → Type 0
   Leaves way = HasEffects device (effects e) way → IsLeft device e files name
+
+  abbrev Tells : Type 0
+  Tells = IsTrue device.is_transparent
 
   -- no archive was opened
   left_unopened : (refusal : Refusal) → e.report ≡ unopened (Some refusal) → Prints e [] → IsReadAsBefore device e.disk e.disk' → IsLeft device e files name
@@ -97,28 +102,27 @@ module _ {D : Type 0} (device : Device D) (e : Call D) (files : Files) (name : L
   opening_left (ArchiveFound filled) = tt
 
   answers_left : (asks : List Ask) → HasAsksSheet files name (Ok asks) → (filled : FilledArchive) → archive_asks_refusal filled.plain asks ≡ None
-      → EachEnd (λ way. Leaves (way_map_done (with_sources 1) way)) (answers_plan filled asks)
-  answers_left asks has filled answerable = (
-    λ did. left_printed filled (did.disk.1 known) asks has answerable (Some OutOfMemory) did.report did.printed (refused_whole filled OutOfMemory did.report),
-    (
-      λ did. left_printed filled (did.disk.1 known) asks has answerable (Some WriteFault) did.report did.printed (refused_whole filled WriteFault did.report),
-      λ did. left_printed filled (did.disk.1 known) asks has answerable None did.report (all_is_some e (archive_asks_text filled 1 asks) did.printed) (λ ok. did.printed),
-    ),
-  )
+      → EachEnd (λ way. Leaves (way_map_done (with_sources 1) way)) (answers_plan Tells filled asks)
+  answers_left asks has filled answerable =
+      printed_left (λ way. Leaves (way_map_done (with_sources 1) way)) Tells known (archive_opened 0 filled) (archive_asks_text filled 1 asks)
+      (λ did. left_printed filled (did.disk.1 known) asks has answerable (Some OutOfMemory) did.report did.printed (refused_whole filled OutOfMemory did.report))
+      (λ did. left_printed filled (did.disk.1 known) asks has answerable (Some DiskFault) did.report did.printed (refused_whole filled DiskFault did.report))
+      (λ did. left_printed filled (did.disk.1 known) asks has answerable (Some WriteFault) did.report did.printed (refused_whole filled WriteFault did.report))
+      (λ did. left_printed filled (did.disk.1 known) asks has answerable None did.report (all_is_some e (archive_asks_text filled 1 asks) did.printed) (λ ok. did.printed))
 
   checked_left : (asks : List Ask) → HasAsksSheet files name (Ok asks) → (filled : FilledArchive) (found : Option Refusal) → found ≡ archive_asks_refusal filled.plain asks
-      → EachEnd (λ way. Leaves (way_map_done (with_sources 1) way)) (and_then (after_asks_check (archive_opened 0 filled) asks found) (answers_plan filled))
+      → EachEnd (λ way. Leaves (way_map_done (with_sources 1) way)) (and_then (after_asks_check (archive_opened 0 filled) asks found) (answers_plan Tells filled))
   checked_left asks has filled None is = answers_left asks has filled (sym is)
   checked_left asks has filled (Some refusal) is = λ did. left_silent filled (did.disk.1 known) refusal did.report did.printed
 
-  answering_left : (sheet : Result (List Ask) Refusal) → HasAsksSheet files name sheet → (filled : FilledArchive) → EachEnd (λ way. Leaves (way_map_done (with_sources 1) way)) (answering_plan sheet filled)
+  answering_left : (sheet : Result (List Ask) Refusal) → HasAsksSheet files name sheet → (filled : FilledArchive) → EachEnd (λ way. Leaves (way_map_done (with_sources 1) way)) (answering_plan Tells sheet filled)
   answering_left (Err refusal) has filled = λ did. left_silent filled (did.disk.1 known) refusal did.report did.printed
   answering_left (Ok asks) has filled = (λ did. left_silent filled (did.disk.1 known) OutOfMemory did.report did.printed, λ found is. checked_left asks has filled found is)
 
   archive_left : (sheet : Result (List Ask) Refusal) → HasAsksSheet files name sheet → EachEnd (λ way. Leaves (way_map_done (with_sources 1) way)) (archive_asks_plan device e.disk sheet)
   archive_left sheet has = (
     λ did. left_unopened OutOfMemory did.report did.printed (not_asked device e did.disk),
-    each_end (λ way. Leaves (way_map_done (with_sources 1) way)) (opening_plan 0 device e.disk) (answering_plan sheet) (
+    each_end (λ way. Leaves (way_map_done (with_sources 1) way)) (opening_plan 0 device e.disk) (answering_plan Tells sheet) (
       λ did. left_unopened OutOfMemory did.report did.printed (did.disk.1 known),
       (λ did. left_unopened DiskFault did.report did.printed (did.disk.1 known), λ held h. opening_left held),
     ) (λ filled. answering_left sheet has filled),
@@ -142,11 +146,11 @@ module _ {D : Type 0} (device : Device D) (e : Call D) (files : Files) (name : L
     where
       go : Requires (behind_sheet sheet) way → IsRefusedBy device e refusal
       go (inl cut) = inr (no_memory e way at _ cut)
-      go (inr d) = no_archive_due e way at (with_sources 1) (λ s. refl) 0 (answering_plan sheet) refusal is d
+      go (inr d) = no_archive_due e way at (with_sources 1) (λ s. refl) 0 (answering_plan Tells sheet) refusal is d
 
   module _ (way : Way Progress ⊥) (at : IsEndOf device e way) (filled : FilledArchive) (stands : StandsFilled (device.reads e.disk) filled) where
     abbrev Answering : Result (List Ask) Refusal → Type 0
-    Answering sheet = Requires (map_done (with_sources 1) (answering_plan sheet filled)) way
+    Answering sheet = Requires (map_done (with_sources 1) (answering_plan Tells sheet filled)) way
 
     archive_due : (sheet : Result (List Ask) Refusal) → Requires (behind_sheet sheet) way → Answering sheet ⊎ WasInterrupted device e
     archive_due sheet (inl is) = or_no_memory e way at (Answering sheet) _ is
@@ -162,12 +166,16 @@ module _ {D : Type 0} (device : Device D) (e : Call D) (files : Files) (name : L
 
     answers_due : (asks : List Ask) → archive_asks_refusal filled.plain asks ≡ None → Answering (Ok asks) → Succeeded e ⊎ WasInterrupted device e
     answers_due asks answerable (inl is) = or_no_memory e way at (Succeeded e) _ is
-    answers_due asks answerable (inr found) = printing (found None (sym answerable))
+    answers_due asks answerable (inr found) = read (found None (sym answerable) (archive_asks_text filled 1 asks) (λ tells. refl))
       where
-        printing : Requires (map_done (with_sources 1) (answers_plan filled asks)) way → Succeeded e ⊎ WasInterrupted device e
-        printing (inl is) = or_no_memory e way at (Succeeded e) _ is
-        printing (inr (inl is)) = or_unwritten e way at (Succeeded e) _ is
-        printing (inr (inr is)) = succeeded e way at _ is
+        written : Requires (map_done (with_sources 1) (printing_plan (archive_opened 0 filled) (archive_asks_text filled 1 asks))) way → Succeeded e ⊎ WasInterrupted device e
+        written (inl is) = or_unwritten e way at (Succeeded e) _ is
+        written (inr is) = succeeded e way at _ is
+
+        read : Requires (map_done (with_sources 1) (printing_read_plan (OnPages Tells) (archive_opened 0 filled) (archive_asks_text filled 1 asks))) way → Succeeded e ⊎ WasInterrupted device e
+        read (inl is) = or_no_memory e way at (Succeeded e) _ is
+        read (inr (inl is)) = or_disk_failed e way at (Succeeded e) _ is (λ never. cc (never))
+        read (inr (inr asked)) = written (asked None tt)
 
     complete_due : (asks : List Ask) → HasAsksSheet files name (Ok asks) → archive_asks_refusal filled.plain asks ≡ None → Requires (query_plan device e.disk (Some files) name) way
         → Succeeded e ⊎ WasInterrupted device e

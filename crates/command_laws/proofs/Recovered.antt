@@ -18,14 +18,15 @@ use Rattle.archive_store.specs.Entries.{FilledArchive}
 use Rattle.archive_store.specs.LateFills.{late_in_archive}
 use Rattle.archive_store.specs.Stands.{StandsFilled, StandsFor}
 use Rattle.archive_store.proofs.Exact.{filled_once}
-use Rattle.command_plans.specs.Plan.{EachEnd, Requires, Way}
+use Rattle.command_plans.specs.Plan.{OfDisk, Choose, CommandPlan, EachEnd, May, Requires, Way}
 use Rattle.command_plans.proofs.Plans.{each_end, end_of}
 use Rattle.command_words.specs.Job.{Recover}
 use Rattle.command_runs.specs.declared.report.Report.{Report}
 use Rattle.command_runs.specs.Command.{ArchiveFound, DamageFound, HasEffects, NoneFound, OpeningResult, Progress, after_opening, archive_opened, opening_plan, printing_plan}
 use Rattle.load_session.specs.During.{IsDuring, with_history}
 use Rattle.command_runs.specs.Durable.{FailedAtMostOnce}
-use Rattle.command_runs.specs.FillingPlan.{IsRecordCount, after_filling, all_filled}
+use Rattle.command_runs.specs.ArchiveWork.{known_of}
+use Rattle.command_runs.specs.FillingPlan.{IsFullFor, IsRecordCount, after_filling, all_filled, fill_failed}
 use Rattle.command_runs.specs.ReadOnly.{IsOpenedThen, IsReadAsBefore, IsReadOnly}
 use Rattle.command_runs.specs.Report.{read_only, unopened}
 use Rattle.command_runs.proofs.Openings.{plain_stands}
@@ -34,6 +35,7 @@ use Rattle.command_laws.specs.Calls.{Call, HasKeptRows, HasSameHistory, HeldArch
 use Rattle.command_laws.specs.HandedBack.{IsHandedBack, IsUpToDate}
 use Rattle.command_laws.specs.Recover.{IsRecovered}
 use Rattle.command_laws.proofs.Left.{is_unopened, kept_back, none_contained, not_asked, opened_once, read_back, since_opening, sound_moments, untouched}
+use Rattle.command_laws.proofs.Pages.{read_left}
 use Rattle.command_laws.proofs.Runs.{IsEndOf, all_is_some, by_due, by_job, no_archive_silent, none_is_some, none_or_some, opening_due, or_disk_failed, or_no_memory, or_unwritten, succeeded}
 
 -- a list between one and itself is that one
@@ -57,6 +59,12 @@ fits records late true is few =
     let more : nat_lt (limit_of Records) (records + late) ≡ true = sym is in
     let passed : limit_of Records < records + late = grind (arith, nat_tests, more) in absurd (omega (arith, passed, few))
 fits records late false is few = refl
+
+-- fills so many intervals that are late, once their rows were read
+abbrev filling_late : {D : Type 0} → Device D → D → FilledArchive → ℕ → CommandPlan Progress ⊥
+filling_late device disk before late =
+    May OfDisk (fill_failed before before.plain.history (archive_with_fills before))
+    (Choose (IsFullFor (IsRecordCount device disk) late) (after_filling (archive_with_fills before) (printing_plan (all_filled before before.plain.history (archive_with_fills before)) (recover_line before))))
 
 -- all but that an archive is filled
 record IsLeft {D : Type 0} (device : Device D) (e : Call D) : Type 0 where
@@ -124,7 +132,7 @@ module _ {D : Type 0} (device : Device D) (e : Call D) (known : IsTrue device.is
     only_read refusal only report some filled = left_opened before only.stands (λ (c : Image). StandsFilled c before) (λ c s. plain_stands c before s) only.images
         (plain_stands (device.reads e.disk') before (subst (λ (i : Image). StandsFilled i before) (sym only.reads) only.stands)) refusal report some filled (λ once. read_back device e before only)
 
-    none_late_left : length (late_in_archive before) ≡ zero → EachEnd HasLeft (late_plan (IsRecordCount device e.disk) before zero)
+    none_late_left : length (late_in_archive before) ≡ zero → EachEnd HasLeft (late_plan (known_of device e.disk) before zero)
     none_late_left none = (
       λ did. let only = did.disk.1 known in only_read (Some OutOfMemory) only did.report (silent did.printed) (refused before only.stands OutOfMemory did.report),
       (
@@ -140,15 +148,17 @@ module _ {D : Type 0} (device : Device D) (e : Call D) (known : IsTrue device.is
     During = IsDuring before.plain before.plain.history []
 
     -- some intervals were late
-    some_late_left : (late : ℕ) → EachEnd HasLeft (late_plan (IsRecordCount device e.disk) before (suc late))
+    some_late_left : (late : ℕ) → EachEnd HasLeft (late_plan (known_of device e.disk) before (suc late))
     some_late_left late = (
       λ did. let x = did.disk.1 known in left_opened before x.stands During (during_same before) x.images (plain_stands (device.reads e.disk') _ x.kept.durable.reads)
           (Some OutOfMemory) did.report (silent did.printed) (refused before x.stands OutOfMemory did.report) (λ once. kept_back device e before before.plain.history x.kept),
-      (
-        λ did. let x = did.disk.1 known in left_opened before x.stands During (during_same before) x.images x.durable.reads
-            (Some DiskFault) did.report (silent did.printed) (refused before x.stands DiskFault did.report) (λ once. kept_back device e before before.plain.history (x.healed once)),
-        λ is_full counted. go is_full,
-      ),
+      read_left HasLeft (IsTrue device.is_transparent) known (archive_with_fills before) (filling_late device e.disk before (suc late))
+          (λ did. let x = did.disk.1 known in left_opened before x.stands During (during_same before) x.images (plain_stands (device.reads e.disk') _ x.kept.durable.reads)
+          (Some DiskFault) did.report (silent did.printed) (refused before x.stands DiskFault did.report) (λ once. kept_back device e before before.plain.history x.kept)) (
+            λ did. let x = did.disk.1 known in left_opened before x.stands During (during_same before) x.images x.durable.reads
+                (Some DiskFault) did.report (silent did.printed) (refused before x.stands DiskFault did.report) (λ once. kept_back device e before before.plain.history (x.healed once)),
+            λ is_full counted. go is_full,
+          ),
     )
       where
         go : (is_full : Bool) → EachEnd HasLeft (after_filling (archive_with_fills before) (printing_plan (all_filled before before.plain.history (archive_with_fills before)) (recover_line before)) is_full)
@@ -164,14 +174,14 @@ module _ {D : Type 0} (device : Device D) (e : Call D) (known : IsTrue device.is
         go true = λ did. let x = did.disk.1 known in left_opened before x.stands During (during_same before) x.images (plain_stands (device.reads e.disk') _ x.kept.durable.reads)
             (Some (Limit Records (limit_of Records))) did.report (silent did.printed) (refused before x.stands (Limit Records (limit_of Records)) did.report) (λ once. kept_back device e before before.plain.history x.kept)
 
-    recovering_left : (late : ℕ) → length (late_in_archive before) ≡ late → EachEnd HasLeft (late_plan (IsRecordCount device e.disk) before late)
+    recovering_left : (late : ℕ) → length (late_in_archive before) ≡ late → EachEnd HasLeft (late_plan (known_of device e.disk) before late)
     recovering_left zero none = none_late_left none
     recovering_left (suc late) some = some_late_left late
 
   each_left : EachEnd HasLeft (recover_plan device e.disk)
   each_left = (
     λ did. left_unopened OutOfMemory did.report did.printed (not_asked device e did.disk),
-    each_end HasLeft (opening_plan 0 device e.disk) (recovering_plan (IsRecordCount device e.disk)) (
+    each_end HasLeft (opening_plan 0 device e.disk) (recovering_plan (known_of device e.disk)) (
       λ did. left_unopened OutOfMemory did.report did.printed (did.disk.1 known),
       (λ did. left_unopened DiskFault did.report did.printed (did.disk.1 known), λ held h. opening_left held),
     )
@@ -194,15 +204,19 @@ module _ {D : Type 0} (device : Device D) (e : Call D) (known : IsTrue device.is
       let of = count known in
       let same : records ≡ length bodies = of.2 ∙ ap (λ (b : List (List ℕ)). length b) (records_once (device.reads e.disk 0) of.0 bodies of.1 has) in omega (arith, same, few)
 
-  late_due : (late : ℕ) → length (late_in_archive before) ≡ late → Requires (late_plan (IsRecordCount device e.disk) before late) way → Due
+  filling_due : (late : ℕ) → length (late_in_archive before) ≡ suc late → Requires (filling_late device e.disk before (suc late)) way → Due
+  filling_due late some (inl is) = or_disk_failed e way at (Succeeded e) _ is (λ never. cc (never))
+  filling_due late some (inr chosen) =
+      let s = all_filled before before.plain.history (archive_with_fills before) in
+      let most = counted chosen.1.0 chosen.1.1 in
+      printing_due s (subst (λ (b : Bool). Requires (after_filling (archive_with_fills before) (printing_plan s (recover_line before)) b) way) (fits chosen.1.0 (suc late) chosen.0 chosen.1.2 (omega (arith, most, some))) chosen.2)
+
+  late_due : (late : ℕ) → length (late_in_archive before) ≡ late → Requires (late_plan (known_of device e.disk) before late) way → Due
   late_due zero none (inl is) = or_no_memory e way at (Succeeded e) _ is
   late_due zero none (inr required) = printing_due (archive_opened 0 before) required
   late_due (suc late) some (inl is) = or_no_memory e way at (Succeeded e) _ is
   late_due (suc late) some (inr (inl is)) = or_disk_failed e way at (Succeeded e) _ is (λ never. cc (never))
-  late_due (suc late) some (inr (inr chosen)) =
-      let s = all_filled before before.plain.history (archive_with_fills before) in
-      let most = counted chosen.1.0 chosen.1.1 in
-      printing_due s (subst (λ (b : Bool). Requires (after_filling (archive_with_fills before) (printing_plan s (recover_line before)) b) way) (fits chosen.1.0 (suc late) chosen.0 chosen.1.2 (omega (arith, most, some))) chosen.2)
+  late_due (suc late) some (inr (inr asked)) = filling_due late some (asked None tt)
 
   recovering_due : Requires (recover_plan device e.disk) way → Due
   recovering_due (inl is) = or_no_memory e way at (Succeeded e) _ is
@@ -228,7 +242,7 @@ module _ {D : Type 0} (device : Device D) (e : Call D) (files : Files) (clock : 
     in_order = left.in_order;
     untouched = left.untouched;
     no_archive = λ refusal is. (
-      by_due device e files clock Recover run (IsRefusedBy device e refusal) (λ cut. inr cut) (λ way required at. opening_due e way at 0 (recovering_plan (IsRecordCount device e.disk)) refusal is required),
+      by_due device e files clock Recover run (IsRefusedBy device e refusal) (λ cut. inr cut) (λ way required at. opening_due e way at 0 (recovering_plan (known_of device e.disk)) refusal is required),
       no_archive_silent device e refusal left.report is,
     );
     complete = λ before bodies stands has few. by_due device e files clock Recover run (Succeeded e ⊎ WasInterrupted device e) (λ cut. inr cut)

@@ -11,7 +11,7 @@ use Rattle.asks.specs.declared.ask.Ask.{Ask}
 use Rattle.refusals.specs.declared.refusal.BadKind.{BadKind}
 use Rattle.refusals.specs.declared.refusal.BadKind.TheVariants as bad
 use Rattle.refusals.specs.declared.refusal.Refusal.{Refusal}
-use Rattle.refusals.specs.declared.refusal.Refusal.TheVariants.{BadPacket, DiskFault, Limit, NeedsReopen, OutOfMemory, ReadFault}
+use Rattle.refusals.specs.declared.refusal.Refusal.TheVariants.{BadPacket, Damaged, DiskFault, Limit, NeedsReopen, OutOfMemory, ReadFault}
 use Rattle.refusals.specs.declared.refusal.Which.{Which}
 use Rattle.refusals.specs.declared.refusal.Which.TheVariants.{DumpOctets, Records}
 use Rattle.refusals.specs.Limits.{limit_of}
@@ -88,7 +88,7 @@ module _ (files : Files) (clock : Option ℤ) (words : LoadWords) (before : Fill
     pub link : e.report.link ≡ t.link
     pub holds : (length words.dumps ≡ 1 → StandsFor (device.reads e.disk') (with_history before.plain c.reached)) → IsReached device e files now words before c.reached
     pub exact : ((rows : List Row) → c.failed ≡ Some (Rows rows) → ⊥) → StandsFor (device.reads e.disk') (with_history before.plain c.reached)
-    pub faulted : IsSome c.failed → raised (device.fault_count e.disk) ≤ device.fault_count e.disk'
+    pub faulted : IsSome c.failed ⊎ (c.unread ≡ true) → raised (device.fault_count e.disk) ≤ device.fault_count e.disk'
     pub pending : (faults : ℕ) → t.refusal ≡ NeedsReopen faults → IsSome c.failed → IsCountedSince device e.disk e.disk' (Some faults)
     pub recorded : (number : ℕ) → t.refusal ≡ Limit Records number → AreRecordsPassed device e before c.reached
 
@@ -135,7 +135,7 @@ module _ (files : Files) (clock : Option ℤ) (words : LoadWords) (before : Fill
 
     module _ (first : IsFirstRefused files clock words before facts asks c came t) where
       abbrev Sent : Type 0
-      Sent = IsSentInto before.plain.exponent c.failed c.reached (to files clock words before facts asks c came first.link) (get files first.name) first.loads.put first.end
+      Sent = IsSentInto facts before.plain.exponent c.failed c.reached (to files clock words before facts asks c came first.link) (get files first.name) first.loads.put first.end
 
       abbrev reported_of_dump : is_of_dump first.end ≡ true → (t.refusal ≡ DiskFault → ⊥) → IsReportedOf device e (load_given files clock words before) first.link
       reported_of_dump of_dump apart = record {
@@ -160,7 +160,7 @@ module _ (files : Files) (clock : Option ℤ) (words : LoadWords) (before : Fill
           let within = place_within words.dumps first.comes.place first.name first.comes.name_is in
           let number = first.comes.number in
           let same : words.link ≡ first.link = omega (arith, number, within, one) in
-          (sent.alone came.outcome.more came.outcome.grown
+          (sent.alone came.told came.outcome.more came.outcome.grown
           (subst (λ (n : ℕ). AllByRecursion (λ (row : Row). row.link ≡ n) came.outcome.more) same (only_rows files clock words before facts asks c came one))).0
 
       -- the next batch of a link passes a limit
@@ -190,16 +190,18 @@ module _ (files : Files) (clock : Option ℤ) (words : LoadWords) (before : Fill
           inr (of_records.0, end.recorded number (sym same ∙ ap (λ (w : Which). Limit w number) of_records.0))
 
       -- a link's sending was refused
-      sending_refused : (sent : Sent) (refusal : Refusal) → refusal ≡ t.refusal → IsSentCause before.plain.exponent c.failed (to files clock words before facts asks c came first.link) sent.came_to (Some refusal)
+      sending_refused : (sent : Sent) (refusal : Refusal) → refusal ≡ t.refusal → IsSentCause facts before.plain.exponent c.failed (to files clock words before facts asks c came first.link) sent.came_to (Some refusal)
           → IsReportedCause t
       sending_refused sent OutOfMemory same cause = inr (inr (inl (subst IsCut same tt)))
-      sending_refused sent DiskFault same cause = inr (inr (inl (subst IsCut same (end.faulted (subst IsSome (sym cause) refl)))))
+      sending_refused sent DiskFault same cause = inr (inr (inl (subst IsCut same (end.faulted (came.outcome.faulted t reported_is (sym same))))))
+      sending_refused sent (Damaged file at) same cause = absurd (cause came.told)
       sending_refused sent (NeedsReopen faults) same cause =
           inr (inr (inr (stops_here sent, inl (faults, end.refusal ∙ ap Some (sym same), end.opened, end.pending faults (sym same) cause))))
       sending_refused sent (Limit which number) same cause =
+          let passed = cause came.told in
           inr (inr (inr (
             stops_here sent,
-            inr (over_limit which (sym same ∙ ap (λ (n : ℕ). Limit which n) cause.0) (batch_passes sent which number cause.1.0 same cause.1.1)),
+            inr (over_limit which (sym same ∙ ap (λ (n : ℕ). Limit which n) passed.0) (batch_passes sent which number passed.1.0 same passed.1.1)),
           )))
       sending_refused sent other same cause = absurd cause
 
@@ -212,7 +214,7 @@ module _ (files : Files) (clock : Option ℤ) (words : LoadWords) (before : Fill
         let sent = first.loads.sent in
         let r = to files clock words before facts asks c came first.link in
         let why_not = subst (IsSentTo sent.read r sent.came_to) is sent.sent_to in
-        sending_refused first sent refusal same (subst (IsSentCause before.plain.exponent c.failed r sent.came_to) why_not sent.cause)
+        sending_refused first sent refusal same (subst (IsSentCause facts before.plain.exponent c.failed r sent.came_to) why_not sent.cause)
     by_end first (Unread None) is =
         let said : ◌≡◌ {A = Option Refusal} (Some ReadFault) (Some t.refusal) = sym (ap refusal_of_end is) ∙ first.refusal in
         let same : ReadFault ≡ t.refusal = cc (said) in inr (inr (inl (subst IsCut same (first.unread (ap is_unread is)))))
@@ -275,7 +277,7 @@ module _ (files : Files) (clock : Option ℤ) (words : LoadWords) (before : Fill
             let s = sent.came_to in
             let r = to files clock words before facts asks c came first.link in
             let why_not = subst (IsSentTo sent.read r s) is sent.sent_to in
-            sending_refused first sent refusal same (subst (IsSentCause before.plain.exponent c.failed r s) why_not sent.cause)
+            sending_refused first sent refusal same (subst (IsSentCause facts before.plain.exponent c.failed r s) why_not sent.cause)
 
     -- a reader or a filler was refused
     module _ (all : Earlier files clock words before facts asks c came (words.link + length words.dumps)) where
@@ -286,9 +288,10 @@ module _ (files : Files) (clock : Option ℤ) (words : LoadWords) (before : Fill
         earlier = all;
       }
 
-      other_refused : (refusal : Refusal) → refusal ≡ t.refusal → IsFillerCause c.failed (Some refusal) → IsReportedCause t
+      other_refused : (refusal : Refusal) → refusal ≡ t.refusal → IsFillerCause facts c.failed (Some refusal) → IsReportedCause t
       other_refused OutOfMemory same cause = inr (inr (inl (subst IsCut same tt)))
-      other_refused DiskFault same cause = inr (inr (inl (subst IsCut same (end.faulted (subst IsSome (sym cause.1) refl)))))
+      other_refused DiskFault same cause = inr (inr (inl (subst IsCut same (end.faulted (came.outcome.faulted t reported_is (sym same))))))
+      other_refused (Damaged file at) same cause = absurd (cause came.told)
       other_refused (NeedsReopen faults) same cause =
           inr (inr (inr (stops_behind, inl (faults, end.refusal ∙ ap Some (sym same), end.opened, end.pending faults (sym same) cause))))
       other_refused (Limit which number) same cause =

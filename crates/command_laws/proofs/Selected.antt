@@ -1,5 +1,5 @@
 -- The ends of the plan of `query --sql`.
-use Rattle.std.proofs.Common.{◌≡◌, ◌⊎◌, inl, inr, ℤ, ℕ, List, [], length, Option, Some, None, sym, ap, subst}
+use Rattle.std.proofs.Common.{◌≡◌, ◌⊎◌, inl, inr, ℤ, ℕ, List, [], length, Option, Some, None, refl, sym, ap, subst}
 use Rattle.std.specs.Prelude.{IsTrue, Result, Ok, Err}
 use Rattle.arch_disk.specs.Disk.{Device}
 use Rattle.refusals.specs.declared.refusal.Refusal.{Refusal}
@@ -18,8 +18,9 @@ use Rattle.command_plans.specs.Plan.{EachEnd, Requires, Way, and_then}
 use Rattle.command_plans.proofs.Plans.{each_end, end_of}
 use Rattle.command_words.specs.Job.{Sql}
 use Rattle.command_runs.specs.declared.report.Report.{Report}
-use Rattle.command_runs.specs.Command.{nothing_done, ArchiveFound, DamageFound, HasEffects, NoneFound, OpeningResult, Progress, after_opening, archive_opened, opening_plan}
+use Rattle.command_runs.specs.Command.{nothing_done, ArchiveFound, DamageFound, HasEffects, NoneFound, OpeningResult, Progress, after_opening, archive_opened, opening_plan, printing_plan}
 use Rattle.command_runs.specs.ReadOnly.{IsReadAsBefore, IsReadOnly}
+use Rattle.command_runs.specs.Reading.{OnPages, printing_read_plan}
 use Rattle.command_runs.specs.Report.{read_only, unopened}
 use Rattle.query_commands.specs.Sql.{archive_text_plan, sql_plan, statements_plan, text_plan}
 use Rattle.command_laws.specs.Calls.{Call, HeldArchive, IsNoArchive, IsRefusedBy, IsRun, LeavesAll, Prints, PrintsSome, Succeeded, WasInterrupted, effects}
@@ -28,6 +29,7 @@ use Rattle.command_laws.specs.Sql.{AreStatementsAnswered, HasStatements}
 use Rattle.command_laws.proofs.Files.{one_file}
 use Rattle.command_laws.proofs.Left.{all_opened, all_unopened, not_asked}
 use Rattle.command_laws.proofs.OnlyUnread.{of_one, only_stated}
+use Rattle.command_laws.proofs.Pages.{printed_left}
 use Rattle.command_laws.proofs.Readings.{IsUnread, each_read, read_due, read_or_not, unread_due}
 use Rattle.command_laws.proofs.Runs.{IsEndOf, all_is_some, by_due, by_job, no_archive_silent, none_is_some, none_or_some, opening_due, or_disk_failed, or_no_memory, or_unwritten, refused, succeeded}
 
@@ -62,6 +64,9 @@ not_both a refusal is = cc (is)
 module _ {D : Type 0} (device : Device D) (e : Call D) (files : Files) (name : List ℕ) (known : IsTrue device.is_transparent) where
   abbrev Leaves : Way Progress ⊥ → Type 0
   Leaves way = HasEffects device (effects e) way → IsLeft device e files name
+
+  abbrev Tells : Type 0
+  Tells = IsTrue device.is_transparent
 
   -- no archive was opened
   left_unopened : (refusal : Refusal) → e.report ≡ unopened (Some refusal) → Prints e [] → IsReadAsBefore device e.disk e.disk' → IsLeft device e files name
@@ -118,20 +123,20 @@ module _ {D : Type 0} (device : Device D) (e : Call D) (files : Files) (name : L
   opening_left (ArchiveFound filled) = tt
 
   module _ (text : List ℕ) (file : HasFile files ScriptOctets name text) where
-    statements_left : (filled : FilledArchive) (answer : Answer) → IsAnswer filled text answer → EachEnd Leaves (and_then (after_answer (archive_opened 1 filled) answer) (statements_plan filled))
+    statements_left : (filled : FilledArchive) (answer : Answer) → IsAnswer filled text answer → EachEnd Leaves (and_then (after_answer (archive_opened 1 filled) answer) (statements_plan Tells filled))
     statements_left filled (Err refusal) is = λ did. left_silent filled (did.disk.1 known) refusal did.report did.printed
-    statements_left filled (Ok statements) is = let has : HasStatements files name filled (Ok statements) = record { text = text; file = file; script = is } in (
-      λ did. left_printed filled (did.disk.1 known) statements has (Some OutOfMemory) did.report did.printed (refused_whole filled OutOfMemory did.report),
-      (
-        λ did. left_printed filled (did.disk.1 known) statements has (Some WriteFault) did.report did.printed (refused_whole filled WriteFault did.report),
-        λ did. left_printed filled (did.disk.1 known) statements has None did.report (all_is_some e (statements_text filled.plain statements) did.printed) (λ ok. did.printed),
-      ),
-    )
+    statements_left filled (Ok statements) is =
+        let has : HasStatements files name filled (Ok statements) = record { text = text; file = file; script = is } in
+        printed_left Leaves Tells known (archive_opened 1 filled) (statements_text filled.plain statements)
+        (λ did. left_printed filled (did.disk.1 known) statements has (Some OutOfMemory) did.report did.printed (refused_whole filled OutOfMemory did.report))
+        (λ did. left_printed filled (did.disk.1 known) statements has (Some DiskFault) did.report did.printed (refused_whole filled DiskFault did.report))
+        (λ did. left_printed filled (did.disk.1 known) statements has (Some WriteFault) did.report did.printed (refused_whole filled WriteFault did.report))
+        (λ did. left_printed filled (did.disk.1 known) statements has None did.report (all_is_some e (statements_text filled.plain statements) did.printed) (λ ok. did.printed))
 
     archive_left : EachEnd Leaves (archive_text_plan device e.disk text)
     archive_left = (
       λ did. left_unopened OutOfMemory did.report did.printed (not_asked device e did.disk),
-      each_end Leaves (opening_plan 1 device e.disk) (text_plan text) (
+      each_end Leaves (opening_plan 1 device e.disk) (text_plan Tells text) (
         λ did. left_unopened OutOfMemory did.report did.printed (did.disk.1 known),
         (λ did. left_unopened DiskFault did.report did.printed (did.disk.1 known), λ held h. opening_left held),
       ) (λ filled. (λ did. left_silent filled (did.disk.1 known) OutOfMemory did.report did.printed, λ answer is. statements_left filled answer is)),
@@ -145,15 +150,15 @@ module _ {D : Type 0} (device : Device D) (e : Call D) (files : Files) (name : L
   absent_due : (way : Way Progress ⊥) (at : IsEndOf device e way) (text : List ℕ) (refusal : Refusal) → HasFile files ScriptOctets name text → IsNoArchive device e refusal
       → Requires (sql_plan device e.disk (Some files) name) way → IsRefusedBy device e refusal
   absent_due way at text refusal has is required = elim (read_due e files way at nothing_done ScriptOctets (λ octets. octets) name 0 (archive_text_plan device e.disk) text has required) [
-    | inl read ↦ opening_due e way at 1 (text_plan text) refusal is read
+    | inl read ↦ opening_due e way at 1 (text_plan Tells text) refusal is read
     | inr cut ↦ inr cut
   ]
 
   module _ (way : Way Progress ⊥) (at : IsEndOf device e way) (filled : FilledArchive) (stands : StandsFilled (device.reads e.disk) filled) where
     abbrev Answered : Answer → Type 0
-    Answered answer = Requires (and_then (after_answer (archive_opened 1 filled) answer) (statements_plan filled)) way
+    Answered answer = Requires (and_then (after_answer (archive_opened 1 filled) answer) (statements_plan Tells filled)) way
 
-    text_due : (text : List ℕ) (answer : Answer) → IsAnswer filled text answer → Requires (text_plan text filled) way → Answered answer ⊎ WasInterrupted device e
+    text_due : (text : List ℕ) (answer : Answer) → IsAnswer filled text answer → Requires (text_plan Tells text filled) way → Answered answer ⊎ WasInterrupted device e
     text_due text answer is (inl cut) = or_no_memory e way at (Answered answer) _ cut
     text_due text answer is (inr asked) = inl (asked answer is)
 
@@ -169,10 +174,17 @@ module _ {D : Type 0} (device : Device D) (e : Call D) (files : Files) (name : L
       | inr cut ↦ inr cut
     ]
 
+    written_due : (statements : List TypedStatement) → Requires (printing_plan (archive_opened 1 filled) (statements_text filled.plain statements)) way → Succeeded e ⊎ WasInterrupted device e
+    written_due statements (inl is) = or_unwritten e way at (Succeeded e) _ is
+    written_due statements (inr is) = succeeded e way at _ is
+
+    read_out_due : (statements : List TypedStatement) → Requires (printing_read_plan (OnPages Tells) (archive_opened 1 filled) (statements_text filled.plain statements)) way → Succeeded e ⊎ WasInterrupted device e
+    read_out_due statements (inl is) = or_no_memory e way at (Succeeded e) _ is
+    read_out_due statements (inr (inl is)) = or_disk_failed e way at (Succeeded e) _ is (λ never. cc (never))
+    read_out_due statements (inr (inr asked)) = written_due statements (asked None tt)
+
     printing_due : (statements : List TypedStatement) → Answered (Ok statements) → Succeeded e ⊎ WasInterrupted device e
-    printing_due statements (inl is) = or_no_memory e way at (Succeeded e) _ is
-    printing_due statements (inr (inl is)) = or_unwritten e way at (Succeeded e) _ is
-    printing_due statements (inr (inr is)) = succeeded e way at _ is
+    printing_due statements asked = read_out_due statements (asked (statements_text filled.plain statements) (λ tells. refl))
 
     complete_due : (statements : List TypedStatement) → HasStatements files name filled (Ok statements) → Requires (sql_plan device e.disk (Some files) name) way → Succeeded e ⊎ WasInterrupted device e
     complete_due statements has required = elim (script_due (Ok statements) has required) [

@@ -15,7 +15,8 @@ use Rattle.command_plans.specs.Plan.{EachEnd, Requires, Way}
 use Rattle.command_plans.proofs.Plans.{each_end, end_of}
 use Rattle.command_words.specs.Job.{Verify}
 use Rattle.command_runs.specs.declared.report.Report.{Report}
-use Rattle.command_runs.specs.Command.{ArchiveFound, DamageFound, HasEffects, NoneFound, IsOpeningResult, OpeningResult, Progress, after_opening, opening_plan}
+use Rattle.command_runs.specs.Checking.{checking_plan}
+use Rattle.command_runs.specs.Command.{ArchiveFound, DamageFound, HasEffects, NoneFound, IsOpeningResult, OpeningResult, Progress, after_opening, archive_opened, opening_plan}
 use Rattle.command_runs.specs.ReadOnly.{IsReadAsBefore, IsReadOnly}
 use Rattle.command_runs.proofs.Openings.{held_once}
 use Rattle.command_runs.specs.Report.{read_only, unopened}
@@ -23,6 +24,7 @@ use Rattle.archive_commands.specs.Verify.{IsCompared, after_comparing, compare_p
 use Rattle.command_laws.specs.Calls.{Call, HeldArchive, IsRefusedBy, IsRun, LeavesAll, Prints, PrintsSome, Succeeded, WasInterrupted, effects}
 use Rattle.command_laws.specs.Verify.{IsMismatch, IsUnsound, IsVerified}
 use Rattle.command_laws.proofs.Left.{all_opened, all_unopened, not_asked}
+use Rattle.command_laws.proofs.Pages.{read_left}
 use Rattle.command_laws.proofs.Runs.{IsEndOf, all_is_some, by_due, by_job, cut_off, disk_ended, memory_ended, no_archive_silent, none_is_some, none_or_some, opening_due, or_disk_failed, or_no_memory, or_unwritten, output_ended, reported, same_refusal, succeeded}
 
 -- all but that a sound archive is found so
@@ -61,6 +63,9 @@ module _ {D : Type 0} (device : Device D) (e : Call D) where
         (λ found found_is mismatch. absurd (other (subst IsMismatch (same_refusal (Some refusal) found refusal found_is refl) mismatch)))
 
   module _ (known : IsTrue device.is_transparent) where
+    abbrev Tells : Type 0
+    Tells = IsTrue device.is_transparent
+
     abbrev HasLeft : Way Progress ⊥ → Type 0
     HasLeft way = HasEffects device (effects e) way → IsLeft device e
 
@@ -69,18 +74,18 @@ module _ {D : Type 0} (device : Device D) (e : Call D) where
     opening_left (DamageFound file at) = λ did. left_unopened (Damaged file at) (λ m. m) did.report did.printed (did.disk.1 known)
     opening_left (ArchiveFound filled) = tt
 
-    comparing_left : (filled : FilledArchive) (found : Option Refusal) → IsCompared filled found → EachEnd HasLeft (after_comparing filled found)
+    comparing_left : (filled : FilledArchive) (found : Option Refusal) → IsCompared Tells filled found → EachEnd HasLeft (after_comparing filled found)
     comparing_left filled None held = (
       λ did. left_refused filled (did.disk.1 known) WriteFault (λ m. m) did.report did.printed,
       λ did. left_opened filled (did.disk.1 known) None did.report (all_is_some e (verify_line filled) did.printed)
-          (λ none. ((sound_images (device.reads e.disk) filled (did.disk.1 known).stands).0 held, did.printed)) (λ found is mismatch. none_or_some None found is refl),
+          (λ none. ((sound_images (device.reads e.disk) filled (did.disk.1 known).stands).0 (held known), did.printed)) (λ found is mismatch. none_or_some None found is refl),
     )
     comparing_left filled (Some (Mismatch i n k s r)) named = λ did.
         let only = did.disk.1 known in
         let unsound : IsUnsound device e (Mismatch i n k s r) = (
           ap (λ (t : Report). t.opened) did.report,
-          (filled, only.stands, named),
-          λ sound. mismatch_unsound filled i _ named.first ((sound_images (device.reads e.disk) filled only.stands).1 sound),
+          (filled, only.stands, named known),
+          λ sound. mismatch_unsound filled i _ (named known).first ((sound_images (device.reads e.disk) filled only.stands).1 sound),
         ) in
         left_opened filled only (Some (Mismatch i n k s r)) did.report (none_is_some e (verify_line filled) did.printed)
         (λ none. none_or_some e.report.refusal (Mismatch i n k s r) (ap (λ (t : Report). t.refusal) did.report) none)
@@ -90,11 +95,12 @@ module _ {D : Type 0} (device : Device D) (e : Call D) where
     each_left : EachEnd HasLeft (verify_plan device e.disk)
     each_left = (
       λ did. left_unopened OutOfMemory (λ m. m) did.report did.printed (not_asked device e did.disk),
-      each_end HasLeft (opening_plan 0 device e.disk) compare_plan (
+      each_end HasLeft (opening_plan 0 device e.disk) (compare_plan Tells) (
         λ did. left_unopened OutOfMemory (λ m. m) did.report did.printed (did.disk.1 known),
         (λ did. left_unopened DiskFault (λ m. m) did.report did.printed (did.disk.1 known), λ held h. opening_left held),
       )
-          (λ filled. (
+          (λ filled. read_left HasLeft Tells known (archive_opened 0 filled) (checking_plan 0 filled (IsCompared Tells filled) (verify_line filled))
+          (λ did. left_refused filled (did.disk.1 known) DiskFault (λ m. m) did.report (none_is_some e (verify_line filled) did.printed)) (
             λ did. left_refused filled (did.disk.1 known) OutOfMemory (λ m. m) did.report (none_is_some e (verify_line filled) did.printed),
             λ found is. comparing_left filled found is,
           )),
@@ -110,9 +116,13 @@ module _ {D : Type 0} (device : Device D) (e : Call D) where
     printing_due (inl is) = or_unwritten e way at cut _ is
     printing_due (inr is) = succeeded e way at _ is
 
-    comparing_due : Requires (compare_plan filled) way → Succeeded e ⊎ WasInterrupted device e
-    comparing_due (inl is) = or_no_memory e way at cut _ is
-    comparing_due (inr found) = printing_due (found None held)
+    checking_due : Requires (checking_plan 0 filled (IsCompared (IsTrue device.is_transparent) filled) (verify_line filled)) way → Succeeded e ⊎ WasInterrupted device e
+    checking_due (inl is) = or_no_memory e way at cut _ is
+    checking_due (inr found) = printing_due (found None (λ tells. held))
+
+    comparing_due : Requires (compare_plan (IsTrue device.is_transparent) filled) way → Succeeded e ⊎ WasInterrupted device e
+    comparing_due (inl is) = or_disk_failed e way at cut _ is (λ never. cc (never))
+    comparing_due (inr asked) = checking_due (asked None tt)
 
     verifying_due : Requires (verify_plan device e.disk) way → Succeeded e ⊎ WasInterrupted device e
     verifying_due (inl is) = or_no_memory e way at cut _ is
@@ -139,10 +149,10 @@ module _ {D : Type 0} (device : Device D) (e : Call D) (known : IsTrue device.is
   opening_found (DamageFound file at) h = λ end. never (DamageFound file at) (λ same. cc (same)) h
   opening_found (ArchiveFound other) h = tt
 
-  comparing_found : (other : FilledArchive) (found : Option Refusal) → IsCompared other found → EachEnd HasFound (after_comparing other found)
+  comparing_found : (other : FilledArchive) (found : Option Refusal) → IsCompared (IsTrue device.is_transparent) other found → EachEnd HasFound (after_comparing other found)
   comparing_found other None held = (
     λ end. inr (output_ended e _ end),
-    λ end. absurd (unsound ((sound_images (device.reads e.disk) other (end.did.disk.1 known).stands).0 held)),
+    λ end. absurd (unsound ((sound_images (device.reads e.disk) other (end.did.disk.1 known).stands).0 (held known))),
   )
   comparing_found other (Some (Mismatch i n k s r)) named = λ end. inl (subst (λ (t : Option Refusal). IsSomeAnd t IsMismatch) (sym (reported e _ end)) tt)
   comparing_found other (Some another) none = absurd none
@@ -150,11 +160,12 @@ module _ {D : Type 0} (device : Device D) (e : Call D) (known : IsTrue device.is
   pub each_found : EachEnd HasFound (verify_plan device e.disk)
   each_found = (
     λ end. inr (memory_ended e _ end),
-    each_end HasFound (opening_plan 0 device e.disk) compare_plan (
+    each_end HasFound (opening_plan 0 device e.disk) (compare_plan (IsTrue device.is_transparent)) (
       λ end. inr (memory_ended e _ end),
       (λ end. inr (disk_ended e _ end (λ apart. cc (apart))), λ held h. opening_found held (h known)),
     )
-        (λ other. (λ end. inr (memory_ended e _ end), λ found is. comparing_found other found is)),
+        (λ other. read_left HasFound (IsTrue device.is_transparent) known (archive_opened 0 other) (checking_plan 0 other (IsCompared (IsTrue device.is_transparent) other) (verify_line other)) (λ end. inr (disk_ended e _ end (λ apart. cc (apart))))
+        (λ end. inr (memory_ended e _ end), λ found is. comparing_found other found is)),
   )
 
 -- ---- the clause
@@ -172,7 +183,7 @@ module _ {D : Type 0} (device : Device D) (e : Call D) (files : Files) (clock : 
     unsound = left.unsound;
     printed = left.printed;
     no_archive = λ refusal is. (
-      by_due device e files clock Verify run (IsRefusedBy device e refusal) (λ cut. inr cut) (λ way required at. opening_due e way at 0 compare_plan refusal is required),
+      by_due device e files clock Verify run (IsRefusedBy device e refusal) (λ cut. inr cut) (λ way required at. opening_due e way at 0 (compare_plan (IsTrue device.is_transparent)) refusal is required),
       no_archive_silent device e refusal left.left.report is,
     );
     complete = λ found. by_due device e files clock Verify run (Succeeded e ⊎ WasInterrupted device e) (λ interrupted. inr interrupted)

@@ -5,18 +5,10 @@ use Rattle.refusals.specs.declared.refusal.Refusal.{Refusal}
 use Rattle.archive_store.specs.Entries.{FilledArchive}
 use Rattle.command_plans.specs.Plan.{OfMemory, Stopped, Interrupted, EachEnd, IsDetermined}
 use Rattle.command_runs.specs.Checking.{IsCheckRefusal, IsCheckReply, after_check, checking_plan}
-use Rattle.archive_store.specs.Keeping.{IsKept}
-use Rattle.archive_store.specs.StoreView.{StoreView, filled_of}
-use Rattle.outer_traits.specs.States.{OutputState}
-use Rattle.command_runs.specs.ArchiveWork.{RanWith}
-use Rattle.command_runs.specs.Command.{HasDiskOutcome, Opened, Effects, Ran, archive_opened, effects_of}
-use Rattle.command_runs.specs.Healing.{TriesToHeal}
-use Rattle.command_runs.specs.Opened.{IsOpenedOn}
-use Rattle.command_runs.specs.declared.report.Report.{Report}
+use Rattle.command_runs.specs.Command.{HasDiskOutcome, Opened, Effects, Ran, archive_opened}
 use Rattle.command_runs.specs.Report.{read_only}
 use Rattle.command_runs.proofs.Commands.{no_text, ran_printed}
 use Rattle.command_runs.proofs.OverInputs.{HasRead}
-use Rattle.command_runs.proofs.ReadOnly.{left_opened}
 
 module _ (sources : ℕ) (filled : FilledArchive) (IsFound : Option Refusal → Type 0) (text : List ℕ) where
   -- one answer is due where one thing can be found
@@ -66,10 +58,3 @@ module _ {D : Type 0} (device : Device D) (e : Effects D) (sources : ℕ) (fille
   ran_checked refusal (inl passed) report =
       let printed = ran_printed device e (archive_opened sources filled) text refusal refl refl (refl, refl) passed.printed report disk in
       record { way = printed.way; allows = inr (None, passed.found, printed.allows); did = printed.did }
-
--- and so it is as a work with an archive, which is left as it was
-pub checked_work : {D : Type 0} (device : Device D) (disk : D) (s new healed : StoreView D) (IsFound : Option Refusal → Type 0) (text : List ℕ) (refusal : Option Refusal) (output output' : OutputState) (report : Report)
-    → IsOpenedOn device disk s → new ≡ s → TriesToHeal device new healed → IsKept device healed → IsCheckReply IsFound text refusal output output' → report ≡ read_only refusal (length s.history)
-    → Ran device (checking_plan 0 (filled_of s) IsFound text) (effects_of disk healed.disk output output' report)
-checked_work device disk s new healed IsFound text refusal output output' report on same heals kept reply is =
-    ran_checked device (effects_of disk healed.disk output output' report) 0 (filled_of s) IsFound text (left_opened device disk s new healed on same heals kept) refusal reply is

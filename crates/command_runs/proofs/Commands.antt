@@ -17,9 +17,8 @@ use Rattle.outer_traits.specs.States.{InputsState, OutputState}
 use Rattle.command_plans.specs.Ledger.{UsedDisk}
 use Rattle.command_plans.proofs.Ledgers.{risen_counted}
 use Rattle.command_runs.specs.declared.report.Report.{Report}
-use Rattle.command_runs.specs.ArchiveWork.{RanWith, UsedByWork, opened_plan}
+use Rattle.command_runs.specs.ArchiveWork.{KnownOfDisk, RanWith, UsedByWork, known_of, opened_plan}
 use Rattle.command_runs.specs.Command.{Progress, HasEffects, ArchiveSought, archive_sought, seeking_failed, Effects, Ran, RanOver, HasDiskOutcome, NoneFound, DamageFound, ArchiveFound, effects_of, failed_at, nothing_done, opening_plan, printing_plan, sources_at}
-use Rattle.command_runs.specs.FillingPlan.{IsRecordCount}
 use Rattle.command_runs.specs.ReadOnly.{IsReadAsBefore}
 use Rattle.command_runs.specs.Report.{unopened}
 
@@ -172,9 +171,9 @@ sought_unasked {D = D} device old new same =
 -- ---- a work with an archive that is opened
 
 module _ {D : Type 0} (device : Device D) (disk : D) (output : OutputState) (sources : ℕ) {Input : Type 0} (old : Input) (Used : Input → Way Progress ⊥ → Type 0)
-    (work : (ℕ → Type 0) → FilledArchive → CommandPlan Progress ⊥) where
+    (work : KnownOfDisk → FilledArchive → CommandPlan Progress ⊥) where
   abbrev behind : FilledArchive → CommandPlan Progress ⊥
-  behind = work (IsRecordCount device disk)
+  behind = work (known_of device disk)
 
   abbrev plan : CommandPlan Progress ⊥
   plan = opened_plan sources device disk work

@@ -1,16 +1,13 @@
 -- The disk during a load, and after it.
-use Rattle.std.proofs.Common.{◌≡◌, ◌⊎◌, inl, inr, ℕ, Bool, true, false, List, [], ◌∷◌, ◌++◌, Option, None, Some, refl, ap, subst, sym, ◌∙◌, arith}
+use Rattle.std.proofs.Common.{◌≡◌, ◌⊎◌, inl, inr, ℕ, Bool, true, false, List, [], ◌++◌, Option, None, Some, refl, ap, subst, sym, ◌∙◌, arith}
 use mathlib.Core.List.{IsPrefix}
 use Rattle.arch_disk.specs.Image.{Image}
-use Rattle.arch_disk.specs.Disk.{Device, LeavesOnly}
-use Rattle.arch_disk.proofs.Moments.{joins, weakens}
+use Rattle.arch_disk.specs.Disk.{Device, LeavesOnly, OnlyReads}
+use Rattle.arch_disk.proofs.Moments.{at_end, joins, weakens}
 use Rattle.arch_types.specs.declared.row.Row.{Row}
 use Rattle.history_items.specs.declared.fills.Addition.{Addition}
 use Rattle.history_items.specs.declared.fills.Addition.TheVariants.{Rows}
-use Rattle.history_items.specs.declared.fills.Fill.TheVariants.{Fault}
 use Rattle.history_items.specs.Fills.{pending_fault_of, rows_of_faults, unacknowledged_in}
-use Rattle.store_fills.specs.Faults.{faults_in}
-use Rattle.store_fills.proofs.Faults.{pending_fault_of-in, unacknowledged-in}
 use Rattle.history_items.specs.declared.items.Item.{Item}
 use Rattle.history_items.specs.Items.{items_of}
 use Rattle.archive_store.specs.Head.{Head}
@@ -25,7 +22,9 @@ use Rattle.load_session.specs.During.{IsDuring}
 use Rattle.load_session.proofs.During.{none_in_hand}
 use Rattle.command_runs.specs.ReadOnly.{IsOpenedThen}
 use Rattle.command_runs.specs.Extension.{batch_left}
+use Rattle.command_runs.specs.Healing.{HasOneFault}
 use Rattle.command_runs.proofs.Openings.{plain_stands}
+use Rattle.command_runs.proofs.ReadFaults.{one_pending_is, one_unacknowledged_is}
 
 -- a store that was opened on a disk
 pub record IsOpened {D : Type 0} (device : Device D) (disk : D) (store : StoreView D) : Type 0 where
@@ -86,7 +85,7 @@ module _ {D : Type 0} (device : Device D) (disk : D) (old new : StoreView D) (op
 
   module _ (between mid : StoreView D) (rows : List Row) (since : LeavesOnly device old.opened old.disk (λ c. StandsFilled c (filled_of old))) (grew : IsPrefix old.history between.history)
       (session : LeavesOnly device old.disk between.disk (IsDuring (archive_of old) between.history (rows_of_faults between.fills))) (held : rows_of_faults between.fills ≡ batch_left rows)
-      (still : mid.disk ≡ between.disk) (as_mid : filled_of mid ≡ filled_archive old.head old.exponent between.history (fillings_in mid.filled)) (pending : unacknowledged_in mid.fills ≡ Some (Rows rows))
+      (still : OnlyReads device between.disk mid.disk) (as_mid : filled_of mid ≡ filled_archive old.head old.exponent between.history (fillings_in mid.filled)) (pending : unacknowledged_in mid.fills ≡ Some (Rows rows))
       (healing : LeavesOnly device mid.disk new.disk (IsNow (filled_of mid) (unacknowledged_in mid.fills))) where
     abbrev During : Image → Type 0
     During = IsDuring (archive_of old) between.history (batch_left rows)
@@ -114,17 +113,17 @@ module _ {D : Type 0} (device : Device D) (disk : D) (old new : StoreView D) (op
         let opening = weakens device old.opened old.disk (λ c. StandsFilled c (filled_of old)) During since at_opening in
         let batches = subst (λ (l : List (List Item)). LeavesOnly device old.disk between.disk (IsDuring (archive_of old) between.history l)) held session in
         let so_far = joins device old.opened old.disk between.disk During During opening batches (λ c during. during) in
-        let last = subst (λ (d : D). LeavesOnly device d new.disk (IsNow (filled_of mid) (unacknowledged_in mid.fills))) still healing in
+        let read = joins device old.opened between.disk mid.disk During (device.images between.disk) so_far still.moments (at_end device old.opened between.disk During so_far) in
         record {
           opened = old.opened;
           before = opened.before;
-          since = joins device old.opened between.disk new.disk During (IsNow (filled_of mid) (unacknowledged_in mid.fills)) so_far last at_healing;
+          since = joins device old.opened mid.disk new.disk During (IsNow (filled_of mid) (unacknowledged_in mid.fills)) read healing at_healing;
           sound = sound_since;
         }
 
 -- after a fault whose write stands a crash may also leave the rows that the fault holds, with the fills that there are
 pub left : {D : Type 0} (device : Device D) (store : StoreView D) (count : ℕ) (wrote : Bool) (rows : List Row) → CrashInvariant device store → (pending_fault_of store.fills ≡ None → IsKeptWithFills device store)
-    → faults_in store.fills ≡ Fault count wrote (Rows rows) ∷ [] → (c : Image) → device.images store.disk c → StandsFilled c (filled_of store) ⊎ StandsFilled c (with_rows (filled_of store) (items_of rows))
+    → HasOneFault store.fills count wrote (Rows rows) → (c : Image) → device.images store.disk c → StandsFilled c (filled_of store) ⊎ StandsFilled c (with_rows (filled_of store) (items_of rows))
 left device store count true rows keeps kept one c leaves =
-    now_with_fills (filled_of store) rows c (subst (λ (o : Option Addition). IsNow (filled_of store) o c) (unacknowledged-in store.fills ∙ ap unacknowledged_in one) (keeps.now c leaves))
-left device store count false rows keeps kept one c leaves = inl (kept (pending_fault_of-in store.fills ∙ ap pending_fault_of one) c leaves)
+    now_with_fills (filled_of store) rows c (subst (λ (o : Option Addition). IsNow (filled_of store) o c) (one_unacknowledged_is count true (Rows rows) store.fills one) (keeps.now c leaves))
+left device store count false rows keeps kept one c leaves = inl (kept (one_pending_is count false (Rows rows) store.fills one) c leaves)

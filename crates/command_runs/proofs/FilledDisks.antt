@@ -1,5 +1,5 @@
 -- The disk of a call that fills what is late.
-use Rattle.std.proofs.Common.{◌≡◌, ◌⊎◌, inl, inr, ℕ, ◌+◌, ◌≤◌, true, false, List, [], ◌∷◌, ◌++◌, Bool, Option, Some, None, refl, sym, ◌∙◌, ap, subst, arith}
+use Rattle.std.proofs.Common.{◌≡◌, ◌⊎◌, inl, inr, ℕ, ◌+◌, ◌≤◌, true, false, List, [], ◌∷◌, ◌++◌, Bool, Option, Some, None, refl, sym, ◌∙◌, ap, subst, append-nil, arith}
 use Rattle.std.specs.Prelude.{◌≢◌, IsTrue, IfErr, IfOk, Result, Ok, Err, filter, fold, if◌then◌else◌}
 use Rattle.std.specs.List.{AllByRecursion}
 use Rattle.std.specs.Option.{option_map, option_map_or}
@@ -11,14 +11,14 @@ use Rattle.intervals.specs.declared.interval.Interval.{Interval}
 use Rattle.history_items.specs.declared.fills.Addition.TheVariants as additions
 use Rattle.history_items.specs.declared.fills.Fill.{Fill}
 use Rattle.history_items.specs.declared.fills.Fill.TheVariants.{Begun, Done, Freed, Fault, Closed}
-use Rattle.history_items.specs.Fills.{Rising, above, base_in, flight_after, in_flight, is_same, pending_fault_of, rows_of_faults, unacknowledged_in}
+use Rattle.history_items.specs.Fills.{above, base_in, flight_after, in_flight, is_same, pending_fault_of, rows_of_faults, unacknowledged_in}
 use Rattle.history_items.specs.Late.{IsLate, last_in}
 use Rattle.interval_walks.specs.Counts.{intervals_in, late_intervals}
 use Rattle.interval_walks.proofs.Counts.{none_late}
 use Rattle.late_marks.specs.Mark.{is_late_by}
 use Rattle.param_segments.specs.Rows.{SetRow}
 use Rattle.store_fills.specs.Faults.{IsDone, faults_in}
-use Rattle.store_fills.proofs.Faults.{Rising-in, pending_fault_of-in, rows_of_faults-in, unacknowledged-in}
+use Rattle.archive_store.specs.UnreadRows.{IsFaultOfRead}
 use Rattle.store_fills.specs.LastFills.{PlacedFills, fillings_in}
 use Rattle.store_fills.specs.Sound.{Filling, Fillings, base_of_filling}
 use Rattle.archive_store.specs.Head.{Head}
@@ -28,7 +28,7 @@ use Rattle.archive_store.specs.Stands.{HasRecordCount, StandsFilled, StandsFor}
 use Rattle.archive_store.specs.StoreView.{CrashInvariant, FaultInvariant, IsKeptWithFills, StoreView, archive_of, filled_of}
 use Rattle.archive_store.proofs.PlainLog.{HoldsNoRows, kept_rows}
 use Rattle.refusals.specs.declared.refusal.Refusal.{Refusal}
-use Rattle.refusals.specs.declared.refusal.Refusal.TheVariants.{DiskFault, Limit, NeedsReopen, OutOfMemory}
+use Rattle.refusals.specs.declared.refusal.Refusal.TheVariants.{Damaged, DiskFault, Limit, NeedsReopen, OutOfMemory}
 use Rattle.refusals.specs.declared.refusal.Which.TheVariants.{Records}
 use Rattle.refusals.specs.Limits.{limit_of}
 use Rattle.arch_types.specs.declared.row.Row.{Row}
@@ -37,10 +37,11 @@ use Rattle.history_items.specs.declared.items.Item.{Item}
 use Rattle.history_items.specs.Items.{items_of}
 use Rattle.archive_store.specs.Unacknowledged.{with_rows}
 use Rattle.load_session.specs.During.{IsDuring}
-use Rattle.load_session.specs.Filling.{AllLateFilled, IsFillFailed, IsFilledOn, IsFillingRefusal, IsUnfailed}
-use Rattle.command_runs.specs.Healing.{TriesToHeal, IsTakenBack, OneOrTwo}
-use Rattle.command_runs.proofs.Healed.{more_faults, pending_behind, taken_back}
-use Rattle.command_plans.specs.Ledger.{UsedDisk, UsedWithoutFailedWrite}
+use Rattle.load_session.specs.Filling.{AllLateFilled, IsFillFailed, IsFillUnread, IsFilledOn, IsFillingRefusal, IsUnfailed}
+use Rattle.command_runs.specs.Healing.{HasOneFault, IsTakenBack, OneOrTwo, TriesToHeal}
+use Rattle.command_runs.proofs.Healed.{pending_behind, taken_back}
+use Rattle.command_runs.proofs.ReadFaults.{NotesReads, both_reads, more_faults, one_behind, one_counted, one_pending_is, one_rows_is, one_unacknowledged_is, one_with_reads, reads_pending, reads_rows}
+use Rattle.command_plans.specs.Ledger.{RoseIf, UsedDisk, UsedWithoutFailedWrite}
 use Rattle.command_runs.specs.Causes.{IsCountedSince, IsLogNear}
 use Rattle.command_runs.specs.Command.{AllFilled, Extended, ExtensionFailed, FillingFailed, HasDiskOutcome}
 use Rattle.command_runs.specs.Durable.{FailedAtMostOnce, IsDurableAs, IsDurableWithFills}
@@ -131,22 +132,20 @@ module _ {D : Type 0} (device : Device D) (disk : D) (old new : StoreView D) (he
   keeps_fills : IsTrue device.is_transparent → pending_fault_of new.fills ≡ None → KeepsFills device new.disk (filled_of old) new.history
   keeps_fills known healed = record { fillings = fillings_in new.filled; adds = adds known; durable = with_fills known healed }
 
-  -- no call failed
-  no_failed_write : faults_in new.fills ≡ [] → pending_fault_of new.fills ≡ None
-  no_failed_write none = pending_fault_of-in new.fills ∙ ap pending_fault_of none
-
   images : rows_of_faults new.fills ≡ [] → IsTrue device.is_transparent → IsOpenedThen device disk new.disk (IsDuring (archive_of old) new.history [])
   images none known = load_images device disk old new (opened known) opening (keeps known) none head exponent
 
-  images_still : faults_in new.fills ≡ [] → IsTrue device.is_transparent → IsOpenedThen device disk new.disk (IsDuring (archive_of old) new.history [])
-  images_still none = images (rows_of_faults-in new.fills ∙ ap rows_of_faults none)
+  images_still : NotesReads new.fills → IsTrue device.is_transparent → IsOpenedThen device disk new.disk (IsDuring (archive_of old) new.history [])
+  images_still reads = images (reads_rows new.fills reads)
 
-  used_still : NoFault device disk new.disk → device.failed_writes new.disk ≡ device.failed_writes disk → UsedWithoutFailedWrite device disk new.disk false
-  used_still told writes = record { faults = told; writes = (0, omega arith, omega arith, writes) }
+  used_still : (failed : Bool) → RoseIf failed (device.fault_count disk) (device.fault_count new.disk) → device.failed_writes new.disk ≡ device.failed_writes disk → UsedWithoutFailedWrite device disk new.disk failed
+  used_still failed told writes = record { faults = told; writes = (0, omega arith, omega arith, writes) }
 
-  pub still_extended : faults_in new.fills ≡ [] → NoFault device disk new.disk → device.failed_writes new.disk ≡ device.failed_writes disk → HasDiskOutcome device disk new.disk false (Extended (filled_of old) new.history)
-  still_extended none told writes =
-      (used_still told writes, λ known. record { stands = (opened known).stands; images = images_still none known; kept = keeps_fills known (no_failed_write none) })
+  -- no write failed, but maybe reads
+  pub still_extended : (failed : Bool) → NotesReads new.fills → RoseIf failed (device.fault_count disk) (device.fault_count new.disk) → device.failed_writes new.disk ≡ device.failed_writes disk
+      → HasDiskOutcome device disk new.disk failed (Extended (filled_of old) new.history)
+  still_extended failed reads told writes =
+      (used_still failed told writes, λ known. record { stands = (opened known).stands; images = images_still reads known; kept = keeps_fills known (reads_pending new.fills reads) })
 
   -- a failed write was taken back, unless a call failed again
   pub taken_back_once : (wrote : Bool) → (wrote ≡ false) ⊎ (raised (raised (device.fault_count new.opened)) ≤ device.fault_count new.disk) → FailedAtMostOnce device disk new.disk → wrote ≡ false
@@ -180,9 +179,8 @@ module _ {D : Type 0} (device : Device D) (disk : D) (old new : StoreView D) (he
     -- where the disk failed once the write was taken back
     pub healed_once : FailedAtMostOnce device disk new.disk → pending_fault_of new.fills ≡ None
     healed_once once =
-        let back : faults_in new.fills ≡ Fault failed.count false addition ∷ [] =
-        subst (λ (b : Bool). faults_in new.fills ≡ Fault failed.count b addition ∷ []) (taken_back_once failed.wrote failed.tried once) failed.fault in
-        pending_fault_of-in new.fills ∙ ap pending_fault_of back
+        let back = subst (λ (b : Bool). HasOneFault new.fills failed.count b addition) (taken_back_once failed.wrote failed.tried once) failed.fault in
+        one_pending_is failed.count false addition new.fills back
 
   pub fill_has_failed : (i : Interval) (base : ℕ) → IsTakenBack device disk new (additions.Fill i base) → HasDiskOutcome device disk new.disk true (FillingFailed (filled_of old) new.history)
   fill_has_failed i base failed =
@@ -190,8 +188,8 @@ module _ {D : Type 0} (device : Device D) (disk : D) (old new : StoreView D) (he
         used_by_failure (additions.Fill i base) failed,
         λ known. record {
           stands = (opened known).stands;
-          images = images (rows_of_faults-in new.fills ∙ ap rows_of_faults failed.fault ∙ none.0) known;
-          durable = durable_rows (subst HoldsNoRows (sym (unacknowledged-in new.fills ∙ ap unacknowledged_in failed.fault)) none.1) known;
+          images = images (one_rows_is failed.count failed.wrote (additions.Fill i base) new.fills failed.fault ∙ none.0) known;
+          durable = durable_rows (subst HoldsNoRows (sym (one_unacknowledged_is failed.count failed.wrote (additions.Fill i base) new.fills failed.fault)) none.1) known;
           healed = λ once. keeps_fills known (healed_once (additions.Fill i base) failed once);
         },
       )
@@ -225,14 +223,15 @@ module _ {D : Type 0} (device : Device D) (disk : D) (old new : StoreView D) (he
     none_by_fills : IsTrue device.is_transparent → late_in_archive (filled_archive old.head old.exponent new.history (fillings_in new.filled)) ≡ []
     none_by_fills known = sym (late_as_filled (filled_archive old.head old.exponent new.history (fillings_in new.filled)) new.fills (bases known)) ∙ none_late old.exponent new.history new.fills (subst (λ (e : ℕ). (i : Interval) → IsLate e i new.history new.fills → ⊥) exponent none)
 
-    pub all_are_filled : faults_in new.fills ≡ [] → NoFault device disk new.disk → device.failed_writes new.disk ≡ device.failed_writes disk → HasDiskOutcome device disk new.disk false (AllFilled (filled_of old) new.history)
-    all_are_filled no_fault told writes = (
-      used_still told writes,
+    pub all_are_filled : (failed : Bool) → NotesReads new.fills → RoseIf failed (device.fault_count disk) (device.fault_count new.disk) → device.failed_writes new.disk ≡ device.failed_writes disk
+        → HasDiskOutcome device disk new.disk failed (AllFilled (filled_of old) new.history)
+    all_are_filled failed reads told writes = (
+      used_still failed told writes,
       λ known. record {
         extended = record {
           stands = (opened known).stands;
-          images = images_still no_fault known;
-          kept = record { fillings = fillings_in new.filled; adds = adds known; durable = with_fills known (no_failed_write no_fault) };
+          images = images_still reads known;
+          kept = record { fillings = fillings_in new.filled; adds = adds known; durable = with_fills known (reads_pending new.fills reads) };
         };
         none_late = none_by_fills known;
       },
@@ -254,7 +253,7 @@ log_near {D = D} device mid new healed counted more reaches known = go (counted 
 
 module _ {D : Type 0} (device : Device D) (disk : D) (old between mid new : StoreView D) (opened : IsTrue device.is_transparent → IsOpened device disk old) (first : device.fault_count disk ≤ device.fault_count old.opened)
     (head : between.head ≡ old.head) (exponent : between.exponent ≡ old.exponent) (opening : between.opened ≡ old.opened)
-    (sets : IsTrue device.is_transparent → AddsRightFills old.head old.exponent between.history (fillings_in old.filled) (fillings_in between.filled)) (filled_on : IsFilledOn between mid) (healed : TriesToHeal device mid new)
+    (sets : IsTrue device.is_transparent → AddsRightFills old.head old.exponent between.history (fillings_in old.filled) (fillings_in between.filled)) (filled_on : IsFilledOn device between mid) (healed : TriesToHeal device mid new)
     (keeps : IsTrue device.is_transparent → CrashInvariant device new) (faults : FaultInvariant device new)
     (kept : IsTrue device.is_transparent → pending_fault_of new.fills ≡ None → IsKeptWithFills device new) where
   pub new_head : new.head ≡ old.head
@@ -276,84 +275,111 @@ module _ {D : Type 0} (device : Device D) (disk : D) (old between mid new : Stor
       subst (λ (h : Head). AddsRightFills h old.exponent new.history (fillings_in between.filled) (fillings_in new.filled)) head
       (subst (λ (e : ℕ). AddsRightFills between.head e new.history (fillings_in between.filled) (fillings_in new.filled)) exponent
       (subst (λ (h : List Item). AddsRightFills between.head between.exponent h (fillings_in between.filled) (fillings_in new.filled)) (sym new_rows)
-      (subst (λ (f : PlacedFills). AddsRightFills between.head between.exponent between.history (fillings_in between.filled) (fillings_in f)) (sym (ap (λ (s : StoreView D). s.filled) healed.left)) filled_on.sets))) in
+      (subst (λ (f : PlacedFills). AddsRightFills between.head between.exponent between.history (fillings_in between.filled) (fillings_in f)) (sym (ap (λ (s : StoreView D). s.filled) healed.left)) (filled_on.sets (λ paged. known))))) in
       adds_then old.head old.exponent new.history (fillings_in old.filled) (fillings_in between.filled) (fillings_in new.filled)
       (subst (λ (h : List Item). AddsRightFills old.head old.exponent h (fillings_in old.filled) (fillings_in between.filled)) (sym new_rows) (sets known)) behind
 
-  -- no call of the disk had failed before the fills
-  module _ (no_fault : faults_in between.fills ≡ []) (told : NoFault device disk between.disk) (writes : device.failed_writes between.disk ≡ device.failed_writes disk) where
-    pub untouched : IsUnfailed device between mid → new ≡ mid
-    untouched unfailed = healed.same (pending_fault_of-in mid.fills ∙ ap pending_fault_of (unfailed.same_faults ∙ no_fault))
+  -- no write had failed before the fills, but maybe reads
+  module _ (failed : Bool) (reads : NotesReads between.fills) (told : RoseIf failed (device.fault_count disk) (device.fault_count between.disk)) (writes : device.failed_writes between.disk ≡ device.failed_writes disk) where
+    -- fills whose faults are of reads left no write to take back
+    untouched : NotesReads mid.fills → new ≡ mid
+    untouched notes = healed.same (reads_pending mid.fills notes)
 
-    no_faults : IsUnfailed device between mid → faults_in new.fills ≡ []
-    no_faults unfailed = ap (λ (s : StoreView D). faults_in s.fills) (untouched unfailed) ∙ unfailed.same_faults ∙ no_fault
+    unfailed_reads : IsUnfailed device between mid → NotesReads mid.fills
+    unfailed_reads unfailed = subst (AllByRecursion IsFaultOfRead) (sym unfailed.same_faults) reads
 
-    same_writes : IsUnfailed device between mid → device.failed_writes new.disk ≡ device.failed_writes disk
-    same_writes unfailed = ap (λ (s : StoreView D). device.failed_writes s.disk) (untouched unfailed) ∙ unfailed.no_failed_write ∙ writes
+    new_reads : NotesReads mid.fills → NotesReads new.fills
+    new_reads notes = subst (λ (s : StoreView D). NotesReads s.fills) (sym (untouched notes)) notes
 
-    same_count : IsUnfailed device between mid → NoFault device disk new.disk
-    same_count unfailed = ap (λ (s : StoreView D). device.fault_count s.disk) (untouched unfailed) ∙ unfailed.no_fault ∙ told
+    rose_to : (b : Bool) (d e : D) → NoFault device d e → RoseIf b (device.fault_count disk) (device.fault_count d) → RoseIf b (device.fault_count disk) (device.fault_count e)
+    rose_to b d e same rose = subst (RoseIf b (device.fault_count disk)) (sym same) rose
 
-    -- and none failed at a fill,
-    pub unfailed_disk : IsUnfailed device between mid → HasDiskOutcome device disk new.disk false (Extended (filled_of old) between.history)
+    unfailed_writes : IsUnfailed device between mid → device.failed_writes new.disk ≡ device.failed_writes disk
+    unfailed_writes unfailed = ap (λ (s : StoreView D). device.failed_writes s.disk) (untouched (unfailed_reads unfailed)) ∙ unfailed.no_failed_write ∙ writes
+
+    unfailed_count : IsUnfailed device between mid → RoseIf failed (device.fault_count disk) (device.fault_count new.disk)
+    unfailed_count unfailed = rose_to failed between.disk new.disk (ap (λ (s : StoreView D). device.fault_count s.disk) (untouched (unfailed_reads unfailed)) ∙ unfailed.no_fault) told
+
+    -- no call failed at a fill,
+    pub unfailed_disk : IsUnfailed device between mid → HasDiskOutcome device disk new.disk failed (Extended (filled_of old) between.history)
     unfailed_disk unfailed =
-        subst (λ (h : List Item). HasDiskOutcome device disk new.disk false (Extended (filled_of old) h)) new_rows
-        (still_extended device disk old new new_head new_exponent new_opening opened first keeps faults kept new_fills (no_faults unfailed) (same_count unfailed) (same_writes unfailed))
+        subst (λ (h : List Item). HasDiskOutcome device disk new.disk failed (Extended (filled_of old) h)) new_rows
+        (still_extended device disk old new new_head new_exponent new_opening opened first keeps faults kept new_fills failed (new_reads (unfailed_reads unfailed)) (unfailed_count unfailed) (unfailed_writes unfailed))
 
-    -- or one did, which was taken back
-    fill_taken_back : (failed : IsFillFailed device between mid) → IsTakenBack device disk new (additions.Fill failed.interval failed.base)
-    fill_taken_back failed =
-        let fill = additions.Fill failed.interval failed.base in
-        taken_back device disk mid new fill failed.count healed (failed.fault ∙ ap (λ (l : List Fill). l ++ Fault failed.count true fill ∷ []) no_fault) (failed.wrote ∙ ap raised writes)
+    -- or a read did,
+    unread_reads : IsFillUnread device between mid → NotesReads mid.fills
+    unread_reads unread = subst (AllByRecursion IsFaultOfRead) (sym unread.fault) (both_reads (faults_in between.fills) (Fault unread.count false additions.Nothing ∷ []) reads ((unread.count, refl), tt))
+
+    not_fallen : (b : Bool) → RoseIf b (device.fault_count disk) (device.fault_count between.disk) → raised (device.fault_count between.disk) ≤ device.fault_count mid.disk → raised (device.fault_count disk) ≤ device.fault_count mid.disk
+    not_fallen true rose again = omega (arith, rose, again)
+    not_fallen false same again = subst (λ (n : ℕ). raised n ≤ device.fault_count mid.disk) same again
+
+    pub unread_disk : IsFillUnread device between mid → HasDiskOutcome device disk new.disk true (Extended (filled_of old) between.history)
+    unread_disk unread =
+        let notes = unread_reads unread in
+        let same = untouched notes in
+        subst (λ (h : List Item). HasDiskOutcome device disk new.disk true (Extended (filled_of old) h)) new_rows
+        (still_extended device disk old new new_head new_exponent new_opening opened first keeps faults kept new_fills true (new_reads notes)
+        (subst (λ (s : StoreView D). raised (device.fault_count disk) ≤ device.fault_count s.disk) (sym same) (not_fallen failed told unread.rose))
+        (ap (λ (s : StoreView D). device.failed_writes s.disk) same ∙ unread.no_failed_write ∙ writes))
+
+    -- or a write did, which was taken back
+    fill_taken_back : (one : IsFillFailed device between mid) → IsTakenBack device disk new (additions.Fill one.interval one.base)
+    fill_taken_back one =
+        let fill = additions.Fill one.interval one.base in
+        taken_back device disk mid new fill one.count healed (one_behind between.fills mid.fills [] [] one.count true fill reads tt one.fault) (one.wrote ∙ ap raised writes)
 
     pub failed_disk : IsFillFailed device between mid → HasDiskOutcome device disk new.disk true (FillingFailed (filled_of old) between.history)
-    failed_disk failed =
-        let back = fill_taken_back failed in
+    failed_disk one =
+        let back = fill_taken_back one in
         subst (λ (h : List Item). HasDiskOutcome device disk new.disk true (FillingFailed (filled_of old) h)) new_rows
-        (fill_has_failed device disk old new new_head new_exponent new_opening opened first keeps faults kept new_fills failed.interval failed.base back)
+        (fill_has_failed device disk old new new_head new_exponent new_opening opened first keeps faults kept new_fills one.interval one.base back)
 
     -- or each late interval was filled
     pub filled_disk : (late : ℕ) → AllLateFilled device between mid late → (IsTrue device.is_transparent → (i : Interval) → base_in i new.fills ≡ base_of_filling (fillings_in new.filled) i)
-        → HasDiskOutcome device disk new.disk false (AllFilled (filled_of old) between.history)
+        → HasDiskOutcome device disk new.disk failed (AllFilled (filled_of old) between.history)
     filled_disk late done bases =
-        let none = subst (λ (s : StoreView D). (i : Interval) → IsLate s.exponent i s.history s.fills → ⊥) (sym (untouched done.unfailed)) done.none_late in
-        subst (λ (h : List Item). HasDiskOutcome device disk new.disk false (AllFilled (filled_of old) h)) new_rows
-        (all_are_filled device disk old new new_head new_exponent new_opening opened first keeps faults kept new_fills none bases (no_faults done.unfailed) (same_count done.unfailed) (same_writes done.unfailed))
+        let none = subst (λ (s : StoreView D). (i : Interval) → IsLate s.exponent i s.history s.fills → ⊥) (sym (untouched (unfailed_reads done.unfailed))) done.none_late in
+        subst (λ (h : List Item). HasDiskOutcome device disk new.disk failed (AllFilled (filled_of old) h)) new_rows
+        (all_are_filled device disk old new new_head new_exponent new_opening opened first keeps faults kept new_fills none bases failed (new_reads (unfailed_reads done.unfailed)) (unfailed_count done.unfailed) (unfailed_writes done.unfailed))
 
   -- a write had failed, so no fill came
-  module _ (addition : Addition) (count : ℕ) (fault : faults_in between.fills ≡ Fault count true addition ∷ []) (wrote : device.failed_writes between.disk ≡ raised (device.failed_writes disk)) where
+  module _ (addition : Addition) (count : ℕ) (fault : HasOneFault between.fills count true addition) (wrote : device.failed_writes between.disk ≡ raised (device.failed_writes disk)) where
     unhealed : pending_fault_of between.fills ≢ None
-    unhealed none = let pending = pending_fault_of-in between.fills ∙ ap pending_fault_of fault in cc (pending, none)
+    unhealed none = let pending = one_pending_is count true addition between.fills fault in cc (pending, none)
 
-    same_faults : (r : Result ℕ Refusal) → IfOk r (AllLateFilled device between mid) → IfErr r (IsFillingRefusal device between mid) → faults_in mid.fills ≡ Fault count true addition ∷ []
-    same_faults (Ok late) done refused = done.unfailed.same_faults ∙ fault
-    same_faults (Err OutOfMemory) done refused = refused.same_faults ∙ fault
-    same_faults (Err (NeedsReopen faults)) done refused = refused.1.same_faults ∙ fault
-    same_faults (Err (Limit which number)) done refused = refused.2.same_faults ∙ fault
-    same_faults (Err DiskFault) done refused = absurd (unhealed refused.healed)
-    same_faults (Err other) done refused = absurd refused
+    -- it stands behind the filling as before
+    same_fault : IsUnfailed device between mid → HasOneFault mid.fills count true addition
+    same_fault unfailed = one_with_reads count true addition between.fills fault mid.fills [] tt (unfailed.same_faults ∙ sym (append-nil (faults_in between.fills)))
 
-    pub is_taken_back : faults_in mid.fills ≡ Fault count true addition ∷ [] → IsTakenBack device disk new addition
-    is_taken_back one = taken_back device disk mid new addition count healed one (ap device.failed_writes (filled_on.no_call unhealed) ∙ wrote)
+    still_one : (r : Result ℕ Refusal) → IfOk r (AllLateFilled device between mid) → IfErr r (IsFillingRefusal device between mid) → HasOneFault mid.fills count true addition
+    still_one (Ok late) done refused = same_fault done.unfailed
+    still_one (Err OutOfMemory) done refused = same_fault refused
+    still_one (Err (NeedsReopen faults)) done refused = same_fault refused.1
+    still_one (Err (Limit which number)) done refused = same_fault refused.2
+    still_one (Err (Damaged file at)) done refused = same_fault refused.2
+    still_one (Err DiskFault) done (inl failed) = absurd (unhealed failed.healed)
+    still_one (Err DiskFault) done (inr unread) = one_with_reads count true addition between.fills fault mid.fills (Fault unread.count false additions.Nothing ∷ []) ((unread.count, refl), tt) unread.fault
+    still_one (Err other) done refused = absurd refused
+
+    pub is_taken_back : HasOneFault mid.fills count true addition → IsTakenBack device disk new addition
+    is_taken_back one = taken_back device disk mid new addition count healed one ((filled_on.no_write unhealed).no_write ∙ wrote)
 
     -- the count at which it was pending was reached since the disk was handed in
     pub fault_count_since : (r : Result ℕ Refusal) → IfOk r (AllLateFilled device between mid) → IfErr r (IsFillingRefusal device between mid) → (at : ℕ) → pending_fault_of between.fills ≡ Some at
         → IsCountedSince device disk new.disk (Some at)
     fault_count_since r done refused at pending =
-        let behind = pending_behind device mid new addition count healed (same_faults r done refused) in
-        let told : ◌≡◌ {A = Option ℕ} (Some at) (Some count) = sym pending ∙ pending_fault_of-in between.fills ∙ ap pending_fault_of fault in
+        let behind = pending_behind device mid new addition count healed (still_one r done refused) in
+        let told : ◌≡◌ {A = Option ℕ} (Some at) (Some count) = sym pending ∙ one_pending_is count true addition between.fills fault in
         let is : at ≡ count = cc (told) in
-        let opening = above (device.fault_count new.opened) in
-        let rising = subst (λ (fills : List Fill). Rising opening (device.fault_count new.disk) fills) behind.1 (Rising-in new.fills opening (device.fault_count new.disk) faults.rising) in
-        let low = rising.0 in
-        let high = rising.1 in
-        (omega (arith, is, low, first, ap device.fault_count new_opening), omega (arith, is, high))
+        let counted = one_counted count behind.0 addition new.fills behind.1 (above (device.fault_count new.opened)) (device.fault_count new.disk) (omega arith) faults.rising in
+        (omega (arith, is, counted.0, first, ap device.fault_count new_opening), omega (arith, is, counted.1))
 
     -- of a fill,
     pub fill_failed_disk : (r : Result ℕ Refusal) → IfOk r (AllLateFilled device between mid) → IfErr r (IsFillingRefusal device between mid) → (i : Interval) (base : ℕ) → addition ≡ additions.Fill i base
         → HasDiskOutcome device disk new.disk true (FillingFailed (filled_of old) between.history)
     fill_failed_disk r done refused i base is =
-        let back = subst (IsTakenBack device disk new) is (is_taken_back (same_faults r done refused)) in
+        let back = subst (IsTakenBack device disk new) is (is_taken_back (still_one r done refused)) in
         subst (λ (h : List Item). HasDiskOutcome device disk new.disk true (FillingFailed (filled_of old) h)) new_rows
         (fill_has_failed device disk old new new_head new_exponent new_opening opened first keeps faults kept new_fills i base back)
 
@@ -369,12 +395,12 @@ module _ {D : Type 0} (device : Device D) (disk : D) (old between mid new : Stor
         → (IsTrue device.is_transparent → LeavesOnly device old.disk between.disk (IsDuring (archive_of old) between.history (rows_of_faults between.fills)))
         → HasDiskOutcome device disk new.disk true (ExtensionFailed (filled_of old) between.history rows)
     batch_failed_disk r done refused rows is since grew session =
-        let one = same_faults r done refused in
+        let one = still_one r done refused in
         let back = subst (IsTakenBack device disk new) is (is_taken_back one) in
-        let held : rows_of_faults between.fills ≡ batch_left rows = rows_of_faults-in between.fills ∙ ap rows_of_faults fault ∙ ap (λ (a : Addition). rows_of_faults (Fault count true a ∷ [])) is in
-        let pending : unacknowledged_in mid.fills ≡ Some (additions.Rows rows) = unacknowledged-in mid.fills ∙ ap unacknowledged_in one ∙ ap (λ (a : Addition). unacknowledged_in (Fault count true a ∷ [])) is in
+        let held : rows_of_faults between.fills ≡ batch_left rows = one_rows_is count true addition between.fills fault ∙ ap (λ (a : Addition). rows_of_faults (Fault count true a ∷ [])) is in
+        let pending : unacknowledged_in mid.fills ≡ Some (additions.Rows rows) = one_unacknowledged_is count true addition mid.fills one ∙ ap (λ (a : Addition). unacknowledged_in (Fault count true a ∷ [])) is in
         let during = λ (known : IsTrue device.is_transparent).
         subst (λ (h : List Item). IsOpenedThen device disk new.disk (IsDuring (archive_of old) h (batch_left rows))) (sym new_rows)
-        (failed_images device disk old new (opened known) new_opening (keeps known) between mid rows (since known) grew (session known) held (filled_on.no_call unhealed) as_mid pending (healed.crash known)) in
+        (failed_images device disk old new (opened known) new_opening (keeps known) between mid rows (since known) grew (session known) held (filled_on.no_write unhealed) as_mid pending (healed.crash known)) in
         subst (λ (h : List Item). HasDiskOutcome device disk new.disk true (ExtensionFailed (filled_of old) h rows)) new_rows
         (batch_has_failed device disk old new new_head new_exponent new_opening opened first keeps faults kept new_fills rows back during)

@@ -6,13 +6,12 @@ use Rattle.refusals.specs.declared.refusal.Refusal.{Refusal}
 use Rattle.history_items.specs.declared.fills.Addition.{Addition}
 use Rattle.history_items.specs.declared.fills.Fill.{Fill}
 use Rattle.history_items.specs.declared.fills.Fill.TheVariants.{Begun, Done, Freed, Fault, Closed}
-use Rattle.history_items.specs.Fills.{Rising, above, pending_fault_of, reopened}
-use Rattle.store_fills.specs.Faults.{faults_in}
-use Rattle.store_fills.proofs.Faults.{Rising-in, faults_in-reopened}
+use Rattle.history_items.specs.Fills.{pending_fault_of, reopened}
 use Rattle.archive_store.specs.Calls.{CrashLeavesNow, IsStoreReopened, IsStoreReopenRefusal}
 use Rattle.archive_store.specs.StoreView.{FaultInvariant, StoreView}
 use Rattle.archive_store.proofs.Calls.{reopen_failed}
-use Rattle.command_runs.specs.Healing.{TriesToHeal, IsTakenBack}
+use Rattle.command_runs.specs.Healing.{HasOneFault, IsTakenBack, TriesToHeal}
+use Rattle.command_runs.proofs.ReadFaults.{more_faults, one_cleared}
 
 -- where no failed write is pending a reopen leaves the fill list
 reopened_same : (fills : List Fill) → pending_fault_of fills ≡ None → reopened fills ≡ fills
@@ -49,45 +48,41 @@ module _ {D : Type 0} (device : Device D) where
 
   -- ---- counts of faults
 
-  -- a store that holds a fault has more faults than at its opening
-  pub more_faults : (store : StoreView D) (count : ℕ) (wrote : Bool) (addition : Addition) → FaultInvariant device store → faults_in store.fills ≡ Fault count wrote addition ∷ []
-      → raised (device.fault_count store.opened) ≤ device.fault_count store.disk
-  more_faults store count wrote addition keeps one =
-      let rising = subst (λ (fills : List Fill). Rising (above (device.fault_count store.opened)) (device.fault_count store.disk) fills) one (Rising-in store.fills (above (device.fault_count store.opened)) (device.fault_count store.disk) keeps.rising) in
-      let low = rising.0 in
-      let high = rising.1 in
-      let later = keeps.later in
-      omega (arith, low, high, later)
-
   twice : (first then last : ℕ) → raised first ≤ then → raised then ≤ last → raised (raised first) ≤ last
   twice first then last once again = omega (arith, once, again)
 
   -- ---- a write that failed
 
   -- the fault of one that was pending stands at the same count, whether it was taken back or not
-  pub pending_behind : (mid new : StoreView D) (addition : Addition) (count : ℕ) → TriesToHeal device mid new → faults_in mid.fills ≡ Fault count true addition ∷ []
-      → (wrote : Bool) × (faults_in new.fills ≡ Fault count wrote addition ∷ [])
+  pub pending_behind : (mid new : StoreView D) (addition : Addition) (count : ℕ) → TriesToHeal device mid new → HasOneFault mid.fills count true addition
+      → (wrote : Bool) × HasOneFault new.fills count wrote addition
   pending_behind mid new addition count healed fault = elim healed.tried [
-    | inl undone ↦ (false, ap faults_in undone.fills ∙ faults_in-reopened mid.fills ∙ ap reopened fault)
-    | inr again ↦ (true, ap faults_in again.fills ∙ fault)
+    | inl undone ↦ (false, subst (λ (fills : List Fill). HasOneFault fills count false addition) (sym undone.fills) (one_cleared count true addition mid.fills fault))
+    | inr again ↦ (true, subst (λ (fills : List Fill). HasOneFault fills count true addition) (sym again.fills) fault)
   ]
 
   -- it was taken back, or one failed again
-  pub taken_back : (before : D) (mid new : StoreView D) (addition : Addition) (count : ℕ) → TriesToHeal device mid new → faults_in mid.fills ≡ Fault count true addition ∷ []
+  pub taken_back : (before : D) (mid new : StoreView D) (addition : Addition) (count : ℕ) → TriesToHeal device mid new → HasOneFault mid.fills count true addition
       → device.failed_writes mid.disk ≡ raised (device.failed_writes before) → IsTakenBack device before new addition
   taken_back before mid new addition count healed fault wrote = elim healed.tried [
     | inl undone ↦ record {
       count = count;
       wrote = false;
-      fault = ap faults_in undone.fills ∙ faults_in-reopened mid.fills ∙ ap reopened fault;
+      fault = subst (λ (fills : List Fill). HasOneFault fills count false addition) (sym undone.fills) (one_cleared count true addition mid.fills fault);
       tried = inl refl;
       writes = inl (undone.no_failed_write ∙ wrote);
     }
-    | inr again ↦ record { count = count; wrote = true; fault = ap faults_in again.fills ∙ fault; tried = inr (rose again.rose); writes = inr (again.wrote ∙ ap raised wrote) }
+    | inr again ↦ record {
+      count = count;
+      wrote = true;
+      fault = subst (λ (fills : List Fill). HasOneFault fills count true addition) (sym again.fills) fault;
+      tried = inr (rose again.rose);
+      writes = inr (again.wrote ∙ ap raised wrote);
+    }
   ]
     where
       rose : raised (device.fault_count mid.disk) ≤ device.fault_count new.disk → raised (raised (device.fault_count new.opened)) ≤ device.fault_count new.disk
       rose more =
-          let once = more_faults mid count true addition healed.counted fault in
+          let once = more_faults device mid count true addition healed.counted fault in
           subst (λ (d : D). raised (raised (device.fault_count d)) ≤ device.fault_count new.disk) (sym (ap (λ (s : StoreView D). s.opened) healed.left))
           (twice (device.fault_count mid.opened) (device.fault_count mid.disk) (device.fault_count new.disk) once more)

@@ -9,4 +9,6 @@ pub mod Making
 pub mod Moments
 pub mod Openings
 pub mod OverInputs
+pub mod ReadFaults
 pub mod ReadOnly
+pub mod Reading

@@ -1,15 +1,16 @@
 -- The disk of a call that asks an archive.
-use Rattle.std.proofs.Common.{◌≡◌, ◌∙◌, true, false, List, [], ◌∷◌, ◌++◌, length, None, sym, ap, subst, arith}
+use Rattle.std.proofs.Common.{◌≡◌, ◌∙◌, ℕ, true, false, List, [], ◌∷◌, ◌++◌, length, Option, None, refl, sym, ap, subst, arith}
+use Rattle.std.specs.Prelude.{IsTrue}
 use Rattle.std.specs.List.{AllByRecursion}
 use Rattle.std.proofs.lemmas.List.{nil_from_length}
 use Rattle.arch_disk.specs.Disk.{Device, LeavesOnly}
-use Rattle.arch_disk.proofs.Moments.{at_end}
+use Rattle.arch_disk.proofs.Moments.{at_end, joins}
 use Rattle.history_items.specs.declared.fills.Addition.TheVariants as additions
 use Rattle.history_items.specs.declared.fills.Fill.{Fill}
 use Rattle.history_items.specs.declared.fills.Fill.TheVariants.{Fault}
 use Rattle.interval_walks.specs.Counts.{late_intervals}
 use Rattle.store_fills.specs.Faults.{IsDone, faults_in}
-use Rattle.store_fills.proofs.Faults.{faults_in-done, pending_fault_of-in}
+use Rattle.store_fills.proofs.Faults.{faults_in-append, faults_in-done, pending_fault_of-in}
 use Rattle.history_items.specs.Fills.{pending_fault_of}
 use Rattle.command_runs.specs.Healing.{TriesToHeal}
 use Rattle.archive_store.specs.Keeping.{IsKept}
@@ -19,6 +20,12 @@ use Rattle.command_runs.specs.Command.{HasDiskOutcome, Opened}
 use Rattle.load_session.specs.Filling.{IsFillFailed}
 use Rattle.command_runs.specs.Opened.{IsOpenedOn}
 use Rattle.command_runs.specs.ReadOnly.{IsReadOnly}
+use Rattle.command_runs.specs.Reading.{WasRead, is_disk_fault}
+use Rattle.command_runs.proofs.ReadFaults.{NotesReads, noted_reads, reads_pending}
+use Rattle.command_plans.specs.Ledger.{RoseIf}
+use Rattle.refusals.specs.declared.refusal.Refusal.{Refusal}
+use Rattle.archive_store.specs.UnreadRows.{IsFaultOfRead}
+use Rattle.archive_store.specs.ReadOn.{read_none}
 use Rattle.archive_store.specs.LateFills.{late_in_archive}
 
 -- a store that was opened, and to which nothing was done
@@ -39,15 +46,68 @@ opened_outcome device disk s on kept = (
   λ known. read_only_store device disk s (on.opened.filled known) on.reads on.opened.opening on.crash (on.opened.since known) (kept.images known),
 )
 
--- and which a heal behind it left so too
-pub left_opened : {D : Type 0} (device : Device D) (disk : D) (s new healed : StoreView D) → IsOpenedOn device disk s → new ≡ s → TriesToHeal device new healed → IsKept device healed
-    → HasDiskOutcome device disk healed.disk false (Opened (filled_of s))
-left_opened {D = D} device disk s new healed on same heals kept =
-    let none : pending_fault_of s.fills ≡ None = pending_fault_of-in s.fills ∙ ap pending_fault_of (faults_in-done s.fills on.opened.fills) in
-    let undone : TriesToHeal device s healed = subst (λ (x : StoreView D). TriesToHeal device x healed) same heals in
-    let as_was : healed ≡ s = undone.same none in
-    subst (λ (x : StoreView D). HasDiskOutcome device disk x.disk false (Opened (filled_of s))) (sym as_was)
-    (opened_outcome device disk s on (subst (λ (x : StoreView D). IsKept device x) as_was kept))
+-- no fault was noted at its opening
+no_faults : {D : Type 0} (device : Device D) (disk : D) (s : StoreView D) → IsOpenedOn device disk s → faults_in s.fills ≡ []
+no_faults device disk s on = faults_in-done s.fills on.opened.fills
+
+-- nothing was read
+pub not_read : {D : Type 0} (device : Device D) (old new : StoreView D) → new ≡ old → WasRead device old new None
+not_read {D = D} device old new same = subst (λ (s : StoreView D). WasRead device old s None) (sym same) (record { same = read_none device old; failed = refl })
+
+-- and of one that was read then, and which a heal behind it left so
+module _ {D : Type 0} (device : Device D) (disk : D) (s new healed : StoreView D) (on : IsOpenedOn device disk s) (refusal : Option Refusal) (read : WasRead device s new refusal) (heals : TriesToHeal device new healed)
+    (kept : IsKept device healed) where
+  all_reads : faults_in new.fills ≡ faults_in read.same.faults
+  all_reads =
+      ap (λ (x : StoreView D). faults_in x.fills) read.same.same ∙ faults_in-append s.fills read.same.faults
+      ∙ ap (λ (l : List Fill). l ++ faults_in read.same.faults) (no_faults device disk s on)
+
+  reads_noted : NotesReads new.fills
+  reads_noted = subst (AllByRecursion IsFaultOfRead) (sym all_reads) (noted_reads read.same.faults read.same.each)
+
+  as_read : healed ≡ new
+  as_read = heals.same (reads_pending new.fills reads_noted)
+
+  same_archive : filled_of healed ≡ filled_of s
+  same_archive = ap filled_of as_read ∙ ap filled_of read.same.same
+
+  same_opening : healed.opened ≡ s.opened
+  same_opening = ap (λ (x : StoreView D). x.opened) as_read ∙ ap (λ (x : StoreView D). x.opened) read.same.same
+
+  same_disk : healed.disk ≡ new.disk
+  same_disk = ap (λ (x : StoreView D). x.disk) as_read
+
+  reads_as_opened : device.reads healed.disk ≡ device.reads disk
+  reads_as_opened = ap device.reads same_disk ∙ read.same.disk.reads_same ∙ on.reads
+
+  -- what a crash leaves from the opening's syncs on
+  since : IsTrue device.is_transparent → LeavesOnly device s.opened healed.disk (λ c. StandsFilled c (filled_of s))
+  since known =
+      let first = on.opened.since known in
+      subst (λ (d : D). LeavesOnly device s.opened d (λ c. StandsFilled c (filled_of s))) (sym same_disk)
+      (joins device s.opened s.disk new.disk (λ c. StandsFilled c (filled_of s)) (device.images s.disk) first read.same.disk.moments (at_end device s.opened s.disk (λ c. StandsFilled c (filled_of s)) first))
+
+  count_is : RoseIf (is_disk_fault refusal) (device.fault_count disk) (device.fault_count healed.disk)
+  count_is =
+      subst (λ (d : D). RoseIf (is_disk_fault refusal) (device.fault_count disk) (device.fault_count d)) (sym same_disk)
+      (subst (λ (n : ℕ). RoseIf (is_disk_fault refusal) n (device.fault_count new.disk)) on.opened.no_fault read.failed)
+
+  pub left_opened : HasDiskOutcome device disk healed.disk (is_disk_fault refusal) (Opened (filled_of s))
+  left_opened = (
+    record { faults = count_is; writes = (0, omega arith, omega arith, ap device.failed_writes same_disk ∙ read.same.disk.no_write ∙ on.opened.no_failed_write) },
+    λ known. record {
+      stands = on.opened.filled known;
+      reads = reads_as_opened;
+      images = record {
+        opened = s.opened;
+        before = on.crash;
+        since = since known;
+        sound = λ handed. subst (λ (d : D). LeavesOnly device d healed.disk IsSoundImage) same_opening
+            ((kept.images known).sound (subst (λ (d : D). IsSoundImage (device.reads d)) (sym same_opening) (subst IsSoundImage (sym on.opened.opening) handed)));
+      };
+      now = at_end device s.opened healed.disk (λ c. StandsFilled c (filled_of s)) (since known);
+    },
+  )
 
 -- ---- filling where no interval is late
 

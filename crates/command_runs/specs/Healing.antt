@@ -1,12 +1,15 @@
 -- How a failed write is taken back, behind all that a command writes.
-use Rattle.std.specs.Prelude.{◌≡◌, ◌⊎◌, ℕ, ◌≤◌, Bool, false, List, [], ◌∷◌, None}
+use Rattle.std.specs.Prelude.{◌≡◌, ◌⊎◌, ℕ, ◌≤◌, Bool, false, List, ◌∷◌, ◌++◌, None}
+use Rattle.std.specs.List.{AllByRecursion}
 use Rattle.arch_disk.specs.Disk.{Device, NoWriteFailed, raised}
 use Rattle.history_items.specs.declared.fills.Addition.{Addition}
+use Rattle.history_items.specs.declared.fills.Fill.{Fill}
 use Rattle.history_items.specs.declared.fills.Fill.TheVariants.{Fault}
 use Rattle.history_items.specs.Fills.{pending_fault_of, reopened}
 use Rattle.store_fills.specs.Faults.{faults_in}
 use Rattle.archive_store.specs.Calls.{CrashLeavesNow}
 use Rattle.archive_store.specs.StoreView.{FaultInvariant, StoreView}
+use Rattle.archive_store.specs.UnreadRows.{IsFaultOfRead}
 
 -- ---- one attempt
 
@@ -36,12 +39,19 @@ pub record TriesToHeal {D : Type 0} (device : Device D) (old new : StoreView D) 
 abbrev pub OneOrTwo : ℕ → ℕ → Type 0
 OneOrTwo before now = (now ≡ raised before) ⊎ (now ≡ raised (raised before))
 
+-- a fill list has this fault, and else faults of reads alone
+pub record HasOneFault (fills : List Fill) (count : ℕ) (wrote : Bool) (addition : Addition) : Type 0 where
+  pub before : List Fill
+  pub behind : List Fill
+  pub each : AllByRecursion IsFaultOfRead (before ++ behind)
+  pub faults : faults_in fills ≡ before ++ Fault count wrote addition ∷ behind
+
 -- One write failed, which was to add this, and it was tried once to take it back. That succeeded unless the disk has failed
 -- twice since the opening; a second write may have failed then.
 pub record IsTakenBack {D : Type 0} (device : Device D) (before : D) (store : StoreView D) (addition : Addition)
     : Type 0 where
   pub count : ℕ
   pub wrote : Bool
-  pub fault : faults_in store.fills ≡ Fault count wrote addition ∷ []
+  pub fault : HasOneFault store.fills count wrote addition
   pub tried : (wrote ≡ false) ⊎ (raised (raised (device.fault_count store.opened)) ≤ device.fault_count store.disk)
   pub writes : OneOrTwo (device.failed_writes before) (device.failed_writes store.disk)

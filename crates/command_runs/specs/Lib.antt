@@ -11,5 +11,6 @@ pub mod Finishing
 pub mod Healing
 pub mod Moment
 pub mod Opened
+pub mod Reading
 pub mod ReadOnly
 pub mod Report

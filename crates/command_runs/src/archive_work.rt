@@ -5,9 +5,8 @@ ghost use Rattle.archive_store.specs.Entries.{FilledArchive};
 ghost use Rattle.archive_store.specs.Keeping.{IsKept};
 ghost use Rattle.archive_store.specs.StoreView.{StoreView, filled_of};
 ghost use Rattle.command_plans.specs.Plan.{CommandPlan};
-ghost use Rattle.command_runs.specs.ArchiveWork.{opened_plan};
+ghost use Rattle.command_runs.specs.ArchiveWork.{KnownOfDisk, known_of, opened_plan};
 ghost use Rattle.command_runs.specs.Command.{Progress, Ran, effects_of};
-ghost use Rattle.command_runs.specs.FillingPlan.{IsRecordCount};
 ghost use Rattle.command_runs.specs.Healing.{TriesToHeal};
 ghost use Rattle.command_runs.specs.Opened.{IsOpenedOn, WasOpened};
 ghost use Rattle.command_runs.specs.Report.{disk_of_work, report_of_work};
@@ -23,9 +22,8 @@ use std::alloc::Global;
 
 /// What a command does with an archive that was opened.
 pub trait ArchiveWork: Drop {
-    /// Its plan behind the opening, over the archive that was found, by what is known of the number of the journal's
-    /// records.
-    ghost plan: { Self → (ℕ → Type 0) → FilledArchive → CommandPlan Progress ⊥ };
+    /// Its plan behind the opening, over the archive that was found, by what is known of the disk.
+    ghost plan: { Self → KnownOfDisk → FilledArchive → CommandPlan Progress ⊥ };
 
     /// Does it over the store of an archive that was opened, with room for a line, gives the store back, and reports. A
     /// write that failed may still be pending then: it is taken back behind each work.
@@ -43,7 +41,7 @@ pub trait ArchiveWork: Drop {
         // plan, and did what is said where that ends. What a store keeps is given.
         ensures { (disk : D) (healed : StoreView D) → IsOpenedOn D.device disk store →
             TriesToHeal D.device result.0 healed → IsKept D.device healed →
-            Ran D.device (plan self (IsRecordCount D.device disk) (filled_of store))
+            Ran D.device (plan self (known_of D.device disk) (filled_of store))
             (effects_of disk healed.disk (K.state sink.old) (K.state sink.new) result.1) };
 }
 

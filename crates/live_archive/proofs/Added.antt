@@ -7,17 +7,20 @@ use Rattle.arch_disk.specs.Disk.{Device}
 use Rattle.arch_types.specs.declared.inserted.Installed.{Installed}
 use Rattle.arch_types.specs.declared.inserted.Installed.TheVariants as became
 use Rattle.arch_types.specs.declared.row.Row.{Row}
+use Rattle.arch_types.specs.declared.row_fault.RowFault.{RowFault}
+use Rattle.arch_types.specs.declared.row_fault.RowFault.TheVariants as unread
+use Rattle.refusals.specs.Refusal.{refusal_of_rows}
 use Rattle.intervals.specs.declared.interval.Interval.{Interval}
 use Rattle.refusals.specs.declared.refusal.Refusal.{Refusal}
 use Rattle.refusals.specs.declared.refusal.Refusal.TheVariants as refused
 use Rattle.history_items.specs.declared.fills.Addition.TheVariants as additions
+use Rattle.history_items.specs.declared.fills.Addition.TheVariants.{Nothing}
 use Rattle.history_items.specs.declared.fills.Fill.{Fill}
 use Rattle.history_items.specs.declared.fills.Fill.TheVariants.{Freed, Fault, Closed}
 use Rattle.history_items.specs.declared.items.Item.{Item}
 use Rattle.history_items.specs.Fills.{flight_after, in_flight}
-use Rattle.history_items.specs.Outcomes.{fresh_of}
+use Rattle.history_items.specs.Items.{items_of}
 use Rattle.history_items.proofs.FillLists.{flight_after_item}
-use Rattle.history_items.proofs.Outcomes.{fresh_added}
 use Rattle.interval_fills.specs.Steps.{freed}
 use Rattle.store_fills.specs.declared.task.FillTask.{FillTask}
 use Rattle.store_fills.specs.Built.{BuiltFill}
@@ -29,9 +32,9 @@ use Rattle.archive_store.specs.StoreView.{StoreView}
 use Rattle.archive_store.specs.Calls.{IsIngestRefusal}
 use Rattle.archive_store.specs.Installs.{IsAbandoned, IsInstallRefusal, IsStoreInstalled}
 use Rattle.archive_store.specs.Tasks.{IsFillBegun}
-use Rattle.archive_store.proofs.Calls.{failed_fault, ingest_cases, ingested_rows}
-use Rattle.archive_store.proofs.UnreadRows.{begun_same, read_same, refusal_same}
-use Rattle.live_archive.specs.Added.{Adds, AddsTo, AbandonsAdd, AsksAddNothing, BeginsAdd, ClosesAdd, IngestNotes, IngestsAdd, InstallNotes, InstallsAdd, begin_notes, flight_begun, flight_ended, items_put}
+use Rattle.archive_store.specs.UnreadRows.{IsLeftByRefusal, IsReadFault, IsReadRefusal, ReadsRows}
+use Rattle.archive_store.proofs.Calls.{ingest_cases}
+use Rattle.live_archive.specs.Added.{Adds, AddsTo, AbandonsAdd, AreBatchFaults, AreNewRows, AreReadFaults, AsksAdd, AsksAddNothing, BeginNotes, BeginsAdd, ClosesAdd, IngestPuts, IngestsAdd, InstallNotes, InstallsAdd, IsReadNoted, flight_begun, flight_ended}
 use Rattle.live_archive.specs.Answers.{SaysBegun, SaysIngested, SaysInstalled}
 use Rattle.live_archive.specs.Closings.{HasNotClosed}
 use Rattle.live_archive.specs.Shelving.{MayClose}
@@ -83,31 +86,74 @@ module _ {D T : Type 0} (device : Device D) (first before after : StoreView D) (
   ended : Turned device first before after old new → (i : Interval) → IsAbandoned before after i → AddsTo before old new [] (flight_ended i before.fills)
   ended t i is = notes t (flight_ended i before.fills) (ap (λ (s : StoreView D). s.history) is) (ap (λ (s : StoreView D). s.fills) is ∙ freed_adds i before.fills)
 
+  -- rows were read
+  asked : Turned device first before after old new → ReadsRows device before after → AddsTo before old new [] []
+  asked t (inl same) = nothing t same
+  asked t (inr pages) = notes t [] (ap (λ (s : StoreView D). s.history) pages.0.same) (pages.1 ∙ sym (append-nil before.fills))
+
+  -- or weren't, at whatever the answer notes then
+  module _ (Notes : Refusal → List Fill → Type 0) (of_read : (noted : List Fill) → IsReadNoted before noted → Notes refused.DiskFault noted) (none : (refusal : Refusal) → (refusal ≡ refused.DiskFault → ⊥) → Notes refusal []) where
+    unread_for : Turned device first before after old new → (fault : RowFault) → IsReadFault device before after fault → IsLeftByRefusal device before after (refusal_of_rows fault)
+        → (noted : List Fill) × Notes (refusal_of_rows fault) noted × AddsTo before old new [] noted
+    unread_for t unread.DiskFault is left =
+        let noted = Fault is.1.count false Nothing ∷ [] in (noted, of_read noted (is.0, (is.1.count, refl)), notes t noted is.1.history is.1.fills)
+    unread_for t (unread.Damaged file at) is left = ([], none (refused.Damaged file at) (λ e. cc e), asked t left)
+    unread_for t unread.OutOfMemory is left = ([], none refused.OutOfMemory (λ e. cc e), asked t left)
+
+    unread_adds : Turned device first before after old new → (refusal : Refusal) → IsReadRefusal device before after refusal → IsLeftByRefusal device before after refusal
+        → (noted : List Fill) × Notes refusal noted × AddsTo before old new [] noted
+    unread_adds t refusal (fault, is, of) left =
+        subst (λ (e : Refusal). (noted : List Fill) × Notes e noted × AddsTo before old new [] noted) (sym of) (unread_for t fault is (subst (IsLeftByRefusal device before after) of left))
+
+  no_read_faults : (refusal : Refusal) → (refusal ≡ refused.DiskFault → ⊥) → AreReadFaults before refusal []
+  no_read_faults refused.DiskFault other = absurd (other refl)
+  no_read_faults _ other = refl
+
+  unasked : Turned device first before after old new → (refusal : Refusal) → IsReadRefusal device before after refusal → IsLeftByRefusal device before after refusal
+      → (noted : List Fill) × AreReadFaults before refusal noted × AddsTo before old new [] noted
+  unasked t refusal is left = unread_adds (AreReadFaults before) (λ noted read. read) no_read_faults t refusal is left
+
   -- ---- batches
   abbrev Batched : List Row → Result Ingested Refusal → Type 0
-  Batched rows answer = (noted : List Fill) × IngestNotes before.history rows answer noted × AddsTo before old new (items_put before.history rows answer) noted
+  Batched rows answer = (put : List Row) × (noted : List Fill) × IngestPuts device before rows answer put noted × AddsTo before old new (items_of put) noted
+
+  no_batch_faults : (rows : List Row) (refusal : Refusal) → (refusal ≡ refused.DiskFault → ⊥) → AreBatchFaults device before rows refusal []
+  no_batch_faults rows refused.DiskFault other = absurd (other refl)
+  no_batch_faults rows _ other = refl
 
   batch_refused : Turned device first before after old new → (rows : List Row) (e : Refusal) → IsIngestRefusal device before after rows e → Batched rows (Err e)
   batch_refused t rows e i =
-      ingest_cases device before after rows (λ r. Batched rows (Err r)) e i (λ n r. ([], refl, nothing t r.1)) (λ w n r. ([], refl, nothing t (read_same device before after r.2)))
+      ingest_cases device before after rows (λ r. Batched rows (Err r)) e i (λ n r. ([], [], (refl, refl), nothing t r.1)) (λ w n r. ([], [], (refl, refl), asked t r.2))
       (λ failed.
-      let fault = failed_fault device before after rows failed in
-      let noted = Fault fault.count true (additions.Rows (fresh_of before.history rows)) ∷ [] in
-      (noted, (fault.count, refl), notes t noted fault.history fault.fills))
-      (λ r. ([], refl, nothing t (read_same device before after r.1)))
+      let noted = Fault failed.fault.count true (additions.Rows failed.fresh) ∷ [] in
+      let fresh : AreNewRows device before rows failed.fresh = record { of_batch = failed.of_batch; few = failed.few; told = λ told. (failed.told told).fresh_is } in
+      ([], noted, (refl, inl (failed.fresh, fresh, (failed.fault.count, refl))), notes t noted failed.fault.history failed.fault.fills))
+      (λ refusal r.
+      let adds = unread_adds (AreBatchFaults device before rows) (λ noted read. inr read) (no_batch_faults rows) t refusal r.unread r.left in
+      ([], adds.0, (refl, adds.1), adds.2))
+      (λ r. ([], [], (refl, refl), asked t r.1))
 
   batched : Turned device first before after old new → (rows : List Row) (answer : Result Ingested Refusal) → SaysIngested device rows answer before after → Batched rows answer
-  batched t rows (Ok ingest) i = ([], refl, adds t _ [] (ingested_rows device before after rows ingest.outcomes i ∙ fresh_added before.history rows) (i.fills ∙ sym (append-nil before.fills)))
+  batched t rows (Ok ingest) i = (
+    i.fresh,
+    [],
+    (record { of_batch = i.of_batch; few = i.few; told = λ told. (i.told told).fresh_is }, refl),
+    adds t (items_of i.fresh) [] i.history (i.fills ∙ sym (append-nil before.fills)),
+  )
   batched t rows (Err e) i = batch_refused t rows e i
 
   -- ---- fills
   begun : Turned device first before after old new → (o : Option FillTask) → IsFillBegun device before after o → AddsTo before old new [] (flight_begun o)
   begun t None i = nothing t i.1
-  begun t (Some task) i = notes t _ (ap (λ (s : StoreView D). s.history) (begun_same device before after task i)) i.fills
+  begun t (Some task) i = notes t (flight_begun (Some task)) (begun_history i.reads) i.fills
+    where
+      begun_history : ReadsRows device before (record after { fills = before.fills }) → after.history ≡ before.history
+      begun_history (inl same) = ap (λ (s : StoreView D). s.history) same
+      begun_history (inr pages) = ap (λ (s : StoreView D). s.history) pages.0.same
 
-  began : Turned device first before after old new → (answer : Result (Option FillTask) Refusal) → SaysBegun device answer before after → AddsTo before old new [] (begin_notes answer)
-  began t (Ok o) i = begun t o i
-  began t (Err e) i = nothing t (refusal_same device before after e i.1)
+  began : Turned device first before after old new → (answer : Result (Option FillTask) Refusal) → SaysBegun device answer before after → (noted : List Fill) × BeginNotes before answer noted × AddsTo before old new [] noted
+  began t (Ok o) i = (flight_begun o, refl, begun t o i)
+  began t (Err e) i = unasked t e i.0 i.1
 
   abbrev Filled : BuiltFill → Result Installed Refusal → Type 0
   Filled done answer = (noted : List Fill) × InstallNotes before.fills done answer noted × AddsTo before old new [] noted
@@ -160,4 +206,7 @@ module _ {D : Type 0} (T : Type 0) (device : Device D) where
   closes_add first before after old new t may = closed device first before after old new t may
 
   pub asks_add_nothing : AsksAddNothing T device
-  asks_add_nothing first before after old new t said = nothing device first before after old new t said
+  asks_add_nothing first before after old new t reads = asked device first before after old new t reads
+
+  pub asks_add : AsksAdd T device
+  asks_add first before after old new refusal t is left = unasked device first before after old new t refusal is left

@@ -19,15 +19,16 @@ use Rattle.turn_cell.specs.Pass.{PassView}
 use Rattle.archive_store.specs.Installs.{IsRightFor}
 use Rattle.archive_store.specs.StoreView.{StoreView}
 use Rattle.archive_store.specs.Tasks.{BeginsTask}
-use Rattle.archive_store.proofs.UnreadRows.{told_in_memory}
+use Rattle.archive_store.specs.Pages.{TellsRows}
 use Rattle.live_archive.specs.Laws.{BuiltIsRight, IsBuiltOf, RightStays}
 use Rattle.live_archive.specs.Turns.{as_seen}
+use Rattle.live_archive.proofs.Going.{told_on}
 use Rattle.live_archive.proofs.Later.{right_later}
 
 -- what is built of a task is right for the store in which it began
-right_there : {D : Type 0} (device : Device D) (store after : StoreView D) (task : FillTask) (done : BuiltFill) → BeginsTask device store after task → IsBuiltOf task done → IsRightFor store done
-right_there device store after task done begun of =
-    let step = begun.step (told_in_memory device store) in
+right_there : {D : Type 0} (device : Device D) (store after : StoreView D) (task : FillTask) (done : BuiltFill) → TellsRows device store → BeginsTask device store after task → IsBuiltOf task done → IsRightFor store done
+right_there device store after task done told begun of =
+    let step = begun.step told in
     let db = database_in store.head.mdb store.history in
     let i : Interval = task.interval in
     let set = done.set in
@@ -43,10 +44,10 @@ right_there device store after task done begun of =
 
 module _ {D : Type 0} (T : Type 0) (device : Device D) where
   pub built_right : BuiltIsRight T device
-  built_right first before after old new task done t begun of =
+  built_right first before after old new task done told t begun of =
       let seen = ap (λ (p : PassView Item Fill T). p.history.seen) t.pass in
       right_later before (as_seen first new) done (subst (IsPrefix before.history) (sym seen) t.goes.appends.history) (sym t.found.appends.head) (sym t.found.appends.exponent)
-      (right_there device before after task done begun of)
+      (right_there device before after task done (told_on device first before t.found.appends.sealed told) begun of)
 
   pub right_stays : RightStays T device
   right_stays first old new done more right = right_later (as_seen first old) (as_seen first new) done more refl refl right

@@ -1,15 +1,19 @@
 -- No call but the last publication puts a closing behind the fill list.
-use Rattle.std.proofs.Common.{◌≡◌, ◌+◌, Bool, true, false, List, [], ◌∷◌, ◌++◌, Option, Some, None, Result, Ok, Err, MatchResult, if◌then◌else◌, refl, ap, ◌∙◌, arith}
+use Rattle.std.proofs.Common.{◌≡◌, ◌+◌, Bool, true, false, List, [], ◌∷◌, ◌++◌, Option, Some, None, inl, inr, Result, Ok, Err, IfErr, MatchResult, if◌then◌else◌, refl, ap, ◌∙◌, subst, arith}
 use Rattle.std.specs.Option.{is_some}
 use Rattle.arch_disk.specs.Disk.{Device}
 use Rattle.arch_types.specs.declared.inserted.Inserted.{Inserted}
 use Rattle.arch_types.specs.declared.inserted.Installed.{Installed}
 use Rattle.arch_types.specs.declared.inserted.Installed.TheVariants as became
 use Rattle.arch_types.specs.declared.row.Row.{Row}
+use Rattle.arch_types.specs.declared.row_fault.RowFault.{RowFault}
+use Rattle.arch_types.specs.declared.row_fault.RowFault.TheVariants as unread
+use Rattle.refusals.specs.Refusal.{refusal_of_rows}
 use Rattle.intervals.specs.declared.interval.Interval.{Interval}
 use Rattle.refusals.specs.declared.refusal.Refusal.{Refusal}
 use Rattle.refusals.specs.declared.refusal.Refusal.TheVariants as refused
 use Rattle.history_items.specs.declared.fills.Addition.{Addition}
+use Rattle.history_items.specs.declared.fills.Addition.TheVariants.{Nothing}
 use Rattle.history_items.specs.declared.fills.Fill.{Fill}
 use Rattle.history_items.specs.declared.fills.Fill.TheVariants.{Begun, Done, Freed, Fault, Closed}
 use Rattle.history_items.specs.Fills.{in_flight}
@@ -20,9 +24,8 @@ use Rattle.archive_store.specs.Calls.{AreIngested, IsIngestRefusal}
 use Rattle.archive_store.specs.Installs.{IsInstallRefusal, IsStoreInstalled}
 use Rattle.archive_store.specs.StoreView.{AddsFault, StoreView}
 use Rattle.archive_store.specs.Tasks.{IsFillBegun}
-use Rattle.archive_store.specs.UnreadRows.{IsLeftByRefusal, IsReadRefusal}
+use Rattle.archive_store.specs.UnreadRows.{IsLeftByRead, IsLeftByRefusal, IsReadFault, IsReadRefusal, ReadsRows}
 use Rattle.archive_store.proofs.Calls.{ingest_cases}
-use Rattle.archive_store.proofs.UnreadRows.{read_same, refusal_same}
 use Rattle.live_archive.specs.Closings.{TellsClosing, closings}
 
 -- one item behind a list
@@ -63,9 +66,26 @@ module _ {D : Type 0} (device : Device D) (a b : StoreView D) where
   none_fault : (wrote : Bool) (addition : Addition) → AddsFault device a b wrote addition → closings b.fills ≡ closings a.fills
   none_fault wrote addition f = ap closings f.fills ∙ none_behind a.fills (Fault f.count wrote addition) refl
 
+  pub none_reads : ReadsRows device a b → closings b.fills ≡ closings a.fills
+  none_reads (inl same) = none_same a b same
+  none_reads (inr pages) = ap closings pages.1
+
+  none_unread_for : (fault : RowFault) → IsReadFault device a b fault → IsLeftByRefusal device a b (refusal_of_rows fault) → closings b.fills ≡ closings a.fills
+  none_unread_for unread.DiskFault is left = none_fault false Nothing is.1
+  none_unread_for (unread.Damaged file at) is left = none_reads left
+  none_unread_for unread.OutOfMemory is left = none_reads left
+
+  pub none_unread : (e : Refusal) → IsReadRefusal device a b e → IsLeftByRefusal device a b e → closings b.fills ≡ closings a.fills
+  none_unread e (fault, is, of) left = none_unread_for fault is (subst (IsLeftByRefusal device a b) of left)
+
+  pub none_read : {X : Type 0} (r : Result X RowFault) → IfErr r (IsReadFault device a b) → IsLeftByRead device a b r → closings b.fills ≡ closings a.fills
+  none_read (Ok x) why left = none_reads left
+  none_read (Err fault) why left = none_unread_for fault why left
+
   none_ingest_refused : (rows : List Row) (e : Refusal) → IsIngestRefusal device a b rows e → closings b.fills ≡ closings a.fills
   none_ingest_refused rows e i =
-      ingest_cases device a b rows (λ _. closings b.fills ≡ closings a.fills) e i (λ n r. none_same a b r.1) (λ w n r. none_same a b (read_same device a b r.2)) (λ failed. none_fault true _ failed.fault) (λ r. none_same a b (read_same device a b r.1))
+      ingest_cases device a b rows (λ _. closings b.fills ≡ closings a.fills) e i (λ n r. none_same a b r.1) (λ w n r. none_reads r.2) (λ failed. none_fault true _ failed.fault)
+      (λ refusal r. none_unread refusal r.unread r.left) (λ r. none_reads r.1)
 
   pub none_ingest : {X : Type 0} (rows : List Row) (r : Result X Refusal) (outcomes : X → List Inserted) → MatchResult r (λ x. AreIngested device a b rows (outcomes x)) (IsIngestRefusal device a b rows) → closings b.fills ≡ closings a.fills
   none_ingest rows (Ok x) outcomes i = ap closings i.fills
@@ -77,7 +97,7 @@ module _ {D : Type 0} (device : Device D) (a b : StoreView D) where
 
   pub none_begin : (r : Result (Option FillTask) Refusal) → MatchResult r (IsFillBegun device a b) (λ e. IsReadRefusal device a b e × IsLeftByRefusal device a b e) → closings b.fills ≡ closings a.fills
   none_begin (Ok o) i = none_begun o i
-  none_begin (Err e) i = none_same a b (refusal_same device a b e i.1)
+  none_begin (Err e) i = none_unread e i.0 i.1
 
   pub none_abandoned : (i : Interval) → b ≡ record a { fills = freed i a.fills } → closings b.fills ≡ closings a.fills
   none_abandoned i is = ap (λ (s : StoreView D). closings s.fills) is ∙ none_freed i a.fills

@@ -1,6 +1,6 @@
 -- Each call of a store goes on from what there was.
-use Rattle.std.proofs.Common.{◌≡◌, ◌≢◌, ◌⊎◌, inl, inr, ⊎_elim, ℕ, suc, ◌+◌, ◌≤◌, Bool, true, false, List, [], ◌∷◌, ◌++◌, length, fold, IsTrue, Option, Some, None, Result, Ok, Err, MatchResult, if◌then◌else◌, refl, sym, ap, ◌∙◌, subst, arith, append_assoc, append-nil, length-append, le_refl}
-use Rattle.std.specs.List.{filter_map}
+use Rattle.std.proofs.Common.{◌≡◌, ◌≢◌, ◌⊎◌, inl, inr, ⊎_elim, ℕ, suc, ◌+◌, ◌<◌, ◌≤◌, Bool, true, false, List, [], ◌∷◌, ◌++◌, length, fold, IsTrue, Option, Some, None, Result, Ok, Err, IfErr, MatchResult, if◌then◌else◌, refl, sym, ap, ◌∙◌, subst, arith, append_assoc, append-nil, length-append, le_refl}
+use Rattle.std.specs.List.{AllByRecursion, filter_map}
 use Rattle.std.specs.Option.{is_some, option_or}
 use Rattle.std.specs.Prelude.{slice_get}
 use Rattle.std.proofs.lemmas.List.Elements.{filter_map-append}
@@ -13,10 +13,14 @@ use Rattle.arch_types.specs.declared.inserted.Installed.TheVariants as became
 use Rattle.refusals.specs.declared.refusal.Refusal.{Refusal}
 use Rattle.refusals.specs.declared.refusal.Refusal.TheVariants as refused
 use Rattle.arch_types.specs.declared.row.Row.{Row}
+use Rattle.arch_types.specs.declared.row_fault.RowFault.{RowFault}
+use Rattle.arch_types.specs.declared.row_fault.RowFault.TheVariants as unread
+use Rattle.refusals.specs.Refusal.{refusal_of_rows}
 use Rattle.history_items.specs.declared.fills.Addition.{Addition}
 use Rattle.history_items.specs.declared.fills.Addition.TheVariants as additions
 use Rattle.history_items.specs.declared.fills.Fill.{Fill}
-use Rattle.history_items.specs.declared.fills.Fill.TheVariants.{Done, Freed, Fault, Closed}
+use Rattle.history_items.specs.declared.fills.Addition.TheVariants.{Nothing}
+use Rattle.history_items.specs.declared.fills.Fill.TheVariants.{Begun, Done, Freed, Fault, Closed}
 use Rattle.mdb_items.specs.Database.{Database}
 use Rattle.history_items.specs.declared.items.Item.{Item}
 use Rattle.history_items.specs.Items.{databases_in, items_of}
@@ -36,9 +40,9 @@ use Rattle.store_fills.specs.LastFills.{fillings_in, fill_over}
 use Rattle.store_fills.specs.Sound.{Fillings}
 use Rattle.store_fills.proofs.RightFills.{right_fill_stays}
 use Rattle.archive_store.specs.Head.{Head}
-use Rattle.archive_store.specs.UnreadRows.{IsLeftByRefusal, IsReadRefusal}
+use Rattle.archive_store.specs.Pages.{TellsRows}
+use Rattle.archive_store.specs.UnreadRows.{IsFaultOfRead, IsLeftByRead, IsLeftByRefusal, IsReadFault, IsReadRefusal, ReadsPages, ReadsRows}
 use Rattle.archive_store.proofs.Calls.{failed_fault, ingest_cases, ingested_rows}
-use Rattle.archive_store.proofs.UnreadRows.{begun_same, read_same, refusal_same}
 use Rattle.archive_store.specs.StoreView.{StoreView, OnlyAppends, AddsFault, filled_of}
 use Rattle.archive_store.specs.Stands.{StandsFilled}
 use Rattle.archive_store.specs.Calls.{AreIngested, CrashLeavesEither, IsIngestRefusal, archive_with}
@@ -48,7 +52,7 @@ use Rattle.store_fills.specs.Faults.{faults_in}
 use Rattle.store_fills.proofs.Faults.{faults_in-append, pending_fault_of-in}
 use Rattle.history_items.proofs.FillLists.{pending_fault_of-append}
 use Rattle.live_archive.proofs.Places.{at_behind, at_later}
-use Rattle.live_archive.proofs.Images.{batch_came, batch_failed, fill_tried, same_pending, without_disk}
+use Rattle.live_archive.proofs.Images.{batch_came, batch_failed, fill_tried, looked, same_pending, without_disk}
 use Rattle.live_archive.specs.Images.{LeavesBetween}
 use Rattle.live_archive.specs.Shelving.{with_closing}
 use Rattle.live_archive.specs.GoesOn.{AreNewTo, GoesOn, HasFillOrNew, HasNewFill, NoneFailed, OneFailed, SameDatabase, done_of_fill, dones}
@@ -67,11 +71,19 @@ dones-append fills more =
     ap length (filter_map-append done_of_fill fills more) ∙ length-append (filter_map done_of_fill fills) (filter_map done_of_fill more)
 
 -- a failed write is pending behind whatever came before it
-still_pending : (fills : List Fill) (count : ℕ) (addition : Addition) → pending_fault_of (fills ++ Fault count true addition ∷ []) ≡ None → ⊥
-still_pending fills count addition none = go (pending_fault_of fills) (sym (pending_fault_of-append fills (Fault count true addition ∷ [])) ∙ none)
+still_pending : (fills : List Fill) (count : ℕ) (addition : Addition) (behind : List Fill) → pending_fault_of (fills ++ Fault count true addition ∷ behind) ≡ None → ⊥
+still_pending fills count addition behind none = go (pending_fault_of fills) (sym (pending_fault_of-append fills (Fault count true addition ∷ behind)) ∙ none)
   where
     go : (o : Option ℕ) → option_or o (Some count) ≡ None → ⊥
     go None e = absurd (cc e)
+    go (Some n) e = absurd (cc e)
+
+-- what is healed was so before
+healed_before : (fills more : List Fill) → pending_fault_of (fills ++ more) ≡ None → pending_fault_of fills ≡ None
+healed_before fills more none = go (pending_fault_of fills) (sym (pending_fault_of-append fills more) ∙ none)
+  where
+    go : (o : Option ℕ) → option_or o (pending_fault_of more) ≡ None → o ≡ None
+    go None e = refl
     go (Some n) e = absurd (cc e)
 
 -- what was pending is, whatever comes behind it
@@ -95,6 +107,40 @@ pub all_freed_is : (flights : List Interval) (fills : List Fill) → (dones (fol
 all_freed_is [] fills = (refl, refl, prefix_self fills)
 all_freed_is (i ∷ flights) fills = let a = freed_is i fills in let b = all_freed_is flights (freed i fills) in (b.0 ∙ a.0, b.1 ∙ a.1, prefix_trans fills (freed i fills) _ a.2 b.2)
 
+-- ---- faults of reads
+
+each_both : (a b : List Fill) → AllByRecursion IsFaultOfRead a → AllByRecursion IsFaultOfRead b → AllByRecursion IsFaultOfRead (a ++ b)
+each_both [] b x y = y
+each_both (item ∷ a) b x y = (x.0, each_both a b x.1 y)
+
+-- they are no fills that are there
+dones_of_reads : (reads : List Fill) → AllByRecursion IsFaultOfRead reads → dones reads ≡ 0
+dones_of_reads [] each = refl
+dones_of_reads (item ∷ reads) each = subst (λ (f : Fill). dones (f ∷ reads) ≡ 0) (sym each.0.1) (dones_of_reads reads each.1)
+
+-- and are all faults
+faults_of_reads : (reads : List Fill) → AllByRecursion IsFaultOfRead reads → faults_in reads ≡ reads
+faults_of_reads [] each = refl
+faults_of_reads (item ∷ reads) each =
+    subst (λ (f : Fill). faults_in (f ∷ reads) ≡ f ∷ reads) (sym each.0.1) (ap (λ (l : List Fill). Fault each.0.0 false Nothing ∷ l) (faults_of_reads reads each.1))
+
+both_none : (a b : List Fill) → a ≡ [] → b ≡ [] → a ++ b ≡ []
+both_none a b first second = ap (λ (l : List Fill). l ++ b) first ∙ second
+
+first_none : (a b : List Fill) → a ++ b ≡ [] → a ≡ []
+first_none [] b none = refl
+first_none (item ∷ a) b none = absurd (cc none)
+
+then_none : (a b : List Fill) → a ++ b ≡ [] → b ≡ []
+then_none [] b none = none
+then_none (item ∷ a) b none = absurd (cc none)
+
+-- what was told is told by a store of which as many rows stand in runs
+pub told_on : {D : Type 0} (device : Device D) (a b : StoreView D) → b.sealed ≡ a.sealed → TellsRows device a → TellsRows device b
+told_on device a b same told paged = told (subst (λ (n : ℕ). 0 < n) same paged)
+
+-- ---- databases
+
 -- rows bring no database
 rows_same : {D : Type 0} (a b : StoreView D) (rows : List Row) → b.head ≡ a.head → b.history ≡ a.history ++ items_of rows → SameDatabase a b
 rows_same a b rows head history = record {
@@ -108,14 +154,93 @@ history_same : {D : Type 0} (a b : StoreView D) → b.head ≡ a.head → b.hist
 history_same a b head history = rows_same a b [] head (history ∙ sym (append-nil a.history))
 
 module _ {D : Type 0} (device : Device D) where
+  -- ---- faults
+
+  -- no read failed
+  none_read : (a b : StoreView D) → faults_in b.fills ≡ faults_in a.fills ++ [] → device.failed_writes b.disk ≡ device.failed_writes a.disk → device.fault_count b.disk ≡ device.fault_count a.disk → NoneFailed device a b
+  none_read a b faults writes none = record {
+    reads = [];
+    each = tt;
+    faults = faults;
+    no_failed_write = writes;
+    no_fault = λ _. none;
+    rose = λ some. absurd (some refl);
+    plain = λ _. refl;
+  }
+
+  -- the disk's count never falls
+  count_later : (a b : StoreView D) → NoneFailed device a b → device.fault_count a.disk ≤ device.fault_count b.disk
+  count_later a b x = go x.reads x.no_fault x.rose
+    where
+      go : (reads : List Fill) → (reads ≡ [] → device.fault_count b.disk ≡ device.fault_count a.disk) → (reads ≢ [] → raised (device.fault_count a.disk) ≤ device.fault_count b.disk) → device.fault_count a.disk ≤ device.fault_count b.disk
+      go [] same rose = let e = same refl in omega (arith, e)
+      go (item ∷ reads) same rose = let more = rose (λ none. cc none) in omega (arith, more)
+
+  -- one write failed at most, whatever reads failed
+  none_none : (a b c : StoreView D) → b.sealed ≡ a.sealed → NoneFailed device a b → NoneFailed device b c → NoneFailed device a c
+  none_none a b c sealed x y = record {
+    reads = x.reads ++ y.reads;
+    each = each_both x.reads y.reads x.each y.each;
+    faults = y.faults ∙ (ap (λ (l : List Fill). l ++ y.reads) x.faults ∙ append_assoc (faults_in a.fills) x.reads y.reads);
+    no_failed_write = y.no_failed_write ∙ x.no_failed_write;
+    no_fault = λ none. y.no_fault (then_none x.reads y.reads none) ∙ x.no_fault (first_none x.reads y.reads none);
+    rose = go x.reads x.no_fault x.rose;
+    plain = λ none. both_none x.reads y.reads (x.plain none) (y.plain (sealed ∙ none));
+  }
+    where
+      go : (reads : List Fill) → (reads ≡ [] → device.fault_count b.disk ≡ device.fault_count a.disk) → (reads ≢ [] → raised (device.fault_count a.disk) ≤ device.fault_count b.disk)
+          → reads ++ y.reads ≢ [] → raised (device.fault_count a.disk) ≤ device.fault_count c.disk
+      go [] same rose some = subst (λ (n : ℕ). raised n ≤ device.fault_count c.disk) (same refl) (y.rose some)
+      go (item ∷ reads) same rose some = let first = rose (λ none. cc none) in let later = count_later b c y in omega (arith, first, later)
+
+  none_one : (a b c : StoreView D) → b.sealed ≡ a.sealed → NoneFailed device a b → OneFailed device b c → OneFailed device a c
+  none_one a b c sealed x y = record {
+    healed = pending_fault_of-in a.fills ∙ healed_before (faults_in a.fills) x.reads (ap pending_fault_of (sym x.faults) ∙ (sym (pending_fault_of-in b.fills) ∙ y.healed));
+    count = y.count;
+    addition = y.addition;
+    new_to = λ told. y.new_to (told_on device a b sealed told);
+    before = x.reads ++ y.before;
+    behind = y.behind;
+    each = subst (AllByRecursion IsFaultOfRead) (sym (append_assoc x.reads y.before y.behind)) (each_both x.reads (y.before ++ y.behind) x.each y.each);
+    faults = y.faults ∙ (ap (λ (l : List Fill). l ++ (y.before ++ Fault y.count true y.addition ∷ y.behind)) x.faults
+        ∙ (append_assoc (faults_in a.fills) x.reads (y.before ++ Fault y.count true y.addition ∷ y.behind)
+        ∙ ap (λ (l : List Fill). faults_in a.fills ++ l) (sym (append_assoc x.reads y.before (Fault y.count true y.addition ∷ y.behind)))));
+    wrote = y.wrote ∙ ap raised x.no_failed_write;
+    rose = let later = count_later a b x in let rose = y.rose in omega (arith, later, rose);
+    plain = λ none. let rest = y.plain (sealed ∙ none) in (both_none x.reads y.before (x.plain none) rest.0, rest.1);
+  }
+
+  one_none : (a b c : StoreView D) → b.sealed ≡ a.sealed → (TellsRows device a → c.history ≡ b.history) → OneFailed device a b → NoneFailed device b c → OneFailed device a c
+  one_none a b c sealed history x y = record {
+    healed = x.healed;
+    count = x.count;
+    addition = x.addition;
+    new_to = λ told. subst (λ (l : List Item). AreNewTo l x.addition) (sym (history told)) (x.new_to told);
+    before = x.before;
+    behind = x.behind ++ y.reads;
+    each = subst (AllByRecursion IsFaultOfRead) (append_assoc x.before x.behind y.reads) (each_both (x.before ++ x.behind) y.reads x.each y.each);
+    faults = y.faults ∙ (ap (λ (l : List Fill). l ++ y.reads) x.faults
+        ∙ (append_assoc (faults_in a.fills) (x.before ++ Fault x.count true x.addition ∷ x.behind) y.reads
+        ∙ ap (λ (l : List Fill). faults_in a.fills ++ l) (append_assoc x.before (Fault x.count true x.addition ∷ x.behind) y.reads)));
+    wrote = y.no_failed_write ∙ x.wrote;
+    rose = let later = count_later b c y in let rose = x.rose in omega (arith, later, rose);
+    plain = λ none. let first = x.plain none in (first.0, both_none x.behind y.reads first.1 (y.plain (sealed ∙ none)));
+  }
+
+  -- a failed write is pending from then on
+  one_pending : (a b : StoreView D) → OneFailed device a b → pending_fault_of b.fills ≡ None → ⊥
+  one_pending a b x none =
+      still_pending (faults_in a.fills ++ x.before) x.count x.addition x.behind
+      (ap pending_fault_of (append_assoc (faults_in a.fills) x.before (Fault x.count true x.addition ∷ x.behind) ∙ sym x.faults) ∙ (sym (pending_fault_of-in b.fills) ∙ none))
+
   -- nothing happened
   pub goes_same : (a b : StoreView D) → b ≡ a → GoesOn device a b
   goes_same a b is = subst (GoesOn device a) (sym is) (record {
-    appends = record { history = prefix_self a.history; fills = prefix_self a.fills; head = refl; exponent = refl; opened = refl };
+    appends = record { history = prefix_self a.history; fills = prefix_self a.fills; head = refl; exponent = refl; opened = refl; sealed = refl };
     database = record { alone = refl; in_force = refl; names = refl };
     records = le_refl _;
     recorded = le_refl _;
-    faults = inl (record { same_faults = refl; no_failed_write = refl; no_fault = refl });
+    faults = inl (none_read a a (sym (append-nil (faults_in a.fills))) refl refl);
     stops = λ _. refl;
     sets = λ _ i. inl refl;
     images = λ _ start since. since;
@@ -132,35 +257,19 @@ module _ {D : Type 0} (device : Device D) where
       head = q.appends.head ∙ p.appends.head;
       exponent = q.appends.exponent ∙ p.appends.exponent;
       opened = q.appends.opened ∙ p.appends.opened;
+      sealed = q.appends.sealed ∙ p.appends.sealed;
     };
     database = record { alone = q.database.alone ∙ p.database.alone; in_force = q.database.in_force ∙ p.database.in_force; names = q.database.names ∙ p.database.names };
     records = let x = p.records in let y = q.records in omega (arith, x, y);
     recorded = let x = p.recorded in let y = q.recorded in omega (arith, x, y);
     faults = ⊎_elim
         (λ (x : NoneFailed device a b). ⊎_elim
-        (λ (y : NoneFailed device b c). inl (record { same_faults = y.same_faults ∙ x.same_faults; no_failed_write = y.no_failed_write ∙ x.no_failed_write; no_fault = y.no_fault ∙ x.no_fault }))
-        (λ (y : OneFailed device b c). inr (record {
-          healed = pending_fault_of-in a.fills ∙ (ap pending_fault_of (sym x.same_faults) ∙ (sym (pending_fault_of-in b.fills) ∙ y.healed));
-          count = y.count;
-          addition = y.addition;
-          new_to = y.new_to;
-          faults = y.faults ∙ ap (λ (l : List Fill). l ++ Fault y.count true y.addition ∷ []) x.same_faults;
-          wrote = y.wrote ∙ ap raised x.no_failed_write;
-          rose = subst (λ (n : ℕ). raised n ≤ device.fault_count c.disk) x.no_fault y.rose;
-        }))
+        (λ (y : NoneFailed device b c). inl (none_none a b c p.appends.sealed x y))
+        (λ (y : OneFailed device b c). inr (none_one a b c p.appends.sealed x y))
         q.faults)
         (λ (x : OneFailed device a b). ⊎_elim
-        (λ (y : NoneFailed device b c). inr (record {
-          healed = x.healed;
-          count = x.count;
-          addition = x.addition;
-          new_to = subst (λ (l : List Item). AreNewTo l x.addition)
-              (sym (q.stops (λ none. still_pending (faults_in a.fills) x.count x.addition (ap pending_fault_of (sym x.faults) ∙ (sym (pending_fault_of-in b.fills) ∙ none))))) x.new_to;
-          faults = y.same_faults ∙ x.faults;
-          wrote = y.no_failed_write ∙ x.wrote;
-          rose = subst (λ (n : ℕ). raised (device.fault_count a.disk) ≤ n) (sym y.no_fault) x.rose;
-        }))
-        (λ (y : OneFailed device b c). absurd (still_pending (faults_in a.fills) x.count x.addition (ap pending_fault_of (sym x.faults) ∙ (sym (pending_fault_of-in b.fills) ∙ y.healed))))
+        (λ (y : NoneFailed device b c). inr (one_none a b c p.appends.sealed (λ _. q.stops (one_pending a b x)) x y))
+        (λ (y : OneFailed device b c). absurd (one_pending a b x y.healed))
         q.faults)
         p.faults;
     stops = λ pending. q.stops (subst (λ (l : List Fill). pending_fault_of l ≢ None) p.appends.fills.1 (pending_later a.fills p.appends.fills.0 pending)) ∙ p.stops pending;
@@ -200,12 +309,71 @@ module _ {D : Type 0} (device : Device D) where
   abbrev KeepsImages : StoreView D → StoreView D → Type 0
   KeepsImages a b = IsTrue device.is_transparent → (start : StoreView D) → LeavesBetween device start a → LeavesBetween device start b
 
+  -- ---- reads
+
+  -- pages were read, and these reads failed
+  goes_pages : (a b : StoreView D) (reads : List Fill) → AllByRecursion IsFaultOfRead reads → ReadsPages device a b → b.fills ≡ a.fills ++ reads
+      → (reads ≡ [] → device.fault_count b.disk ≡ device.fault_count a.disk) → (reads ≢ [] → raised (device.fault_count a.disk) ≤ device.fault_count b.disk) → GoesOn device a b
+  goes_pages a b reads each pages fills none rose = record {
+    appends = grew;
+    database = history_same a b grew.head history;
+    records = let h = ap length history in let r = records in let d = done in omega (arith, h, r, d);
+    recorded = let r = records in let d = done in omega (arith, r, d);
+    faults = inl (record { reads = reads; each = each; faults = noted; no_failed_write = pages.disk.no_write; no_fault = none; rose = rose; plain = λ plain. absurd (omega (arith, pages.paged, plain)) });
+    stops = λ _. history;
+    sets = λ _ j. inl (ap (λ (s : StoreView D). fillings_in s.filled j) pages.same);
+    images = λ clear start since. looked device start a b since grew (same_pending device start a b since grew reads each noted history) pages.disk;
+  }
+    where
+      history : b.history ≡ a.history
+      history = ap (λ (s : StoreView D). s.history) pages.same
+
+      records : b.records ≡ a.records
+      records = ap (λ (s : StoreView D). s.records) pages.same
+
+      done : dones b.fills ≡ dones a.fills
+      done = let d = ap dones fills ∙ dones-append a.fills reads in let r = dones_of_reads reads each in omega (arith, d, r)
+
+      noted : faults_in b.fills ≡ faults_in a.fills ++ reads
+      noted = ap faults_in fills ∙ (faults_in-append a.fills reads ∙ ap (λ (l : List Fill). faults_in a.fills ++ l) (faults_of_reads reads each))
+
+      grew : OnlyAppends a b
+      grew = record {
+        history = ([], append-nil a.history ∙ sym history);
+        fills = (reads, sym fills);
+        head = ap (λ (s : StoreView D). s.head) pages.same;
+        exponent = ap (λ (s : StoreView D). s.exponent) pages.same;
+        opened = ap (λ (s : StoreView D). s.opened) pages.same;
+        sealed = ap (λ (s : StoreView D). s.sealed) pages.same;
+      }
+
+  -- rows were read
+  pub goes_reads : (a b : StoreView D) → ReadsRows device a b → GoesOn device a b
+  goes_reads a b (inl same) = goes_same a b same
+  goes_reads a b (inr (pages, fills, none)) = goes_pages a b [] tt pages (fills ∙ sym (append-nil a.fills)) (λ _. none) (λ some. absurd (some refl))
+
+  goes_unread_for : (a b : StoreView D) (fault : RowFault) → IsReadFault device a b fault → IsLeftByRefusal device a b (refusal_of_rows fault) → GoesOn device a b
+  goes_unread_for a b unread.DiskFault is left =
+      goes_pages a b (Fault is.1.count false Nothing ∷ []) ((is.1.count, refl), tt) left is.1.fills (λ none. absurd (cc none)) (λ _. is.1.rose)
+  goes_unread_for a b (unread.Damaged file at) is left = goes_reads a b left
+  goes_unread_for a b unread.OutOfMemory is left = goes_reads a b left
+
+  -- or weren't
+  pub goes_unread : (a b : StoreView D) (e : Refusal) → IsReadRefusal device a b e → IsLeftByRefusal device a b e → GoesOn device a b
+  goes_unread a b e (fault, is, of) left = goes_unread_for a b fault is (subst (IsLeftByRefusal device a b) of left)
+
+  pub goes_read : {X : Type 0} (a b : StoreView D) (r : Result X RowFault) → IfErr r (IsReadFault device a b) → IsLeftByRead device a b r → GoesOn device a b
+  goes_read a b (Ok x) why left = goes_reads a b left
+  goes_read a b (Err fault) why left = goes_unread_for a b fault why left
+
+  -- ---- calls
+
   -- rows came
   pub goes_rows : (a b : StoreView D) (rows : List Row) (outcomes : List Inserted) → OnlyAppends a b → LeavesBatch a b rows → AreIngested device a b rows outcomes → GoesOn device a b
   goes_rows a b rows outcomes appends crash i = by_fresh i.fresh refl
     where
       by_fresh : (fresh : List Row) → i.fresh ≡ fresh → GoesOn device a b
-      by_fresh [] none = goes_same a b (read_same device a b (i.no_write none))
+      by_fresh [] none = goes_reads a b (i.no_write none)
       by_fresh (row ∷ more) some =
           let count = i.one_record (λ none. absurd (cc (some, none))) in
           let grown : length b.history ≡ length a.history + suc (length (items_of more)) = ap length (i.history ∙ ap (λ (l : List Row). a.history ++ items_of l) some) ∙ length-append a.history (items_of (row ∷ more)) in
@@ -214,20 +382,32 @@ module _ {D : Type 0} (device : Device D) where
             database = rows_same a b i.fresh appends.head i.history;
             records = let f = ap dones i.fills in omega (arith, count, grown, f);
             recorded = let f = ap dones i.fills in omega (arith, count, f);
-            faults = inl (record { same_faults = ap faults_in i.fills; no_failed_write = i.no_failed_write; no_fault = i.no_fault });
+            faults = inl (none_read a b (ap faults_in i.fills ∙ sym (append-nil (faults_in a.fills))) i.no_failed_write i.no_fault);
             stops = λ pending. absurd (pending i.healed);
             sets = λ _ j. inl (ap (λ f. fillings_in f j) i.filled);
-            images = λ clear start since. batch_came device start a b since appends rows i.healed (ingested_rows device a b rows outcomes i) (crash i.healed clear);
+            images = λ clear start since. batch_came device start a b since appends rows i.healed (ingested_rows device a b rows outcomes (λ _. clear) i) (crash i.healed clear);
           }
 
   -- a write failed
-  pub goes_fault : (a b : StoreView D) (addition : Addition) → pending_fault_of a.fills ≡ None → AddsFault device a b true addition → b.head ≡ a.head → b.exponent ≡ a.exponent → b.opened ≡ a.opened → AreNewTo a.history addition → KeepsImages a b → GoesOn device a b
-  goes_fault a b addition healed f head exponent opened new_to images = record {
-    appends = record { history = ([], append-nil a.history ∙ sym f.history); fills = (Fault f.count true addition ∷ [], sym f.fills); head = head; exponent = exponent; opened = opened };
+  pub goes_fault : (a b : StoreView D) (addition : Addition) → pending_fault_of a.fills ≡ None → AddsFault device a b true addition → b.head ≡ a.head → b.exponent ≡ a.exponent → b.opened ≡ a.opened → b.sealed ≡ a.sealed → (TellsRows device a → AreNewTo a.history addition) → KeepsImages a b → GoesOn device a b
+  goes_fault a b addition healed f head exponent opened sealed new_to images = record {
+    appends = record { history = ([], append-nil a.history ∙ sym f.history); fills = (Fault f.count true addition ∷ [], sym f.fills); head = head; exponent = exponent; opened = opened; sealed = sealed };
     database = history_same a b head f.history;
     records = let h = ap length f.history in let r = f.records in let d = ap dones f.fills ∙ dones-append a.fills (Fault f.count true addition ∷ []) in omega (arith, h, r, d);
     recorded = let r = f.records in let d = ap dones f.fills ∙ dones-append a.fills (Fault f.count true addition ∷ []) in omega (arith, r, d);
-    faults = inr (record { healed = healed; count = f.count; addition = addition; new_to = subst (λ (l : List Item). AreNewTo l addition) (sym f.history) new_to; faults = ap faults_in f.fills ∙ faults_in-append a.fills (Fault f.count true addition ∷ []); wrote = f.writes; rose = f.rose });
+    faults = inr (record {
+      healed = healed;
+      count = f.count;
+      addition = addition;
+      new_to = λ told. subst (λ (l : List Item). AreNewTo l addition) (sym f.history) (new_to told);
+      before = [];
+      behind = [];
+      each = tt;
+      faults = ap faults_in f.fills ∙ faults_in-append a.fills (Fault f.count true addition ∷ []);
+      wrote = f.writes;
+      rose = f.rose;
+      plain = λ _. (refl, refl);
+    });
     stops = λ _. f.history;
     sets = λ _ j. inl (ap (λ g. fillings_in g j) f.filled);
     images = images;
@@ -235,11 +415,11 @@ module _ {D : Type 0} (device : Device D) where
 
   pub goes_ingest_refused : (a b : StoreView D) (rows : List Row) (e : Refusal) → OnlyAppends a b → LeavesBatch a b rows → IsIngestRefusal device a b rows e → GoesOn device a b
   goes_ingest_refused a b rows e g crash i =
-      ingest_cases device a b rows (λ _. GoesOn device a b) e i (λ n r. goes_same a b r.1) (λ w n r. goes_same a b (read_same device a b r.2))
-      (λ failed.
-      let fault = failed_fault device a b rows failed in
-      goes_fault a b _ failed.healed fault g.head g.exponent g.opened (fresh_new a.history rows) (λ clear start since. batch_failed device start a b since g rows failed.healed fault (crash failed.healed clear)))
-      (λ r. goes_same a b (read_same device a b r.1))
+      ingest_cases device a b rows (λ _. GoesOn device a b) e i (λ n r. goes_same a b r.1) (λ w n r. goes_reads a b r.2)
+      (λ failed. goes_fault a b (additions.Rows failed.fresh) failed.healed failed.fault g.head g.exponent g.opened g.sealed
+      (λ told. subst (λ (l : List Row). AreNewTo a.history (additions.Rows l)) (sym (failed.told told).fresh_is) (fresh_new a.history rows))
+      (λ clear start since. batch_failed device start a b since g rows failed.healed (failed_fault device a b rows (λ _. clear) failed) (crash failed.healed clear)))
+      (λ refusal r. goes_unread a b refusal r.unread r.left) (λ r. goes_reads a b r.1)
 
   pub goes_ingest : {X : Type 0} (a b : StoreView D) (rows : List Row) (r : Result X Refusal) (outcomes : X → List Inserted) → OnlyAppends a b → LeavesBatch a b rows → MatchResult r (λ x. AreIngested device a b rows (outcomes x)) (IsIngestRefusal device a b rows) → GoesOn device a b
   goes_ingest a b rows (Ok x) outcomes g crash i = goes_rows a b rows (outcomes x) g crash i
@@ -252,14 +432,17 @@ module _ {D : Type 0} (device : Device D) where
     database = record { alone = refl; in_force = refl; names = refl };
     records = let d = k.0 in omega (arith, d);
     recorded = let d = k.0 in omega (arith, d);
-    faults = inl (record { same_faults = k.1; no_failed_write = refl; no_fault = refl });
+    faults = inl (none_read a (record a { fills = fills }) noted refl refl);
     stops = λ _. refl;
     sets = λ _ j. inl refl;
-    images = λ clear start since. let new = record a { fills = fills } in without_disk device start a new since grew (same_pending device start a new since grew k.1 refl) refl;
+    images = λ clear start since. let new = record a { fills = fills } in without_disk device start a new since grew (same_pending device start a new since grew [] tt noted refl) refl;
   }
     where
+      noted : faults_in fills ≡ faults_in a.fills ++ []
+      noted = k.1 ∙ sym (append-nil (faults_in a.fills))
+
       grew : OnlyAppends a (record a { fills = fills })
-      grew = record { history = prefix_self a.history; fills = k.2; head = refl; exponent = refl; opened = refl }
+      grew = record { history = prefix_self a.history; fills = k.2; head = refl; exponent = refl; opened = refl; sealed = refl }
 
   pub goes_freed : (a b : StoreView D) (i : Interval) → IsAbandoned a b i → GoesOn device a b
   goes_freed a b i is = subst (GoesOn device a) (sym is) (goes_noted a (freed i a.fills) (freed_is i a.fills))
@@ -280,11 +463,13 @@ module _ {D : Type 0} (device : Device D) where
 
   pub goes_begun : (a b : StoreView D) (o : Option FillTask) → IsFillBegun device a b o → GoesOn device a b
   goes_begun a b None i = goes_same a b i.1
-  goes_begun a b (Some task) i = subst (GoesOn device a) (sym (begun_same device a b task i)) (goes_noted a b.fills (
-    ap dones i.fills ∙ (dones-append a.fills _ ∙ omega arith),
-    ap faults_in i.fills ∙ (faults_in-append a.fills _ ∙ append-nil (faults_in a.fills)),
-    (_, sym i.fills),
-  ))
+  goes_begun a b (Some task) i =
+      let read : StoreView D = record b { fills = a.fills } in
+      goes_trans a read b (goes_reads a read i.reads) (goes_noted read b.fills (
+        ap dones i.fills ∙ (dones-append a.fills (Begun task.interval task.base ∷ []) ∙ omega arith),
+        ap faults_in i.fills ∙ (faults_in-append a.fills (Begun task.interval task.base ∷ []) ∙ append-nil (faults_in a.fills)),
+        (Begun task.interval task.base ∷ [], sym i.fills),
+      ))
 
   pub goes_filled : (a b : StoreView D) (done : BuiltFill) → OnlyAppends a b → (IsTrue device.is_transparent → IsRightFor a done) → LeavesFill a b done → pending_fault_of a.fills ≡ None → FillIsAppended device a b done → GoesOn device a b
   goes_filled a b done g right crash healed f = record {
@@ -292,7 +477,7 @@ module _ {D : Type 0} (device : Device D) where
     database = history_same a b g.head history;
     records = let r = f.records in let h = ap length history in let d = ap dones fills ∙ dones-append a.fills (Done done.interval done.base ∷ []) in omega (arith, r, h, d);
     recorded = let r = f.records in let d = ap dones fills ∙ dones-append a.fills (Done done.interval done.base ∷ []) in omega (arith, r, d);
-    faults = inl (record { same_faults = ap faults_in fills ∙ (faults_in-append a.fills (Done done.interval done.base ∷ []) ∙ append-nil (faults_in a.fills)); no_failed_write = f.no_failed_write; no_fault = f.no_fault });
+    faults = inl (none_read a b (ap faults_in fills ∙ faults_in-append a.fills (Done done.interval done.base ∷ [])) f.no_failed_write f.no_fault);
     stops = λ _. history;
     images = λ clear start since. fill_tried device start a b since g done healed (crash healed clear);
     sets = λ clear j. by_same (right clear).1 j (is_same j done.interval) refl (ap (λ (s : Fillings (List SetRow)). s j) f.filled);
@@ -339,16 +524,18 @@ module _ {D : Type 0} (device : Device D) where
       let head = sym (ap (λ s. s.head) same) ∙ g.head in
       let exponent = sym (ap (λ s. s.exponent) same) ∙ g.exponent in
       let opened = sym (ap (λ s. s.opened) same) ∙ g.opened in
+      let sealed = sym (ap (λ s. s.sealed) same) ∙ g.sealed in
       let grew : OnlyAppends a failed = record {
         history = ([], append-nil a.history ∙ sym fault.history);
         fills = (Fault fault.count true (additions.Fill done.interval done.base) ∷ [], sym fault.fills);
         head = head;
         exponent = exponent;
         opened = opened;
+        sealed = sealed;
       } in
       let disk : b.disk ≡ failed.disk = ap (λ s. s.disk) same in
       goes_trans a failed b
-      (goes_fault a failed (additions.Fill done.interval done.base) i.0.healed fault head exponent opened tt
+      (goes_fault a failed (additions.Fill done.interval done.base) i.0.healed fault head exponent opened sealed (λ _. tt)
       (λ clear start since. fill_tried device start a failed since grew done i.0.healed (subst (λ (d : D). LeavesOnly device a.disk d (λ c. StandsFilled c (filled_of a) ⊎ StandsFilled c (filled_with a done))) disk (crash i.0.healed clear))))
       (goes_freed failed b done.interval same)
   goes_install_refused a b done _ g crash i = absurd i
@@ -360,4 +547,4 @@ module _ {D : Type 0} (device : Device D) where
 
   pub goes_begin : (a b : StoreView D) (r : Result (Option FillTask) Refusal) → MatchResult r (IsFillBegun device a b) (λ e. IsReadRefusal device a b e × IsLeftByRefusal device a b e) → GoesOn device a b
   goes_begin a b (Ok o) i = goes_begun a b o i
-  goes_begin a b (Err e) i = goes_same a b (refusal_same device a b e i.1)
+  goes_begin a b (Err e) i = goes_unread a b e i.0 i.1

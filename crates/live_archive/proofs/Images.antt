@@ -1,9 +1,10 @@
 -- What power lost during a call leaves, beside what it left since the turns began.
 use Rattle.std.proofs.Common.{◌≡◌, ◌⊎◌, inl, inr, ℕ, List, [], ◌∷◌, ◌++◌, true, false, Some, None, refl, sym, ap, subst, ◌∙◌, append-nil, append_assoc}
+use Rattle.std.specs.List.{AllByRecursion}
 use mathlib.Core.List.{IsPrefix}
 use Rattle.arch_disk.specs.Image.{Image}
-use Rattle.arch_disk.specs.Disk.{Device, LeavesOnly}
-use Rattle.arch_disk.proofs.Moments.{joins, weakens}
+use Rattle.arch_disk.specs.Disk.{Device, LeavesOnly, OnlyReads}
+use Rattle.arch_disk.proofs.Moments.{at_end, joins, weakens}
 use Rattle.arch_types.specs.declared.row.Row.{Row}
 use Rattle.history_items.specs.declared.fills.Addition.{Addition}
 use Rattle.history_items.specs.declared.fills.Addition.TheVariants.{Rows}
@@ -26,6 +27,7 @@ use Rattle.archive_store.specs.Entries.{archive, filled_archive}
 use Rattle.archive_store.specs.Installs.{filled_with}
 use Rattle.archive_store.specs.Stands.{StandsFilled, StandsFor}
 use Rattle.archive_store.specs.StoreView.{AddsFault, OnlyAppends, StoreView, filled_of}
+use Rattle.archive_store.specs.UnreadRows.{IsFaultOfRead}
 use Rattle.live_archive.specs.Images.{HasPendingRows, IsBetween, LeavesBetween}
 
 prefix_on : {A : Type 0} (xs ys zs : List A) → IsPrefix xs ys → IsPrefix ys zs → IsPrefix xs zs
@@ -38,6 +40,7 @@ appends_on a b c p q = record {
   head = q.head ∙ p.head;
   exponent = q.exponent ∙ p.exponent;
   opened = q.opened ∙ p.opened;
+  sealed = q.sealed ∙ p.sealed;
 }
 
 -- where no failed write is pending nothing is unacknowledged
@@ -60,6 +63,17 @@ pending_last (Closed ∷ fills) count addition none = pending_last fills count a
 pending_last (Fault c true unacknowledged ∷ fills) count addition none = absurd (cc none)
 pending_last (Fault c false unacknowledged ∷ fills) count addition none = pending_last fills count addition none
 
+-- faults of reads are nothing that is unacknowledged
+reads_behind : (fills reads : List Fill) → AllByRecursion IsFaultOfRead reads → unacknowledged_in (fills ++ reads) ≡ unacknowledged_in fills
+reads_behind [] [] each = refl
+reads_behind [] (item ∷ reads) each = subst (λ (f : Fill). unacknowledged_in (f ∷ reads) ≡ unacknowledged_in []) (sym each.0.1) (reads_behind [] reads each.1)
+reads_behind (Begun i b ∷ fills) reads each = reads_behind fills reads each
+reads_behind (Done i b ∷ fills) reads each = reads_behind fills reads each
+reads_behind (Freed i ∷ fills) reads each = reads_behind fills reads each
+reads_behind (Closed ∷ fills) reads each = reads_behind fills reads each
+reads_behind (Fault count true unacknowledged ∷ fills) reads each = refl
+reads_behind (Fault count false unacknowledged ∷ fills) reads each = reads_behind fills reads each
+
 module _ {D : Type 0} (device : Device D) (start a b : StoreView D) (since : LeavesBetween device start a) (grew : OnlyAppends a b) where
   -- rows that are pending are so behind the call, which left the history
   abbrev pub StillPending : Type 0
@@ -68,8 +82,11 @@ module _ {D : Type 0} (device : Device D) (start a b : StoreView D) (since : Lea
   pub none_pending : pending_fault_of a.fills ≡ None → StillPending
   none_pending none rows some = absurd (none_unacknowledged a.fills (Rows rows) none some)
 
-  pub same_pending : faults_in b.fills ≡ faults_in a.fills → b.history ≡ a.history → StillPending
-  same_pending faults history rows some = (unacknowledged-in b.fills ∙ (ap unacknowledged_in faults ∙ (sym (unacknowledged-in a.fills) ∙ some)), history)
+  pub same_pending : (reads : List Fill) → AllByRecursion IsFaultOfRead reads → faults_in b.fills ≡ faults_in a.fills ++ reads → b.history ≡ a.history → StillPending
+  same_pending reads each faults history rows some = (
+    unacknowledged-in b.fills ∙ (ap unacknowledged_in faults ∙ (reads_behind (faults_in a.fills) reads each ∙ (sym (unacknowledged-in a.fills) ∙ some))),
+    history,
+  )
 
   -- what was left before the call
   before_it : StillPending → (c : Image) → IsBetween start a c → IsBetween start b c
@@ -87,6 +104,13 @@ module _ {D : Type 0} (device : Device D) (start a b : StoreView D) (since : Lea
   without_disk still disk = record {
     appends = appends_on start a b since.appends grew;
     images = subst (λ (d : D). LeavesOnly device start.disk d (IsBetween start b)) (sym disk) (earlier still);
+  }
+
+  -- one that only looked
+  pub looked : StillPending → OnlyReads device a.disk b.disk → LeavesBetween device start b
+  looked still reads = record {
+    appends = appends_on start a b since.appends grew;
+    images = joins device start.disk a.disk b.disk (IsBetween start b) (device.images a.disk) (earlier still) reads.moments (λ c now. at_end device start.disk a.disk (IsBetween start b) (earlier still) c now);
   }
 
   -- one that leaves such images

@@ -10,3 +10,4 @@ pub mod Retrieved
 pub mod Added
 pub mod Built
 pub mod Sending
+pub mod Unread

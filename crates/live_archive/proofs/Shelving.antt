@@ -5,6 +5,9 @@ use Rattle.std.specs.List.{flat_map}
 use mathlib.Core.List.{IsPrefix}
 use Rattle.arch_disk.specs.Disk.{Device}
 use Rattle.arch_types.specs.declared.inserted.Inserted.{Inserted}
+use Rattle.arch_types.specs.declared.row_fault.RowFault.{RowFault}
+use Rattle.arch_types.specs.declared.row_fault.RowFault.TheVariants as unread
+use Rattle.refusals.specs.Refusal.{refusal_of_rows}
 use Rattle.refusals.specs.declared.refusal.Refusal.{Refusal}
 use Rattle.refusals.specs.declared.refusal.Refusal.TheVariants as refused
 use Rattle.history_items.specs.declared.fills.Fill.{Fill}
@@ -15,8 +18,8 @@ use Rattle.archive_store.specs.declared.batch.Arrival.{Arrival}
 use Rattle.archive_store.specs.Batches.{arrival_rows}
 use Rattle.archive_store.specs.Calls.{AreIngested, IsIngestRefusal}
 use Rattle.archive_store.specs.StoreView.{OnlyAppends, StoreView}
-use Rattle.archive_store.proofs.Calls.{ingest_cases, ingested_rows}
-use Rattle.archive_store.proofs.UnreadRows.{read_same}
+use Rattle.archive_store.specs.UnreadRows.{IsLeftByRefusal, IsReadRefusal, ReadsRows}
+use Rattle.archive_store.proofs.Calls.{ingest_cases}
 use Rattle.glance_board.specs.Shelves.{ShelfView, shelf_view}
 use Rattle.glance_log.specs.Sightings.{Sighting}
 use Rattle.glance_log.proofs.Chains.{follows_self, follows_trans}
@@ -294,15 +297,31 @@ module _ {D : Type 0} where
 -- ---- the value of the turns
 
 module _ {D : Type 0} (device : Device D) where
+  -- reading leaves the history
+  reads_history : (a b : StoreView D) → ReadsRows device a b → b.history ≡ a.history
+  reads_history a b (inl same) = ap (λ (s : StoreView D). s.history) same
+  reads_history a b (inr pages) = ap (λ (s : StoreView D). s.history) pages.0.same
+
+  unread_history_for : (a b : StoreView D) (fault : RowFault) → IsLeftByRefusal device a b (refusal_of_rows fault) → b.history ≡ a.history
+  unread_history_for a b unread.DiskFault left = ap (λ (s : StoreView D). s.history) left.same
+  unread_history_for a b (unread.Damaged file at) left = reads_history a b left
+  unread_history_for a b unread.OutOfMemory left = reads_history a b left
+
+  unread_history : (a b : StoreView D) (e : Refusal) → IsReadRefusal device a b e → IsLeftByRefusal device a b e → b.history ≡ a.history
+  unread_history a b e (fault, is, of) left = unread_history_for a b fault (subst (IsLeftByRefusal device a b) of left)
+
   -- what an ingest puts behind the history comes by its packets
+  came_reads : (a b : StoreView D) (arrivals : List Arrival) → ReadsRows device a b → CameBy b (length a.history) arrivals
+  came_reads a b arrivals reads = came_same a b arrivals (reads_history a b reads)
+
   came_refused : (a b : StoreView D) (arrivals : List Arrival) (e : Refusal) → IsIngestRefusal device a b (flat_map arrival_rows arrivals) e → CameBy b (length a.history) arrivals
   came_refused a b arrivals e i =
-      let same : b ≡ a → CameBy b (length a.history) arrivals = λ is. came_same a b arrivals (ap (λ (s : StoreView D). s.history) is) in
-      ingest_cases device a b (flat_map arrival_rows arrivals) (λ _. CameBy b (length a.history) arrivals) e i (λ n r. same r.1) (λ w n r. same (read_same device a b r.2)) (λ failed. came_same a b arrivals failed.fault.history) (λ r. same (read_same device a b r.1))
+      ingest_cases device a b (flat_map arrival_rows arrivals) (λ _. CameBy b (length a.history) arrivals) e i (λ n r. came_same a b arrivals (ap (λ (s : StoreView D). s.history) r.1)) (λ w n r. came_reads a b arrivals r.2)
+      (λ failed. came_same a b arrivals failed.fault.history) (λ refusal r. came_same a b arrivals (unread_history a b refusal r.unread r.left)) (λ r. came_reads a b arrivals r.1)
 
   pub came_ingested : {X : Type 0} (a b : StoreView D) (arrivals : List Arrival) (r : Result X Refusal) (outcomes : X → List Inserted)
       → MatchResult r (λ x. AreIngested device a b (flat_map arrival_rows arrivals) (outcomes x)) (IsIngestRefusal device a b (flat_map arrival_rows arrivals)) → CameBy b (length a.history) arrivals
-  came_ingested a b arrivals (Ok x) outcomes i = came_rows a b arrivals (ingested_rows device a b (flat_map arrival_rows arrivals) (outcomes x) i)
+  came_ingested a b arrivals (Ok x) outcomes i = came_rows a b arrivals i.fresh i.of_batch i.history
   came_ingested a b arrivals (Err e) outcomes i = came_refused a b arrivals e i
 
   held_start : (held : HeldStore D) → IsBeside held.shelf held.store → LastIsClosing held → held.has_closing ≡ false → HeldGoesOn device held held

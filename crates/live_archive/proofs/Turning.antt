@@ -17,7 +17,7 @@ use Rattle.live_archive.specs.Laws.{TellsTurn}
 use Rattle.live_archive.specs.Closings.{closings}
 use Rattle.live_archive.specs.Shelving.{HeldGoesOn, KeepsShelf, LastIsClosing, TakesClosing, TakesNoClosing}
 use Rattle.live_archive.specs.Turns.{TookTurn, Turned}
-use Rattle.live_archive.proofs.Going.{goes_same, goes_trans, prefix_length, prefix_trans}
+use Rattle.live_archive.proofs.Going.{goes_trans, prefix_length, prefix_trans}
 use Rattle.live_archive.proofs.Shelving.{goes_last, held_last, held_on, held_published}
 
 -- what is said of either answer
@@ -57,10 +57,10 @@ module _ {D T : Type 0} (device : Device D) where
       subst (Leaving device first (record before { store = after })) (sym entered) (record { begins = goes.appends.history; fills_begin = goes.appends.fills; value = held_on device first before after found goes none })
 
   -- said of all as it is left
-  pub leaving_kept : (first before next : HeldStore D) (old mid : PassView Item Fill T) → HeldGoesOn device first before → next.store ≡ before.store
+  pub leaving_kept : (first before next : HeldStore D) (old mid : PassView Item Fill T) → HeldGoesOn device first before → GoesOn device before.store next.store → closings next.store.fills ≡ closings before.store.fills
       → next.shelf ≡ before.shelf → next.has_closing ≡ before.has_closing → Found old mid before.store.history before.store.fills → Leaving device first next mid
-  leaving_kept first before next old mid found same shelf closing entered =
-      let kept = leaving first before next.store old mid found (goes_same device before.store next.store same) (ap (λ (s : StoreView D). closings s.fills) same) entered in
+  leaving_kept first before next old mid found goes none shelf closing entered =
+      let kept = leaving first before next.store old mid found goes none entered in
       subst (λ (b : Bool). Leaving device first (record next { has_closing = b }) mid) (sym closing)
       (subst (λ (s : Option (ShelfView (Kept D))). Leaving device first (record before { store = next.store; shelf = s }) mid) (sym shelf) kept)
 

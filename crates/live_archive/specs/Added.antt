@@ -1,6 +1,6 @@
 -- What each call adds to what its pass has seen.
-use Rattle.std.specs.Prelude.{◌≡◌, ◌⊎◌, ℕ, ◌+◌, List, [], ◌∷◌, ◌++◌, length, Option, Some, None, Result, Ok, Err, true, if◌then◌else◌}
-use Rattle.std.specs.List.{range_with_len}
+use Rattle.std.specs.Prelude.{◌≡◌, ◌⊎◌, ℕ, ◌+◌, ◌≤◌, List, [], ◌∷◌, ◌++◌, length, Contains, Option, Some, None, Result, Ok, Err, true, false, if◌then◌else◌}
+use Rattle.std.specs.List.{AllByRecursion, range_with_len}
 use Rattle.std.specs.Option.{is_some}
 use mathlib.Core.List.{IsPrefix}
 use Rattle.arch_disk.specs.Disk.{Device}
@@ -12,6 +12,7 @@ use Rattle.refusals.specs.declared.refusal.Refusal.{Refusal}
 use Rattle.refusals.specs.declared.refusal.Refusal.TheVariants.{DiskFault}
 use Rattle.history_items.specs.declared.fills.Addition.{Addition}
 use Rattle.history_items.specs.declared.fills.Addition.TheVariants as additions
+use Rattle.history_items.specs.declared.fills.Addition.TheVariants.{Nothing}
 use Rattle.history_items.specs.declared.fills.Fill.{Fill}
 use Rattle.history_items.specs.declared.fills.Fill.TheVariants.{Begun, Done, Freed, Fault, Closed}
 use Rattle.history_items.specs.declared.items.Item.{Item}
@@ -24,7 +25,9 @@ use Rattle.store_fills.specs.Built.{BuiltFill}
 use Rattle.turn_cell.specs.declared.view.SeenList.{SeenList}
 use Rattle.turn_cell.specs.Pass.{PassView}
 use Rattle.archive_store.specs.declared.batch.Ingested.{Ingested}
+use Rattle.archive_store.specs.Pages.{HasPages, TellsRows}
 use Rattle.archive_store.specs.StoreView.{StoreView}
+use Rattle.archive_store.specs.UnreadRows.{IsLeftByRefusal, IsReadRefusal, ReadsRows}
 use Rattle.live_archive.specs.Answers.{SaysBegun, SaysIngested, SaysInstalled}
 use Rattle.live_archive.specs.Closings.{HasNotClosed}
 use Rattle.live_archive.specs.Shelving.{MayClose}
@@ -48,32 +51,57 @@ pub record AddsTo {D T : Type 0} (before : StoreView D) (old new : PassView Item
   pub history : Adds old.history new.history before.history items
   pub fills : Adds old.fills new.fills before.fills noted
 
--- ---- what each call puts
+-- ---- faults
 
--- the rows of a batch whose keys the history lacked, where it was taken
-abbrev pub items_put : List Item → List Row → Result Ingested Refusal → List Item
-items_put history rows (Ok ingest) = items_of (fresh_of history rows)
-items_put history rows (Err refusal) = []
+-- the fault of a write that was to add this
+abbrev pub IsWriteNoted : Addition → List Fill → Type 0
+IsWriteNoted addition noted = (count : ℕ) × (noted ≡ Fault count true addition ∷ [])
 
--- where the disk failed, a fault of what would have been added; else nothing
+-- the fault of a read, where rows stand in runs
+abbrev pub IsReadNoted : {D : Type 0} → StoreView D → List Fill → Type 0
+IsReadNoted store noted = HasPages store × ((count : ℕ) × (noted ≡ Fault count false Nothing ∷ []))
+
+-- where a write failed, its fault; else nothing
 abbrev pub AreFaults : Addition → Refusal → List Fill → Type 0
-AreFaults addition DiskFault noted = (count : ℕ) × (noted ≡ Fault count true addition ∷ [])
+AreFaults addition DiskFault noted = IsWriteNoted addition noted
 AreFaults addition _ noted = noted ≡ []
 
--- what a batch leaves behind the fill list
-abbrev pub IngestNotes : List Item → List Row → Result Ingested Refusal → List Fill → Type 0
-IngestNotes history rows (Ok ingest) noted = noted ≡ []
-IngestNotes history rows (Err refusal) noted = AreFaults (additions.Rows (fresh_of history rows)) refusal noted
+-- where a read failed, its fault; else nothing
+abbrev pub AreReadFaults : {D : Type 0} → StoreView D → Refusal → List Fill → Type 0
+AreReadFaults store DiskFault noted = IsReadNoted store noted
+AreReadFaults store _ noted = noted ≡ []
+
+-- ---- what each call puts
+
+-- Rows of a batch that are new to a store are some of the batch; where the store tells its rows, those whose keys its
+-- history lacks.
+pub record AreNewRows {D : Type 0} (device : Device D) (store : StoreView D) (rows fresh : List Row) : Type 0 where
+  pub of_batch : AllByRecursion (Contains rows) fresh
+  pub few : length fresh ≤ length rows
+  pub told : TellsRows device store → fresh ≡ fresh_of store.history rows
+
+-- where a batch was refused as the disk failed, the fault of its new rows, or that of a read; else nothing
+abbrev pub AreBatchFaults : {D : Type 0} → Device D → StoreView D → List Row → Refusal → List Fill → Type 0
+AreBatchFaults device store rows DiskFault noted =
+    ((fresh : List Row) × AreNewRows device store rows fresh × IsWriteNoted (additions.Rows fresh) noted)
+    ⊎ IsReadNoted store noted
+AreBatchFaults device store rows _ noted = noted ≡ []
+
+-- the rows that a batch put behind the history, and what it noted: its new rows, where it was taken
+abbrev pub IngestPuts : {D : Type 0} → Device D → StoreView D → List Row → Result Ingested Refusal → List Row
+    → List Fill → Type 0
+IngestPuts device store rows (Ok ingest) put noted = AreNewRows device store rows put × (noted ≡ [])
+IngestPuts device store rows (Err refusal) put noted = (put ≡ []) × AreBatchFaults device store rows refusal noted
 
 -- the beginning of a flight, where one began
 abbrev pub flight_begun : Option FillTask → List Fill
 flight_begun None = []
 flight_begun (Some task) = Begun task.interval task.base ∷ []
 
--- what a begin leaves behind the fill list; where it is refused, nothing
-abbrev pub begin_notes : Result (Option FillTask) Refusal → List Fill
-begin_notes (Ok begun) = flight_begun begun
-begin_notes (Err refusal) = []
+-- what a begin leaves behind the fill list
+abbrev pub BeginNotes : {D : Type 0} → StoreView D → Result (Option FillTask) Refusal → List Fill → Type 0
+BeginNotes store (Ok begun) noted = noted ≡ flight_begun begun
+BeginNotes store (Err refusal) noted = AreReadFaults store refusal noted
 
 -- the end of a flight, where there is one
 abbrev pub flight_ended : Interval → List Fill → List Fill
@@ -98,14 +126,14 @@ module _ {D : Type 0} (T : Type 0) (device : Device D) where
   IngestsAdd = (first before after : StoreView D) (old new : PassView Item Fill T) (rows : List Row)
       (answer : Result Ingested Refusal) →
       Turned device first before after old new → SaysIngested device rows answer before after →
-      (noted : List Fill) × IngestNotes before.history rows answer noted
-      × AddsTo before old new (items_put before.history rows answer) noted
+      (put : List Row) × (noted : List Fill) × IngestPuts device before rows answer put noted
+      × AddsTo before old new (items_of put) noted
 
   abbrev pub BeginsAdd : Type 0
   BeginsAdd = (first before after : StoreView D) (old new : PassView Item Fill T)
       (answer : Result (Option FillTask) Refusal) →
       Turned device first before after old new → SaysBegun device answer before after →
-      AddsTo before old new [] (begin_notes answer)
+      (noted : List Fill) × BeginNotes before answer noted × AddsTo before old new [] noted
 
   abbrev pub InstallsAdd : Type 0
   InstallsAdd = (first before after : StoreView D) (old new : PassView Item Fill T) (done : BuiltFill)
@@ -124,7 +152,14 @@ module _ {D : Type 0} (T : Type 0) (device : Device D) where
       Turned device first before after old new → MayClose first before after →
       (HasNotClosed first before.fills × AddsTo before old new [] (Closed ∷ [])) ⊎ AddsTo before old new [] []
 
-  -- a call that leaves the store as it found it
+  -- a call that leaves the store as it found it, or as rows that were read leave it
   abbrev pub AsksAddNothing : Type 0
   AsksAddNothing = (first before after : StoreView D) (old new : PassView Item Fill T) →
-      Turned device first before after old new → after ≡ before → AddsTo before old new [] []
+      Turned device first before after old new → ReadsRows device before after → AddsTo before old new [] []
+
+  -- one that is refused since rows aren't read
+  abbrev pub AsksAdd : Type 0
+  AsksAdd = (first before after : StoreView D) (old new : PassView Item Fill T) (refusal : Refusal) →
+      Turned device first before after old new → IsReadRefusal device before after refusal →
+      IsLeftByRefusal device before after refusal →
+      (noted : List Fill) × AreReadFaults before refusal noted × AddsTo before old new [] noted

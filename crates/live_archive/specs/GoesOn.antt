@@ -1,6 +1,6 @@
 -- What stays true of a store while it is taken in turns, beside the one that the turns began with.
 use Rattle.std.specs.Prelude.{◌≡◌, ◌≢◌, ◌⊎◌, ℕ, ◌+◌, ◌≤◌, List, [], ◌∷◌, ◌++◌, length, slice_get, Option, Some, None, IsTrue, true}
-use Rattle.std.specs.List.{filter_map}
+use Rattle.std.specs.List.{AllByRecursion, filter_map}
 use Rattle.arch_disk.specs.Disk.{Device, NoFault, NoWriteFailed, raised}
 use Rattle.intervals.specs.declared.interval.Interval.{Interval}
 use Rattle.history_items.specs.declared.fills.Addition.{Addition}
@@ -17,7 +17,9 @@ use Rattle.store_fills.specs.Faults.{faults_in}
 use Rattle.store_fills.specs.Filled.{IsRightFill}
 use Rattle.store_fills.specs.LastFills.{fillings_in}
 use Rattle.store_fills.specs.Sound.{Filling}
+use Rattle.archive_store.specs.Pages.{TellsRows}
 use Rattle.archive_store.specs.StoreView.{StoreView, OnlyAppends}
+use Rattle.archive_store.specs.UnreadRows.{IsFaultOfRead}
 use Rattle.live_archive.specs.Images.{LeavesBetween}
 
 -- the fill that is there by an item of a fill list, where there is one
@@ -28,27 +30,37 @@ done_of_fill item = (noted_of item).done
 abbrev pub dones : List Fill → ℕ
 dones fills = length (filter_map done_of_fill fills)
 
--- no fault was noted, and no call of the disk failed
+-- No write of the disk failed: what faults were noted are those of reads, which the disk counted. Where no row stands
+-- in a run none was.
 pub record NoneFailed {D : Type 0} (device : Device D) (old new : StoreView D) : Type 0 where
-  pub same_faults : faults_in new.fills ≡ faults_in old.fills
+  pub reads : List Fill
+  pub each : AllByRecursion IsFaultOfRead reads
+  pub faults : faults_in new.fills ≡ faults_in old.fills ++ reads
   pub no_failed_write : NoWriteFailed device old.disk new.disk
-  pub no_fault : NoFault device old.disk new.disk
+  pub no_fault : reads ≡ [] → NoFault device old.disk new.disk
+  pub rose : reads ≢ [] → raised (device.fault_count old.disk) ≤ device.fault_count new.disk
+  pub plain : old.sealed ≡ 0 → reads ≡ []
 
 -- the rows that an addition holds are all new to a history: each would come to stand behind it
 abbrev pub AreNewTo : List Item → Addition → Type 0
 AreNewTo history (Rows rows) = after_rows history rows ≡ history ++ items_of rows
 AreNewTo history other = Unit {0}
 
--- One write of the disk failed, where none was pending: what its call would have added stands in one fault more, and no
--- row of it came since.
+-- One write of the disk failed, where none was pending: what its call would have added stands in one fault more, and,
+-- where the store tells its rows, no row of it came since. Other faults were noted only of reads, and none where no
+-- row stands in a run.
 pub record OneFailed {D : Type 0} (device : Device D) (old new : StoreView D) : Type 0 where
   pub healed : pending_fault_of old.fills ≡ None
   pub count : ℕ
   pub addition : Addition
-  pub new_to : AreNewTo new.history addition
-  pub faults : faults_in new.fills ≡ faults_in old.fills ++ Fault count true addition ∷ []
+  pub new_to : TellsRows device old → AreNewTo new.history addition
+  pub before : List Fill
+  pub behind : List Fill
+  pub each : AllByRecursion IsFaultOfRead (before ++ behind)
+  pub faults : faults_in new.fills ≡ faults_in old.fills ++ (before ++ Fault count true addition ∷ behind)
   pub wrote : device.failed_writes new.disk ≡ raised (device.failed_writes old.disk)
   pub rose : raised (device.fault_count old.disk) ≤ device.fault_count new.disk
+  pub plain : old.sealed ≡ 0 → (before ≡ []) × (behind ≡ [])
 
 -- no database came, so the one in force and the packet names are the same
 pub record SameDatabase {D : Type 0} (old new : StoreView D) : Type 0 where
@@ -71,7 +83,7 @@ HasFillOrNew old new interval =
     (fillings_in new.filled interval ≡ fillings_in old.filled interval) ⊎ HasNewFill old new interval
 
 -- Both lists go on from the first ones, under one database. Each record more is one of an item or of a fill, and each
--- fill more has one. One call of the disk failed at most, a write, and while a failed write is pending no row comes.
+-- fill more has one. One write of the disk failed at most, and while a failed write is pending no row comes.
 -- Where the disk is transparent, each interval has the fill that it had, or a right one since; and what power lost
 -- since an earlier store leaves lies between that store and this one, if it did up to the first.
 pub record GoesOn {D : Type 0} (device : Device D) (first now : StoreView D) : Type 0 where

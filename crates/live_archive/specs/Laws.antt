@@ -12,6 +12,7 @@ use Rattle.store_fills.specs.Built.{BuiltFill}
 use Rattle.store_fills.specs.Filled.{HoldsRows}
 use Rattle.turn_cell.specs.Pass.{PassView}
 use Rattle.archive_store.specs.Installs.{IsRightFor}
+use Rattle.archive_store.specs.Pages.{TellsRows}
 use Rattle.archive_store.specs.StoreView.{StoreView, OnlyAppends}
 use Rattle.archive_store.specs.Tasks.{BeginsTask}
 use Rattle.live_archive.specs.Turns.{Turned, as_seen}
@@ -48,11 +49,12 @@ pub record IsBuiltOf (task : FillTask) (done : BuiltFill) : Type 0 where
   pub fits : IsSetOf (arc_value task.mdb) task.exponent task.interval.0 done.set
   pub holds : HoldsRows (arc_value task.mdb) done.set task.rows
 
--- What is built of a task is right for the history that its pass has seen when the turn ends in which the task began.
+-- Where the store tells its rows, what is built of a task is right for the history that its pass has seen when the
+-- turn ends in which the task began.
 abbrev pub BuiltIsRight : {D : Type 0} → (T : Type 0) → Device D → Type 0
 BuiltIsRight {D = D} T device = (first before after : StoreView D) (old new : PassView Item Fill T) (task : FillTask)
-    (done : BuiltFill) → Turned device first before after old new → BeginsTask device before after task →
-    IsBuiltOf task done → IsRightFor (as_seen first new) done
+    (done : BuiltFill) → TellsRows device first → Turned device first before after old new →
+    BeginsTask device before after task → IsBuiltOf task done → IsRightFor (as_seen first new) done
 
 -- It stays so as the pass sees more.
 abbrev pub RightStays : {D : Type 0} → (T : Type 0) → Device D → Type 0

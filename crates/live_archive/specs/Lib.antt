@@ -1,4 +1,5 @@
 pub mod Images
+pub mod Reads
 pub mod GoesOn
 pub mod Turns
 pub mod Answers

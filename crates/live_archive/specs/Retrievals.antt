@@ -20,6 +20,7 @@ use Rattle.store_fills.specs.LastFills.{fillings_in}
 use Rattle.store_fills.specs.Sound.{base_of_filling}
 use Rattle.archive_store.specs.Finding.{IsNotFound, IsRequestFound}
 use Rattle.archive_store.specs.Plans.{IsPlan, IsPlanOver, late_rows_of_range}
+use Rattle.archive_store.specs.Pages.{TellsRows}
 use Rattle.archive_store.specs.UnreadRows.{IsReadRefusal}
 use Rattle.archive_store.specs.StoreView.{StoreView}
 use Rattle.retrieval.specs.FilledAnswer.{IsFilledAnswer}
@@ -57,10 +58,13 @@ pub record IsPlannedIn {D : Type 0} (device : Device D) (store : StoreView D) (r
       (IsPlanOver store.head store.history planned.found.request.from planned.found.request.to planned.plan)
   pub bases : (interval : Interval) → base_in interval store.fills ≡ base_of_filling (fillings_in store.filled) interval
 
--- an answer over the whole history with its fills: where these were sound, the cells that the rows of the range give
+-- an answer over the whole history, with its fills where the store tells its rows; where these were sound, too, the
+-- cells that the rows of the range give
 pub record IsAnswerIn {D : Type 0} (device : Device D) (store : StoreView D) (request : Request) (answer : Answer)
     : Type 0 where
-  pub filled : IsFilledAnswer (in_force store) store.exponent store.history (fillings_in store.filled) request answer
+  pub front : answer.front ≡ length store.history
+  pub filled : TellsRows device store →
+      IsFilledAnswer (in_force store) store.exponent store.history (fillings_in store.filled) request answer
   pub answered : WhereSound device store ((number : ℕ)
       × (parameter_number (in_force store) request.parameter ≡ Some number)
       × (answer.cells ≡ answer_of (in_force store) number request (rows_in store.history)))

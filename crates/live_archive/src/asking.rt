@@ -4,6 +4,7 @@ ghost use Rattle.std.specs.Prelude.{◌≡◌, ◌≤◌, ◌<◌, ◌++◌, [],
 ghost use Rattle.std.specs.List.{AllByRecursion};
 ghost use Rattle.replay_merge.specs.Cursor.{AsksTheSame, steps_at_most, EndsExactly, IsRowAsked, rest_of};
 ghost use Rattle.archive_store.specs.Finding.{IsReplayFound};
+ghost use Rattle.archive_store.specs.Pages.{TellsRows};
 ghost use Rattle.archive_store.specs.UnreadRows.{IsLeftByRead, IsReadFault};
 ghost use Rattle.archive_store.specs.Replays.{IsReplayOpened, rows_below};
 ghost use Rattle.turn_cell.specs.Pass.{IsFree};
@@ -57,8 +58,10 @@ impl<D: Disk> LiveOver<HeldStore<D>> {
         ensures turn { TookTurn D.device self.now.cell.first.store pass.old pass.new (λ before after.
             IsLeftByRead D.device before after result × IfErr result (IsReadFault D.device before after)) }
 
-        // The rows are those of the history that the caller has seen, whatever came to it since.
-        ensures rows { IfOk result (λ rows. rows ++ rest_of cursor.new (rows_below pass.old.history.seen)
+        // Where the store tells its rows, these are those of the history that the caller has seen, whatever came to it
+        // since.
+        ensures rows { TellsRows D.device self.now.cell.first.store → IfOk result (λ rows.
+            rows ++ rest_of cursor.new (rows_below pass.old.history.seen)
             ≡ rest_of cursor.old (rows_below pass.old.history.seen)) }
         ensures end { IfOk result (EndsExactly limit cursor.old cursor.new) }
         ensures nearer { IfOk result (λ rows. (rows ≡ [] → ⊥) → steps_at_most cursor.new < steps_at_most cursor.old) }

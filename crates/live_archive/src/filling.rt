@@ -38,6 +38,7 @@ impl<D: Disk> LiveOver<HeldStore<D>> {
         let mut held = self.cell.enter(rt, pass);
         let result = held.store.begin(alloc);
         self.cell.leave(pass, held);
+        self.cell.rouse();
         result
     }
 
@@ -61,6 +62,7 @@ impl<D: Disk> LiveOver<HeldStore<D>> {
         // What finds no memory is published with the next.
         let (held, _note) = held.published(rt, alloc);
         self.cell.leave(pass, held);
+        self.cell.rouse();
         result
     }
 

@@ -1,6 +1,6 @@
 //! Laws of the definitions and types, carried by functions that do nothing.
 
-ghost use Rattle.live_archive.specs.Added.{AbandonsAdd, AsksAddNothing, BeginsAdd, ClosesAdd, IngestsAdd, InstallsAdd};
+ghost use Rattle.live_archive.specs.Added.{AbandonsAdd, AsksAdd, AsksAddNothing, BeginsAdd, ClosesAdd, IngestsAdd, InstallsAdd};
 ghost use Rattle.live_archive.specs.Laws.{BuiltIsRight, RightStays, TurnsAreTold};
 
 use crate::held::HeldStore;
@@ -25,6 +25,7 @@ pub fn calls_add<D: Disk, T>()
     ensures abandons { AbandonsAdd T D.device }
     ensures closes { ClosesAdd T D.device }
     ensures asks { AsksAddNothing T D.device }
+    ensures unread { AsksAdd T D.device }
 {}
 
 /// A fill that is built of a task may be installed by the pass with which the task began, whatever others do meanwhile.

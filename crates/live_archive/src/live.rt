@@ -64,6 +64,11 @@ impl<D: Disk> LiveOver<HeldStore<D>> {
         self.cell.front(pass)
     }
 
+    /// Rouses a caller that sleeps while it waits for its turn, if there is one. For who takes no turn for a while.
+    pub fn rouse(&self) {
+        self.cell.rouse();
+    }
+
     /// Another pass, which has seen as much, and gets half of the share.
     pub fn split(&self, pass: &mut LivePass<D>) -> LivePass<D>
         requires free { IsFree self.now.cell pass.old }

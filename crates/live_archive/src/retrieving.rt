@@ -2,6 +2,7 @@
 
 ghost use Rattle.std.specs.Prelude.{◌≡◌, ◌≤◌, MatchResult, IfOk, IfErr};
 ghost use Rattle.turn_cell.specs.Pass.{IsFree};
+ghost use Rattle.archive_store.specs.Pages.{TellsRows};
 ghost use Rattle.archive_store.specs.UnreadRows.{IsLeftByAnswer};
 ghost use Rattle.live_archive.specs.Retrievals.{IsAnswerIn, IsNotAnswered, IsPlannedIn, steps_allowed};
 ghost use Rattle.live_archive.specs.Turns.{TookTurn};
@@ -76,7 +77,7 @@ impl<D: Disk> LiveOver<HeldStore<D>> {
         ensures turn { TookTurn D.device self.now.cell.first.store pass.old pass.new (λ before after.
             IsLeftByAnswer D.device before after result
             × MatchResult result (IsAnswerIn D.device before request) (IsNotAnswered D.device before after request)
-            × (steps.new ≤ steps_allowed before request steps.old)) }
+            × (TellsRows D.device before → steps.new ≤ steps_allowed before request steps.old)) }
     {
         let planned = self.planned(rt, alloc, pass, request)?;
         let Planned { found, plan } = planned;

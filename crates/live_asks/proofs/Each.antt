@@ -10,13 +10,14 @@ use Rattle.turn_cell.specs.Pass.{PassView}
 use Rattle.glance_log.specs.Sightings.{Sighting}
 use Rattle.glance_log.proofs.Prefixes.{prefix_self}
 use Rattle.archive_store.specs.Entries.{FilledArchive}
+use Rattle.archive_store.specs.Pages.{TellsRows}
 use Rattle.archive_store.specs.StoreView.{StoreView, filled_of}
 use Rattle.retrieval.specs.declared.found_asks.FoundAsk.{FoundAsk}
 use Rattle.retrieval.specs.declared.found_asks.FoundAsk.TheVariants as looked_up
 use Rattle.store_shelf.specs.declared.kept.Kept.{Kept}
 use Rattle.live_archive.proofs.Going.{prefix_trans}
 use Rattle.live_asks.specs.declared.answered.AskAnswer.{AskAnswer}
-use Rattle.live_asks.specs.LiveAsks.{AreAnswered, AreAsked, DiskFacts, IsAnsweredInTurn, IsAsked, IsAskedInTurn, LooksOn, OnlySees, ReaderView, TurnBetween, behind_ask, disk_facts, every_fourth, reader_view, steps_allowed_behind}
+use Rattle.live_asks.specs.LiveAsks.{AreAnswered, AreAsked, DiskFacts, IsAnsweredInTurn, IsAsked, IsAskedInTurn, IsUnanswered, LooksOn, OnlySees, ReaderView, TurnBetween, behind_ask, disk_facts, every_fourth, reader_view, steps_allowed_behind}
 use Rattle.live_asks.proofs.Looking.{glanced_on}
 
 -- ---- what was answered stays so
@@ -57,7 +58,7 @@ pub record SeesMore (old new : ReaderView) : Type 0 where
   pub fills : IsPrefix old.fills new.fills
 
 -- those of a pass that only sees
-pub lists_seen : {T : Type 0} (old new : PassView Item Fill T) (taken taken' : ℕ) → OnlySees old new → SeesMore (reader_view old taken) (reader_view new taken')
+pub lists_seen : {T : Type 0} {sealed : ℕ} (old new : PassView Item Fill T) (taken taken' : ℕ) → OnlySees sealed old new → SeesMore (reader_view old taken) (reader_view new taken')
 lists_seen old new taken taken' sees = record { history = sees.begins; fills = sees.fills_begin }
 
 -- a turn stays between as the reader sees more
@@ -94,13 +95,13 @@ more_steps store (looked_up.Replay found) taken new few = few
 
 module _ {D : Type 0} (device : Device D) (first : StoreView D) where
   -- an ask behind an older view, of as many steps at least
-  asked_since : (older old new : ReaderView) (ask : FoundAsk) → SeesMore older old → old.steps ≤ older.steps → (turn : TurnBetween old new)
-      → new.steps ≤ (behind_ask first old.steps turn.history turn.fills ask).steps → new.steps ≤ (behind_ask first older.steps turn.history turn.fills ask).steps
-  asked_since older old new ask more fewer turn few = allowed_since (record first { history = turn.history; fills = turn.fills }) ask older.steps old.steps new.steps fewer few
+  asked_since : (older old new : ReaderView) (ask : FoundAsk) → SeesMore older old → (TellsRows device first → old.steps ≤ older.steps) → (turn : TurnBetween old new)
+      → (TellsRows device first → new.steps ≤ (behind_ask first old.steps turn.history turn.fills ask).steps) → TellsRows device first → new.steps ≤ (behind_ask first older.steps turn.history turn.fills ask).steps
+  asked_since older old new ask more fewer turn few told = allowed_since (record first { history = turn.history; fills = turn.fills }) ask older.steps old.steps new.steps (fewer told) (few told)
 
   -- one that was answered, for whose answer there is no room
   pub not_kept : (glance : Option (Sighting (Kept D))) (old new : ReaderView) (ask : FoundAsk) (answer : AskAnswer) → SeesMore old new → IsAsked device first glance old new ask (Ok answer) → IsAskedInTurn device first old new ask (Err OutOfMemory)
-  not_kept glance old new ask answer more (inr is) = record { turn = is.turn; said = refl; steps = is.steps }
+  not_kept glance old new ask answer more (inr is) = record { turn = is.turn; said = tt; steps = is.steps }
   not_kept glance old new ask answer more (inl is) = record {
     turn = record {
       history = old.history;
@@ -110,8 +111,8 @@ module _ {D : Type 0} (device : Device D) (first : StoreView D) where
       begins = more.history;
       fills_begin = more.fills;
     };
-    said = refl;
-    steps = more_steps (record first { history = old.history; fills = old.fills }) ask old.steps new.steps is.1;
+    said = tt;
+    steps = λ _. more_steps (record first { history = old.history; fills = old.fills }) ask old.steps new.steps is.1;
   }
 
   -- what was answered stays so as the glance sees more
@@ -135,7 +136,7 @@ module _ {D : Type 0} (device : Device D) (first : StoreView D) where
     pub asked_more : (old seen later : ReaderView) (asks : List FoundAsk) (answers : List AskAnswer) (ask : FoundAsk) (answer : AskAnswer) → SeesMore old seen → SeesMore seen later
         → AreAsked device first glance old seen asks answers None → IsAsked device first glance seen later ask (Ok answer)
         → AreAsked device first glance old later (asks ++ ask ∷ []) (answers ++ answer ∷ []) None
-    asked_more old seen later [] [] ask answer begins more each (inl is) = inl (is.0, let few = is.1 in omega (arith, few, each))
+    asked_more old seen later [] [] ask answer begins more each (inl is) = inl (is.0, λ told. let few = is.1 in let so_far = each told in omega (arith, few, so_far))
     asked_more old seen later [] [] ask answer begins more each (inr is) = inr (turn_since old seen later begins is.turn, is.said, asked_since old seen later ask begins each is.turn is.steps)
     asked_more old seen later [] (answer' ∷ answers) ask answer begins more each is = absurd each
     asked_more old seen later (ask' ∷ asks) [] ask answer begins more each is = absurd each
@@ -163,9 +164,25 @@ module _ {D : Type 0} (device : Device D) (first : StoreView D) where
       one_unanswered (behind_ask first old.steps each.0.history each.0.fills ask') seen later asks answers ask left refusal (record { history = each.0.begins; fills = each.0.fills_begin }) more each.2 is,
     )
 
+  -- why one wasn't answered
+  refused_so : (glance : Option (Sighting (Kept D))) (old seen : ReaderView) (asks : List FoundAsk) (answers : List AskAnswer) (refusal : Refusal) → AreAsked device first glance old seen asks answers (Some refusal)
+      → IsUnanswered (disk_facts device first.opened first.sealed) refusal
+  refused_so glance old seen [] [] refusal are = absurd are
+  refused_so glance old seen [] (answer ∷ answers) refusal are = absurd are
+  refused_so glance old seen (ask ∷ asks) [] refusal are = are.said
+  refused_so glance old seen (ask ∷ asks) (answer ∷ answers) refusal (inl are) = refused_so glance old seen asks answers refusal are.1
+  refused_so glance old seen (ask ∷ asks) (answer ∷ answers) refusal (inr are) = refused_so glance (behind_ask first old.steps are.0.history are.0.fills ask) seen asks answers refusal are.2
+
+  -- where one wasn't answered, it may be told with no answers
+  pub none_kept : (glance : Option (Sighting (Kept D))) (old seen : ReaderView) (low high : List Item) (asks : List FoundAsk) (answers : List AskAnswer) (refusal : Refusal) → AreAsked device first glance old seen asks answers (Some refusal)
+      → AreAnswered (disk_facts device first.opened first.sealed) (filled_of first) low high asks [] (Some refusal)
+  none_kept glance old seen low high [] [] refusal are = absurd are
+  none_kept glance old seen low high [] (answer ∷ answers) refusal are = absurd are
+  none_kept glance old seen low high (ask ∷ asks) answers refusal are = refused_so glance old seen (ask ∷ asks) answers refusal are
+
   -- what was asked in turns is answered
   pub asked_are_answered : (old seen : ReaderView) (asks : List FoundAsk) (answers : List AskAnswer) (refusal : Option Refusal) → AreAsked device first None old seen asks answers refusal
-      → AreAnswered (disk_facts device first.opened) (filled_of first) old.history seen.history asks answers refusal
+      → AreAnswered (disk_facts device first.opened first.sealed) (filled_of first) old.history seen.history asks answers refusal
   asked_are_answered old seen [] [] None are = tt
   asked_are_answered old seen [] [] (Some refusal) are = absurd are
   asked_are_answered old seen [] (answer ∷ answers) refusal are = absurd are
@@ -189,7 +206,7 @@ module _ {D : Type 0} (device : Device D) (first : StoreView D) where
   none_so_far glance old asks before answers none = record {
     done = [];
     parts = refl;
-    each = subst (λ (l : List AskAnswer). AreAsked device first glance old old [] l None) (sym none) (omega arith);
+    each = subst (λ (l : List AskAnswer). AreAsked device first glance old old [] l None) (sym none) (λ _. omega arith);
   }
 
   module _ (glance : Option (Sighting (Kept D))) (old seen : ReaderView) (all left more : List FoundAsk) (ask : FoundAsk) (is : left ≡ ask ∷ more) where
@@ -221,7 +238,7 @@ module _ {D : Type 0} (device : Device D) (first : StoreView D) where
             (asked_more glance' old seen later s.done answers ask answer begins longer (still answers skip s) it);
       }
 
-      -- one for which there is no memory
+      -- one that isn't
       pub ended_at : (later : ReaderView) (skip : ℕ) (answers : List AskAnswer) (refusal : Refusal) → skip ≡ 0 → SeesMore old seen → SeesMore seen later
           → IsAskedInTurn device first seen later ask (Err refusal) → AreAskedSoFar glance old seen all left skip answers → AreAsked device first glance' old later all answers (Some refusal)
       ended_at later skip answers refusal mine begins longer it s =

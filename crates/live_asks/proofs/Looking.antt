@@ -70,7 +70,7 @@ module _ {D : Type 0} (first : HeldStore D) where
 
   module _ (device : Device D) (found : FoundRequest) (answer : Answer) where
     row_cells : (at : Sighting (Kept D)) → IsGlanceAt first at → IsNowAnswer (staying_by device) at found.request answer
-        → HasRowCellsOf (disk_facts device first.store.opened) (filled_of first.store) at.history found.request answer
+        → HasRowCellsOf (disk_facts device first.store.opened first.store.sealed) (filled_of first.store) at.history found.request answer
     row_cells at is said =
         let same : said.0 ≡ kept_of first.store = cc (sym said.1 ∙ is.kept) in
         let over = subst (λ (k : Kept D). IsTimelyAnswer (staying_by device k) at.history at.fills found.request answer) same said.2 in record {

@@ -21,7 +21,7 @@ use Rattle.live_asks.proofs.Each.{are_answered_later, asked_are_answered}
 
 -- the front of an answer is the length of the history that it is over
 front_is : (facts : DiskFacts) (opened : FilledArchive) (over : List Item) (ask : FoundAsk) (answer : AskAnswer) → AnswersOver facts opened over ask answer → front_of answer ≡ length over
-front_is facts opened over (looked_up.Values found) (answered.Values answer) (inl is) = is.filled.front
+front_is facts opened over (looked_up.Values found) (answered.Values answer) (inl is) = is.front
 front_is facts opened over (looked_up.Values found) (answered.Values answer) (inr is) = is.front
 front_is facts opened over (looked_up.Values found) (answered.Replay replayed) is = absurd is
 front_is facts opened over (looked_up.Replay found) (answered.Values answer) is = absurd is
@@ -29,7 +29,7 @@ front_is facts opened over (looked_up.Replay found) (answered.Replay replayed) i
 
 module _ {D : Type 0} (device : Device D) (first : StoreView D) (glance : Sighting (Kept D)) where
   abbrev facts : DiskFacts
-  facts = disk_facts device first.opened
+  facts = disk_facts device first.opened first.sealed
 
   abbrev opened : FilledArchive
   opened = filled_of first
@@ -79,9 +79,9 @@ module _ {D : Type 0} (device : Device D) (first : StoreView D) (glance : Sighti
 pub settled_are_answered : {D T : Type 0} (device : Device D) (first : StoreView D) (glance : Option (Sighting (Kept D))) (old new last : PassView Item Fill T) (taken taken' : ℕ) (asks : List FoundAsk) (answers : List AskAnswer) (refusal : Option Refusal)
     → old.history.seen ≡ first.history → IsPrefix old.history.seen last.history.seen → IsPrefix new.history.seen last.history.seen → AreSettled glance last answers
     → AreAsked device first glance (reader_view old taken) (reader_view new taken') asks answers refusal
-    → AreAnswered (disk_facts device first.opened) (filled_of first) old.history.seen last.history.seen asks answers refusal
+    → AreAnswered (disk_facts device first.opened first.sealed) (filled_of first) old.history.seen last.history.seen asks answers refusal
 settled_are_answered device first None old new last taken taken' asks answers refusal same begins seen settled are =
-    are_answered_later (disk_facts device first.opened) (filled_of first) old.history.seen new.history.seen last.history.seen asks answers refusal seen
+    are_answered_later (disk_facts device first.opened first.sealed) (filled_of first) old.history.seen new.history.seen last.history.seen asks answers refusal seen
     (asked_are_answered device first (reader_view old taken) (reader_view new taken') asks answers refusal are)
 settled_are_answered device first (Some glance) old new last taken taken' asks answers refusal same begins seen settled are =
     one_after_another device first glance last.history.seen settled.0 old.history.seen (reader_view old taken) (reader_view new taken') asks answers refusal begins seen

@@ -55,7 +55,8 @@ pub(crate) fn is_settled<D: Disk, G: Gate, R: Wait>(
     requires free { IsFree live.now.cell pass.old }
     requires glance { IfSome glance.now (IsGlanceAt live.now.cell.first) }
     ensures free { IsFree live.now.cell pass.new }
-    ensures sees { OnlySees pass.old pass.new }
+    ensures sees { OnlySees live.now.cell.first.store.sealed pass.old pass.new }
+    ensures silent { pass.new.fills.places ≡ pass.old.fills.places }
     ensures settled { result ≡ true → AreSettled glance.now pass.new answers.now }
 {
     match glance {
@@ -78,7 +79,8 @@ fn is_shown<D: Disk, G: Gate, R: Wait>(
     requires free { IsFree live.now.cell pass.old }
     requires glance { IsGlanceAt live.now.cell.first glance.now }
     ensures free { IsFree live.now.cell pass.new }
-    ensures sees { OnlySees pass.old pass.new }
+    ensures sees { OnlySees live.now.cell.first.store.sealed pass.old pass.new }
+    ensures silent { pass.new.fills.places ≡ pass.old.fills.places }
     ensures shown { result ≡ true → IsPrefix glance.now.history pass.new.history.seen }
 {
     gated.pass();

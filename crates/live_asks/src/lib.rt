@@ -2,10 +2,10 @@
 //!
 //! Stands for: how a reader's asks are answered (`AreAnswered` in specs/LiveAsks.antt): each over the history that
 //! there was in some turn, which goes on from that of the answer before; that a reader puts nothing behind the lists
-//! (`OnlySees`); and that its asks together take a step at most for each row of their ranges that was late in their
-//! turns (`AreAsked`), all counted in one book. Answers are kept as cells and rows with their fronts, so that they may
-//! be printed once all jobs have ended. A reader is a job (`Reader`), which has every fourth ask. Called by
-//! live_session.
+//! but faults of reads (`OnlySees`); and that its asks together take a step at most for each row of their ranges that
+//! was late in their turns (`AreAsked`), all counted in one book. Answers are kept as cells and rows with their
+//! fronts, so that they may be printed once all jobs have ended. A reader is a job (`Reader`), which has every fourth
+//! ask. Called by live_session.
 //!
 //! Where a reader has a glance, that answers its asks for values, and a turn those to which it has no answer. Behind the
 //! last ask one turn shows whether all that the glance has seen begins what the pass has seen (`is_settled`); where it

@@ -1,9 +1,11 @@
 //! The job of a reader.
 
-ghost use Rattle.std.specs.Prelude.{◌≡◌, ◌<◌, [], IfSome};
+ghost use Rattle.std.specs.Prelude.{◌≡◌, ◌<◌, [], IfErr, IfSome, None, OnOk, Some};
 ghost use Rattle.retrieval.specs.FoundAsks.{AreFound};
 ghost use Rattle.std.specs.Result.{result_err};
+ghost use Rattle.refusals.specs.declared.refusal.Refusal.TheVariants.{DiskFault};
 ghost use Rattle.turn_cell.specs.Pass.{IsFree};
+ghost use Rattle.live_archive.specs.Reads.{NotedRead};
 ghost use Rattle.archive_store.specs.StoreView.{filled_of};
 ghost use Rattle.live_asks.specs.LiveAsks.{AreAnswered, AreAsked, IsGlanceAt, LooksOn, OnlySees};
 ghost use Rattle.live_asks.specs.LiveAsks.{disk_facts, every_fourth, reader_view};
@@ -53,7 +55,9 @@ pub struct ReaderDone<P> {
 
 impl<'a, D: Disk + Send, G: Gate + Sync> Job
     for Reader<'a, Live<D>, LivePass<D>, LiveGlance<D>, G> {
-    ghost use Rattle.std.specs.Prelude.{◌≡◌, IfSome};
+    ghost use Rattle.std.specs.Prelude.{◌≡◌, IfSome, None, Some};
+    ghost use Rattle.refusals.specs.declared.refusal.Refusal.TheVariants.{DiskFault};
+    ghost use Rattle.live_archive.specs.Reads.{NotedRead};
     ghost use Rattle.retrieval.specs.FoundAsks.{AreFound};
     ghost use Rattle.turn_cell.specs.Pass.{IsFree};
     ghost use Rattle.archive_store.specs.StoreView.{filled_of};
@@ -66,10 +70,14 @@ impl<'a, D: Disk + Send, G: Gate + Sync> Job
         × IfSome reader.glance (IsGlanceAt reader.live.now.cell.first)
         × AreFound reader.live.now.cell.first.store.head reader.live.now.cell.first.store.history reader.asks.now };
 
-    ghost did = { λ reader done. IsFree reader.live.now.cell done.pass × OnlySees reader.pass done.pass
-        × AreAnswered (disk_facts D.device reader.live.now.cell.first.store.opened)
+    ghost did = { λ reader done. IsFree reader.live.now.cell done.pass
+        × OnlySees reader.live.now.cell.first.store.sealed reader.pass done.pass
+        × AreAnswered (disk_facts D.device reader.live.now.cell.first.store.opened
+        reader.live.now.cell.first.store.sealed)
         (filled_of reader.live.now.cell.first.store) reader.pass.history.seen done.pass.history.seen
-        (every_fourth reader.before reader.asks.now) done.answers done.refusal };
+        (every_fourth reader.before reader.asks.now) done.answers done.refusal
+        × (done.refusal ≡ Some DiskFault → NotedRead reader.pass.fills done.pass.fills)
+        × (done.refusal ≡ None → done.pass.fills.places ≡ reader.pass.fills.places) };
 
     fn run<R: Wait>(self, rt: &R) -> ReaderDone<LivePass<D>> {
         run_counted::<D, G, R, Brand>(rt, Blank::new(1), self)
@@ -89,10 +97,13 @@ fn run_counted<D: Disk, G: Gate, R: Wait, L: Ledger>(
         reader.asks.now }
     requires blank { (blank.name ≡ L.name) × (blank.parts ≡ L.parts) × (0 < blank.parts) }
     ensures free { IsFree reader.entry.live.now.cell result.pass }
-    ensures sees { OnlySees reader.entry.pass result.pass }
-    ensures answered { AreAnswered (disk_facts D.device reader.entry.live.now.cell.first.store.opened)
+    ensures sees { OnlySees reader.entry.live.now.cell.first.store.sealed reader.entry.pass result.pass }
+    ensures answered { AreAnswered (disk_facts D.device reader.entry.live.now.cell.first.store.opened
+        reader.entry.live.now.cell.first.store.sealed)
         (filled_of reader.entry.live.now.cell.first.store) reader.entry.pass.history.seen result.pass.history.seen
         (every_fourth reader.entry.before reader.entry.asks.now) result.answers result.refusal }
+    ensures noted { result.refusal ≡ Some DiskFault → NotedRead reader.entry.pass.fills result.pass.fills }
+    ensures silent { result.refusal ≡ None → result.pass.fills.places ≡ reader.entry.pass.fills.places }
 {
     let Reader {
         alloc,
@@ -122,7 +133,8 @@ fn run_counted<D: Disk, G: Gate, R: Wait, L: Ledger>(
 }
 
 /// The answers to every fourth ask, behind so many that others have before, up to the first that isn't answered, and why
-/// that isn't. Those of which a glance gave some that no turn shows are given again in turns.
+/// that isn't. Those of which a glance gave some that no turn shows are given again in turns; where one wasn't answered
+/// none is, so that no read fails untold.
 fn settled_answers<D: Disk, G: Gate, R: Wait, L: Ledger>(
     rt: &R,
     alloc: Global,
@@ -139,10 +151,12 @@ fn settled_answers<D: Disk, G: Gate, R: Wait, L: Ledger>(
     requires glance { IfSome glance (IsGlanceAt live.now.cell.first) }
     requires found { AreFound live.now.cell.first.store.head live.now.cell.first.store.history asks.now }
     ensures free { IsFree live.now.cell pass.new }
-    ensures sees { OnlySees pass.old pass.new }
-    ensures answered { AreAnswered (disk_facts D.device live.now.cell.first.store.opened)
-        (filled_of live.now.cell.first.store) pass.old.history.seen pass.new.history.seen
+    ensures sees { OnlySees live.now.cell.first.store.sealed pass.old pass.new }
+    ensures answered { AreAnswered (disk_facts D.device live.now.cell.first.store.opened
+        live.now.cell.first.store.sealed) (filled_of live.now.cell.first.store) pass.old.history.seen pass.new.history.seen
         (every_fourth before asks.now) result.0 result.1 }
+    ensures noted { result.1 ≡ Some DiskFault → NotedRead pass.old.fills pass.new.fills }
+    ensures silent { result.1 ≡ None → pass.new.fills.places ≡ pass.old.fills.places }
 {
     let mut glance = glance;
     let (answers, refusal) = answers_by(
@@ -159,8 +173,13 @@ fn settled_answers<D: Disk, G: Gate, R: Wait, L: Ledger>(
     if is_settled(rt, alloc, live, pass, gated, &glance, &answers) {
         return (answers, refusal);
     }
-    let mut none = None;
-    answers_by(rt, alloc, live, pass, gated, &mut none, asks, before, steps)
+    match refusal {
+        Some(refusal) => (AskAnswers::new(alloc), Some(refusal)),
+        None => {
+            let mut none = None;
+            answers_by(rt, alloc, live, pass, gated, &mut none, asks, before, steps)
+        }
+    }
 }
 
 /// The same, by a glance where there is one.
@@ -179,10 +198,12 @@ fn answers_by<D: Disk, G: Gate, R: Wait, L: Ledger>(
     requires glance { IfSome glance.old (IsGlanceAt live.now.cell.first) }
     requires found { AreFound live.now.cell.first.store.head live.now.cell.first.store.history asks.now }
     ensures free { IsFree live.now.cell pass.new }
-    ensures sees { OnlySees pass.old pass.new }
+    ensures sees { OnlySees live.now.cell.first.store.sealed pass.old pass.new }
     ensures later { LooksOn glance.old glance.new }
     ensures asked { AreAsked D.device live.now.cell.first.store glance.new (reader_view pass.old steps.old)
         (reader_view pass.new steps.new) (every_fourth before asks.now) result.0 result.1 }
+    ensures noted { result.1 ≡ Some DiskFault → NotedRead pass.old.fills pass.new.fills }
+    ensures silent { result.1 ≡ None → pass.new.fills.places ≡ pass.old.fills.places }
 {
     let mut answers = AskAnswers::new(alloc);
     let answer = answer_asks(
@@ -218,10 +239,12 @@ fn answer_asks<D: Disk, G: Gate, R: Wait, L: Ledger>(
     requires found { AreFound live.now.cell.first.store.head live.now.cell.first.store.history asks.now }
     requires none { answers.old ≡ [] }
     ensures free { IsFree live.now.cell pass.new }
-    ensures sees { OnlySees pass.old pass.new }
+    ensures sees { OnlySees live.now.cell.first.store.sealed pass.old pass.new }
     ensures later { LooksOn glance.old glance.new }
     ensures asked { AreAsked D.device live.now.cell.first.store glance.new (reader_view pass.old steps.old)
         (reader_view pass.new steps.new) (every_fourth before asks.now) answers.new (result_err result) }
+    ensures noted { IfErr result (λ refusal. refusal ≡ DiskFault → NotedRead pass.old.fills pass.new.fills) }
+    ensures silent { OnOk result (pass.new.fills.places ≡ pass.old.fills.places) }
 {
     let mut skip = before;
     for ask in asks {

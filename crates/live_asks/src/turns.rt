@@ -1,16 +1,18 @@
 //! The turns that one ask takes.
 
-ghost use Rattle.std.specs.Prelude.{◌≡◌, ◌≤◌, length, IfOk, IfErr, IfSome};
-ghost use Rattle.refusals.specs.declared.refusal.Refusal.TheVariants.{OutOfMemory};
+ghost use Rattle.std.specs.Prelude.{◌≡◌, ◌≤◌, length, IfOk, IfErr, IfSome, OnOk};
+ghost use Rattle.refusals.specs.declared.refusal.Refusal.TheVariants.{DiskFault};
 ghost use Rattle.archive_store.specs.Finding.{IsReplayFound, IsRequestFound};
 ghost use Rattle.history_items.specs.Databases.{database_in};
+ghost use Rattle.archive_store.specs.Pages.{TellsRows};
 ghost use Rattle.archive_store.specs.Replays.{rows_below};
 ghost use Rattle.archive_store.specs.StoreView.{filled_of};
 ghost use Rattle.replay_merge.specs.Cursor.{rest_of};
 ghost use Rattle.retrieval.specs.FoundAsks.{IsAskFound};
 ghost use Rattle.retrieval.specs.declared.found_asks.FoundAsk.TheVariants as looked_up;
 ghost use Rattle.turn_cell.specs.Pass.{IsFree};
-ghost use Rattle.live_asks.specs.LiveAsks.{IsAnsweredInTurn, IsAsked, IsGlanceAt, LooksOn, OnlySees};
+ghost use Rattle.live_archive.specs.Reads.{NotedRead};
+ghost use Rattle.live_asks.specs.LiveAsks.{IsAnsweredInTurn, IsAsked, IsGlanceAt, IsUnanswered, LooksOn, OnlySees};
 ghost use Rattle.live_asks.specs.LiveAsks.{disk_facts, reader_view};
 
 use crate::answered::{AskAnswer, ReplayedRows};
@@ -45,8 +47,8 @@ impl<'a, G: Gate> Gated<'a, G> {
     }
 }
 
-/// Answers an ask that was found, over the history that there is in a turn, or that a glance sees. The one error is want
-/// of memory, since turns bring no database.
+/// Answers an ask that was found, over the history that there is in a turn, or that a glance sees. Refused for want of
+/// memory, or where rows in runs aren't read; for nothing else, since turns bring no database.
 pub(crate) fn answer_ask<D: Disk, G: Gate, R: Wait, L: Ledger>(
     rt: &R,
     alloc: Global,
@@ -61,10 +63,12 @@ pub(crate) fn answer_ask<D: Disk, G: Gate, R: Wait, L: Ledger>(
     requires glance { IfSome glance.old (IsGlanceAt live.now.cell.first) }
     requires found { IsAskFound live.now.cell.first.store.head live.now.cell.first.store.history ask.now }
     ensures free { IsFree live.now.cell pass.new }
-    ensures sees { OnlySees pass.old pass.new }
+    ensures sees { OnlySees live.now.cell.first.store.sealed pass.old pass.new }
     ensures later { LooksOn glance.old glance.new }
     ensures asked { IsAsked D.device live.now.cell.first.store glance.new (reader_view pass.old steps.old)
         (reader_view pass.new steps.new) ask.now result }
+    ensures noted { IfErr result (λ refusal. refusal ≡ DiskFault → NotedRead pass.old.fills pass.new.fills) }
+    ensures silent { OnOk result (pass.new.fills.places ≡ pass.old.fills.places) }
 {
     match ask {
         FoundAsk::Values(found) => values(rt, alloc, live, pass, gated, glance, found, steps),
@@ -88,10 +92,12 @@ fn values<D: Disk, G: Gate, R: Wait, L: Ledger>(
     requires found { IsRequestFound (database_in live.now.cell.first.store.head.mdb
         live.now.cell.first.store.history) found.now }
     ensures free { IsFree live.now.cell pass.new }
-    ensures sees { OnlySees pass.old pass.new }
+    ensures sees { OnlySees live.now.cell.first.store.sealed pass.old pass.new }
     ensures later { LooksOn glance.old glance.new }
     ensures asked { IsAsked D.device live.now.cell.first.store glance.new (reader_view pass.old steps.old)
         (reader_view pass.new steps.new) (looked_up.Values found.now) result }
+    ensures noted { IfErr result (λ refusal. refusal ≡ DiskFault → NotedRead pass.old.fills pass.new.fills) }
+    ensures silent { OnOk result (pass.new.fills.places ≡ pass.old.fills.places) }
 {
     if let Some(answer) = glanced(alloc, gated, glance, &found.request) {
         return Ok(AskAnswer::Values(answer));
@@ -129,11 +135,14 @@ fn replay<D: Disk, G: Gate, R: Wait>(
     requires free { IsFree live.now.cell pass.old }
     requires found { IsReplayFound live.now.cell.first.store.head.tables found.now }
     ensures free { IsFree live.now.cell pass.new }
-    ensures sees { OnlySees pass.old pass.new }
+    ensures sees { OnlySees live.now.cell.first.store.sealed pass.old pass.new }
     ensures answered { IfOk result (IsAnsweredInTurn
-        (disk_facts D.device live.now.cell.first.store.opened) (filled_of live.now.cell.first.store)
-        pass.old.history.seen pass.new.history.seen (looked_up.Replay found.now)) }
-    ensures refused { IfErr result (λ refusal. refusal ≡ OutOfMemory) }
+        (disk_facts D.device live.now.cell.first.store.opened live.now.cell.first.store.sealed)
+        (filled_of live.now.cell.first.store) pass.old.history.seen pass.new.history.seen (looked_up.Replay found.now)) }
+    ensures refused { IfErr result (IsUnanswered
+        (disk_facts D.device live.now.cell.first.store.opened live.now.cell.first.store.sealed)) }
+    ensures noted { IfErr result (λ refusal. refusal ≡ DiskFault → NotedRead pass.old.fills pass.new.fills) }
+    ensures silent { OnOk result (pass.new.fills.places ≡ pass.old.fills.places) }
 {
     gated.pass();
     let cursor = live.replay_open(rt, alloc, pass, found)?;
@@ -142,7 +151,8 @@ fn replay<D: Disk, G: Gate, R: Wait>(
     Ok(AskAnswer::Replay(ReplayedRows { front, rows }))
 }
 
-/// The rows that are left of a replay, each day's in a turn of its own. The one error is want of memory.
+/// The rows that are left of a replay, each day's in a turn of its own. Refused for want of memory, or where rows in
+/// runs aren't read.
 fn rows_left<D: Disk, G: Gate, R: Wait>(
     rt: &R,
     alloc: Global,
@@ -154,9 +164,13 @@ fn rows_left<D: Disk, G: Gate, R: Wait>(
     requires free { IsFree live.now.cell pass.old }
     requires front { cursor.front ≤ length pass.old.history.seen }
     ensures free { IsFree live.now.cell pass.new }
-    ensures sees { OnlySees pass.old pass.new }
-    ensures rows { IfOk result (λ rows. rows ≡ rest_of cursor (rows_below pass.new.history.seen)) }
-    ensures refused { IfErr result (λ refusal. refusal ≡ OutOfMemory) }
+    ensures sees { OnlySees live.now.cell.first.store.sealed pass.old pass.new }
+    ensures rows { TellsRows D.device live.now.cell.first.store →
+        IfOk result (λ rows. rows ≡ rest_of cursor (rows_below pass.new.history.seen)) }
+    ensures refused { IfErr result (IsUnanswered
+        (disk_facts D.device live.now.cell.first.store.opened live.now.cell.first.store.sealed)) }
+    ensures noted { IfErr result (λ refusal. refusal ≡ DiskFault → NotedRead pass.old.fills pass.new.fills) }
+    ensures silent { OnOk result (pass.new.fills.places ≡ pass.old.fills.places) }
 {
     let mut cursor = cursor;
     let mut rows = Vec::new(alloc);

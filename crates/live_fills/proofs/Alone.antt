@@ -1,5 +1,5 @@
 -- What a filler's turns come to.
-use Rattle.std.proofs.Common.{◌≡◌, ◌⊎◌, inl, inr, ℕ, ◌+◌, ◌<◌, ◌≤◌, List, [], ◌∷◌, ◌++◌, length, Contains, Option, Some, Result, Ok, Err, refl, sym, ap, ◌∙◌, subst, arith, append-nil}
+use Rattle.std.proofs.Common.{◌≡◌, ◌⊎◌, inl, inr, ℕ, ◌+◌, ◌<◌, ◌≤◌, List, [], ◌++◌, length, Contains, Option, Result, Err, refl, sym, ap, ◌∙◌, subst, arith, append-nil}
 use Rattle.std.specs.Prelude.{slice_get, take}
 use Rattle.std.specs.List.{range_with_len}
 use Rattle.std.proofs.lemmas.List.FromFn.{get_or-range_with_len, length-range_with_len}
@@ -15,7 +15,7 @@ use Rattle.history_items.specs.declared.items.Item.{Item}
 use Rattle.store_fills.specs.declared.task.FillTask.{FillTask}
 use Rattle.turn_cell.specs.Pass.{PassView}
 use Rattle.archive_store.specs.StoreView.{StoreView}
-use Rattle.live_archive.specs.Added.{AddsTo, begin_notes, flight_ended}
+use Rattle.live_archive.specs.Added.{AddsTo, flight_ended}
 use Rattle.live_archive.proofs.Added.{abandons_add, begins_add, installs_add}
 use Rattle.live_archive.proofs.Going.{prefix_trans}
 use Rattle.live_archive.proofs.Places.{at_behind}
@@ -58,7 +58,7 @@ module _ {D T : Type 0} (first : StoreView D) where
       go place (inl has) = earlier place (p.noted place has)
       go place (inr note) = inr note
 
-  module _ (before : StoreView D) (old new : PassView Item Fill T) (noted : List Fill) (adds : AddsTo before old new [] noted) (quiet : AreQuiet (LateThen first before) noted) where
+  module _ (before : StoreView D) (old new : PassView Item Fill T) (noted : List Fill) (adds : AddsTo before old new [] noted) (quiet : AreQuiet first.sealed (LateThen first before) noted) where
     history_on : IsPrefix before.history new.history.seen
     history_on = ([], sym adds.history.seen)
 
@@ -70,7 +70,7 @@ module _ {D T : Type 0} (first : StoreView D) where
     at_turn place (i, low, is) =
         let within : i < length noted = subst (λ (n : ℕ). i < n) (length-range_with_len (length before.fills) (length noted)) low in
         let at : place ≡ length before.fills + i = sym is ∙ get_or-range_with_len (length before.fills) (length noted) i place within in
-        let x = some_at (IsQuiet (LateThen first before)) noted i within quiet in
+        let x = some_at (IsQuiet first.sealed (LateThen first before)) noted i within quiet in
         let behind : length before.fills ≤ place = omega (arith, at) in
         record {
           item = x.0;
@@ -96,12 +96,13 @@ module _ {D T : Type 0} (first : StoreView D) where
 module _ {D T : Type 0} (device : Device D) (first : StoreView D) (old new : PassView Item Fill T) where
   pub begin_alone : (answer : Result (Option FillTask) Refusal) → BeginsInTurn device first old answer new → FillsAlone first old new
   begin_alone answer turn =
-      alone_turn first turn.before old new (begin_notes answer) (begins_add T device first turn.before turn.after old new answer turn.turned turn.said) (begun_quiet (LateThen first turn.before) answer)
+      let adds = begins_add T device first turn.before turn.after old new answer turn.turned turn.said in
+      alone_turn first turn.before old new adds.0 adds.2 (begun_quiet first.sealed (LateThen first turn.before) turn.before turn.turned.found.appends.sealed answer adds.0 adds.1)
 
   pub give_up_alone : (task : FillTask) → GivesUpInTurn device first old task new → FillsAlone first old new
   give_up_alone task turn =
       alone_turn first turn.before old new (flight_ended task.interval turn.before.fills) (abandons_add T device first turn.before turn.after old new task.interval turn.turned turn.said)
-      (ended_quiet (LateThen first turn.before) task.interval turn.before.fills)
+      (ended_quiet first.sealed (LateThen first turn.before) task.interval turn.before.fills)
 
   pub install_alone : (task : FillTask) (answer : Result Installed Refusal) → InstallsInTurn device first old task answer new → FillsAlone first old new
   install_alone task answer installs = go installs.turn
@@ -112,5 +113,5 @@ module _ {D T : Type 0} (device : Device D) (first : StoreView D) (old new : Pas
           let adds = installs_add T device first before turn.after old new done answer turn.turned turn.said in
           let late = late_on first.exponent first.fills old.history.seen before.history old.fills.seen before.fills task.interval turn.turned.begins turn.turned.fills_begin installs.own.late in
           alone_turn first before old new adds.0 adds.2
-          (installed_quiet (LateThen first before) before.fills done answer adds.0 (subst (LateThen first before) (sym of.interval) late) adds.1)
+          (installed_quiet first.sealed (LateThen first before) before.fills done answer adds.0 (subst (LateThen first before) (sym of.interval) late) adds.1)
       go (inr (none, turn)) = give_up_alone task turn

@@ -98,10 +98,11 @@ module _ {D T : Type 0} (first : StoreView D) where
 
 module _ {D T : Type 0} (device : Device D) (first : StoreView D) where
   begin_calm : (old new : PassView Item Fill T) (begun : Option FillTask) → BeginsInTurn device first old (Ok begun) new → Calm first old new
-  begin_calm old new begun turn = (
-    begin_alone device first old new (Ok begun) turn,
-    calm_turn first turn.before old new (flight_begun begun) (begins_add T device first turn.before turn.after old new (Ok begun) turn.turned turn.said) (begun_calm begun),
-  )
+  begin_calm old new begun turn =
+      let adds = begins_add T device first turn.before turn.after old new (Ok begun) turn.turned turn.said in (
+        begin_alone device first old new (Ok begun) turn,
+        calm_turn first turn.before old new adds.0 adds.2 (subst (AllByRecursion IsCalm) (sym adds.1) (begun_calm begun)),
+      )
 
   install_calm : (old new : PassView Item Fill T) (task : FillTask) (installed : Installed) → InstallsInTurn device first old task (Ok installed) new → Calm first old new
   install_calm old new task installed installs = (install_alone device first old new task (Ok installed) installs, go installs.turn)

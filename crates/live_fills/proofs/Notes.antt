@@ -1,5 +1,5 @@
 -- What a filler's calls note.
-use Rattle.std.proofs.Common.{◌≡◌, ℕ, zero, suc, ◌<◌, ◌≤◌, Bool, true, false, List, [], ◌∷◌, ◌++◌, length, Option, Some, None, Result, Ok, Err, if◌then◌else◌, refl, sym, ap, ◌∙◌, subst, arith, append-nil}
+use Rattle.std.proofs.Common.{◌≡◌, inl, inr, ℕ, zero, suc, ◌<◌, ◌≤◌, Bool, true, false, List, [], ◌∷◌, ◌++◌, length, Option, Some, None, Result, Ok, Err, if◌then◌else◌, refl, sym, ap, ◌∙◌, subst, arith, append-nil}
 use Rattle.std.specs.Prelude.{slice_get, take}
 use Rattle.std.specs.List.{AllByRecursion}
 use Rattle.std.specs.Option.{is_some}
@@ -19,7 +19,7 @@ use Rattle.history_items.specs.Fills.{in_flight}
 use Rattle.store_fills.specs.declared.task.FillTask.{FillTask}
 use Rattle.store_fills.specs.Built.{BuiltFill}
 use Rattle.archive_store.specs.StoreView.{StoreView}
-use Rattle.live_archive.specs.Added.{AreFaults, InstallNotes, begin_notes, flight_ended}
+use Rattle.live_archive.specs.Added.{AreFaults, BeginNotes, InstallNotes, flight_ended}
 use Rattle.live_archive.proofs.Places.{at_later}
 use Rattle.live_fills.specs.Filler.{IsNoBatchFault, IsFillNote}
 use Rattle.live_fills.specs.LiveTarget.{WasLate}
@@ -61,36 +61,38 @@ module _ {D : Type 0} (first : StoreView D) where
 -- ---- by call
 
 -- no faults of batches, and fills of such intervals alone
-abbrev pub IsQuiet : (Interval → Type 0) → Fill → Type 0
-IsQuiet Late item = IsNoBatchFault item × ((i : Interval) (base : ℕ) → item ≡ Done i base → Late i)
+abbrev pub IsQuiet : ℕ → (Interval → Type 0) → Fill → Type 0
+IsQuiet sealed Late item = IsNoBatchFault sealed item × ((i : Interval) (base : ℕ) → item ≡ Done i base → Late i)
 
-abbrev pub AreQuiet : (Interval → Type 0) → List Fill → Type 0
-AreQuiet Late noted = AllByRecursion (IsQuiet Late) noted
+abbrev pub AreQuiet : ℕ → (Interval → Type 0) → List Fill → Type 0
+AreQuiet sealed Late noted = AllByRecursion (IsQuiet sealed Late) noted
 
-module _ (Late : Interval → Type 0) where
-  both_quiet : (a b : List Fill) → AreQuiet Late a → AreQuiet Late b → AreQuiet Late (a ++ b)
+module _ (sealed : ℕ) (Late : Interval → Type 0) where
+  both_quiet : (a b : List Fill) → AreQuiet sealed Late a → AreQuiet sealed Late b → AreQuiet sealed Late (a ++ b)
   both_quiet [] b x y = y
   both_quiet (item ∷ a) b x y = (x.0, both_quiet a b x.1 y)
 
-  pub ended_quiet : (i : Interval) (fills : List Fill) → AreQuiet Late (flight_ended i fills)
+  pub ended_quiet : (i : Interval) (fills : List Fill) → AreQuiet sealed Late (flight_ended i fills)
   ended_quiet i fills = go (is_some (in_flight i fills))
     where
-      go : (b : Bool) → AreQuiet Late (if b then Freed i ∷ [] else [])
+      go : (b : Bool) → AreQuiet sealed Late (if b then Freed i ∷ [] else [])
       go true = ((tt, λ j base is. absurd (cc is)), tt)
       go false = tt
 
-  pub begun_quiet : (answer : Result (Option FillTask) Refusal) → AreQuiet Late (begin_notes answer)
-  begun_quiet (Ok None) = tt
-  begun_quiet (Ok (Some task)) = ((tt, λ j base is. absurd (cc is)), tt)
-  begun_quiet (Err refusal) = tt
+  pub begun_quiet : {D : Type 0} (store : StoreView D) → store.sealed ≡ sealed → (answer : Result (Option FillTask) Refusal) (noted : List Fill) → BeginNotes store answer noted → AreQuiet sealed Late noted
+  begun_quiet store same (Ok None) noted is = subst (AreQuiet sealed Late) (sym is) tt
+  begun_quiet store same (Ok (Some task)) noted is = subst (AreQuiet sealed Late) (sym is) ((tt, λ j base e. absurd (cc e)), tt)
+  begun_quiet store same (Err refused.DiskFault) noted (paged, (count, is)) =
+      subst (AreQuiet sealed Late) (sym is) ((inr (subst (λ (n : ℕ). 0 < n) same paged, (count, refl)), λ j base e. absurd (cc e)), tt)
+  begun_quiet store same (Err _) noted is = subst (AreQuiet sealed Late) (sym is) tt
 
-  faults_quiet : (i : Interval) (base : ℕ) (refusal : Refusal) (noted : List Fill) → AreFaults (additions.Fill i base) refusal noted → AreQuiet Late noted
-  faults_quiet i base refused.DiskFault noted are = subst (AreQuiet Late) (sym are.1) ((tt, λ j b is. absurd (cc is)), tt)
-  faults_quiet i base _ noted are = subst (AreQuiet Late) (sym are) tt
+  faults_quiet : (i : Interval) (base : ℕ) (refusal : Refusal) (noted : List Fill) → AreFaults (additions.Fill i base) refusal noted → AreQuiet sealed Late noted
+  faults_quiet i base refused.DiskFault noted are = subst (AreQuiet sealed Late) (sym are.1) ((inl tt, λ j b is. absurd (cc is)), tt)
+  faults_quiet i base _ noted are = subst (AreQuiet sealed Late) (sym are) tt
 
-  pub installed_quiet : (fills : List Fill) (done : BuiltFill) (answer : Result Installed Refusal) (noted : List Fill) → Late done.interval → InstallNotes fills done answer noted → AreQuiet Late noted
+  pub installed_quiet : (fills : List Fill) (done : BuiltFill) (answer : Result Installed Refusal) (noted : List Fill) → Late done.interval → InstallNotes fills done answer noted → AreQuiet sealed Late noted
   installed_quiet fills done (Ok became.Done) noted late is =
-      subst (AreQuiet Late) (sym is) ((tt, λ j base e. let same : done.interval ≡ j = cc e in subst Late same late), tt)
-  installed_quiet fills done (Ok (became.Stale position)) noted late is = subst (AreQuiet Late) (sym is) (ended_quiet done.interval fills)
+      subst (AreQuiet sealed Late) (sym is) ((tt, λ j base e. let same : done.interval ≡ j = cc e in subst Late same late), tt)
+  installed_quiet fills done (Ok (became.Stale position)) noted late is = subst (AreQuiet sealed Late) (sym is) (ended_quiet done.interval fills)
   installed_quiet fills done (Err refusal) noted late (faults, are, is) =
-      subst (AreQuiet Late) (sym is) (both_quiet faults (flight_ended done.interval fills) (faults_quiet done.interval done.base refusal faults are) (ended_quiet done.interval fills))
+      subst (AreQuiet sealed Late) (sym is) (both_quiet faults (flight_ended done.interval fills) (faults_quiet done.interval done.base refusal faults are) (ended_quiet done.interval fills))

@@ -20,9 +20,9 @@ module _ {D T X : Type 0} (device : Device D) (first : StoreView D) (old new : P
       (λ a b task became turn. install_alone device first a b task became turn)
       old new answer done last
 
-  pub run_cause : IfErr answer (IsLastRefused device first old new) → IfErr answer (IsRefusalOf first new)
+  pub run_cause : IfErr answer (IsLastRefused device first old new) → IfErr answer (IsRefusalOf device first new)
   run_cause last =
-      woken_cause (BeginsInTurn device first) (InstallsInTurn device first) (IsRefusalOf first)
+      woken_cause (BeginsInTurn device first) (InstallsInTurn device first) (IsRefusalOf device first)
       (λ a b refusal turn. begin_cause device first a b refusal turn)
       (λ a b task refusal turn. install_cause device first a b task refusal turn)
       old new answer last

@@ -13,7 +13,6 @@ use Rattle.store_fills.specs.Built.{IsTaskRows}
 use Rattle.turn_cell.specs.Pass.{PassView}
 use Rattle.archive_store.specs.StoreView.{StoreView}
 use Rattle.archive_store.specs.Tasks.{BeginsTask}
-use Rattle.archive_store.proofs.UnreadRows.{told_in_memory}
 use Rattle.live_archive.specs.Turns.{Turned}
 use Rattle.live_archive.proofs.Built.{built_right}
 use Rattle.live_archive.proofs.Going.{prefix_trans}
@@ -40,14 +39,14 @@ module _ {D T : Type 0} (device : Device D) (first before after : StoreView D) (
     begins = subst (IsPrefix before.history) (sym (ap (λ (p : PassView Item Fill T). p.history.seen) t.pass)) t.goes.appends.history;
     since = t.found.appends.fills;
     fills_begin = subst (IsPrefix before.fills) (sym (ap (λ (p : PassView Item Fill T). p.fills.seen) t.pass)) t.goes.appends.fills;
-    late = subst (λ (e : ℕ). IsLate e task.interval before.history before.fills) t.found.appends.exponent (begun.step (told_in_memory device before)).next.0.late;
+    late = subst (λ (e : ℕ). IsLate e task.interval before.history before.fills) t.found.appends.exponent begun.next.0.late;
   }
 
-  began : Turned device first before after old new → BeginsTask device before after task → IsTaskRows task.exponent task.interval task.rows → IsOwnTask first new task
-  began t begun rows = record { in_order = rows; late = began_late t begun; right = λ done of. built_right T device first before after old new task done t begun of }
+  began : Turned device first before after old new → BeginsTask device before after task → IsTaskRows task.exponent task.interval task.rows → IsOwnTask device first new task
+  began t begun rows = record { in_order = rows; late = began_late t begun; right = λ told done of. built_right T device first before after old new task done told t begun of }
 
 pub own_task : {D T : Type 0} (device : Device D) (first : StoreView D) (old new : PassView Item Fill T) (answer : Result (Option FillTask) Refusal) → BeginsInTurn device first old answer new
-    → IfOk answer (λ begun. IfSome begun (λ task. IsTaskRows task.exponent task.interval task.rows)) → IfOk answer (λ begun. IfSome begun (IsOwnTask first new))
+    → IfOk answer (λ begun. IfSome begun (λ task. IsTaskRows task.exponent task.interval task.rows)) → IfOk answer (λ begun. IfSome begun (IsOwnTask device first new))
 own_task device first old new (Ok (Some task)) turn rows = began device first turn.before turn.after old new task turn.turned turn.said rows
 own_task device first old new (Ok None) turn rows = tt
 own_task device first old new (Err refusal) turn rows = tt

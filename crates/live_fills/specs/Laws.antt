@@ -24,10 +24,10 @@ NotesStay D = (first : StoreView D) (front history : List Item) (noted fills : L
     IsFillNote first front noted place → IsFillNote first history fills place
 
 -- so does why it ended
-abbrev pub CausesStay : Type 0 → Type 0
-CausesStay D = (first : StoreView D) (places : List ℕ) (front history : List Item) (noted fills : List Fill)
-    (refusal : Refusal) → IsPrefix front history → IsPrefix noted fills →
-    IsFillerRefusal first places front noted refusal → IsFillerRefusal first places history fills refusal
+abbrev pub CausesStay : {D : Type 0} → Device D → Type 0
+CausesStay {D = D} device = (first : StoreView D) (places : List ℕ) (front history : List Item)
+    (noted fills : List Fill) (refusal : Refusal) → IsPrefix front history → IsPrefix noted fills →
+    IsFillerRefusal device first places front noted refusal → IsFillerRefusal device first places history fills refusal
 
 -- each fill that came since was of an interval that was late
 abbrev pub WereLate : {D : Type 0} → StoreView D → StoreView D → Type 0

@@ -14,6 +14,7 @@ use Rattle.store_fills.specs.declared.task.FillTask.{FillTask}
 use Rattle.store_fills.specs.Built.{BuiltFill, IsTaskRows}
 use Rattle.turn_cell.specs.Pass.{PassView}
 use Rattle.archive_store.specs.Installs.{IsRightFor}
+use Rattle.archive_store.specs.Pages.{TellsRows}
 use Rattle.archive_store.specs.StoreView.{StoreView}
 use Rattle.live_archive.specs.Answers.{SaysBegun, SaysInstalled}
 use Rattle.live_archive.specs.Laws.{IsBuiltOf}
@@ -31,12 +32,13 @@ pub record WasLate (exponent : ℕ) (first : List Fill) (history : List Item) (f
   pub fills_begin : IsPrefix noted fills
   pub late : IsLate exponent interval front noted
 
--- A task of a late interval, with its rows in order. Whatever is built of it is right for the history that the pass has
--- seen.
-pub record IsOwnTask {D T : Type 0} (first : StoreView D) (pass : PassView Item Fill T) (task : FillTask) : Type 0 where
+-- A task of a late interval, with its rows in order. Where the store tells its rows, whatever is built of it is right
+-- for the history that the pass has seen.
+pub record IsOwnTask {D T : Type 0} (device : Device D) (first : StoreView D) (pass : PassView Item Fill T)
+    (task : FillTask) : Type 0 where
   pub in_order : IsTaskRows task.exponent task.interval task.rows
   pub late : WasLate first.exponent first.fills pass.history.seen pass.fills.seen task.interval
-  pub right : (done : BuiltFill) → IsBuiltOf task done → IsRightFor (as_seen first pass) done
+  pub right : TellsRows device first → (done : BuiltFill) → IsBuiltOf task done → IsRightFor (as_seen first pass) done
 
 -- ---- turns
 
@@ -60,5 +62,5 @@ module _ {D T : Type 0} (device : Device D) (first : StoreView D) where
   -- it
   pub record InstallsInTurn (old : PassView Item Fill T) (task : FillTask) (answer : Result Installed Refusal)
       (new : PassView Item Fill T) : Type 0 where
-    pub own : IsOwnTask first old task
+    pub own : IsOwnTask device first old task
     pub turn : BuildsAndInstalls old task answer new ⊎ ((answer ≡ Err OutOfMemory) × GivesUpInTurn old task new)

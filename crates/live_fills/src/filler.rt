@@ -51,7 +51,8 @@ fn fill_when_woken<D: Disk, G: Gate, R: Wait>(
     // Some: its last call was refused so, and why that was is seen in the lists.
     ensures last { IfSome result.refusal (IsLastRefused D.device filler.entry.live.now.cell.first.store
         filler.entry.pass result.pass) }
-    ensures refused { IfSome result.refusal (IsRefusalOf filler.entry.live.now.cell.first.store result.pass) }
+    ensures refused { IfSome result.refusal (IsRefusalOf D.device filler.entry.live.now.cell.first.store
+        result.pass) }
 {
     let Filler {
         alloc,

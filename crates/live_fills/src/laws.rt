@@ -7,7 +7,7 @@ use arch_disk::Disk;
 /// What a filler noted, and why it ended, stays true as others go on.
 pub fn notes_stay<D: Disk>()
     ensures notes { NotesStay D }
-    ensures causes { CausesStay D }
+    ensures causes { CausesStay D.device }
 {}
 
 /// Where each fill that came since was of an interval that was late, each interval has the fill that it had, or was

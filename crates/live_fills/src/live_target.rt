@@ -64,7 +64,7 @@ impl<'a, D: Disk, R: Wait> FillTarget for LiveTarget<'a, D, R> {
     ghost abandons = { λ old task new. (new.live ≡ old.live)
         × GivesUpInTurn D.device old.live.now.cell.first.store old.pass task new.pass };
 
-    ghost owns = { λ target task. IsOwnTask target.live.now.cell.first.store target.pass task };
+    ghost owns = { λ target task. IsOwnTask D.device target.live.now.cell.first.store target.pass task };
 
     fn begin(&mut self) -> Result<Option<FillTask>, Refusal> {
         self.live.begin_fill(self.rt, self.alloc, &mut self.pass)

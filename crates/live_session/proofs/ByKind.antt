@@ -36,9 +36,9 @@ module _ {D S : Type 0} (device : Device D) (state : S → SourceState) (first c
 
   -- what came of links by these sources, whose numbers rise from this one
   record AreLinkEnds (link : ℕ) (sources : List S) (ends : List (JobEnd S)) : Type 0 where
-    pub loaded : AreLinksLoaded (extension first.exponent first.history closed.history failed) g link (lefts_of state sources) (filter_map end_in ends)
+    pub loaded : AreLinksLoaded (disk_facts device first.opened first.sealed) (extension first.exponent first.history closed.history failed) g link (lefts_of state sources) (filter_map end_in ends)
     pub read : AreSourcesRead state (filter_map end_in ends) sources (filter_map source_in ends)
-    pub seen : AllByRecursion (λ end. IfSome (refusal_of_end end) (IsSeenIn first closed)) (filter_map end_in ends)
+    pub seen : AllByRecursion (λ end. IfSome (refusal_of_end end) (IsSeenIn device first closed)) (filter_map end_in ends)
     pub no_answers : filter_map answers_in ends ≡ []
     pub no_others : filter_map other_in ends ≡ []
 
@@ -50,9 +50,9 @@ module _ {D S : Type 0} (device : Device D) (state : S → SourceState) (first c
   link_ends link (source ∷ sources) (order ∷ orders) [] are each = absurd each
   link_ends link (source ∷ sources) (Ordered.Link n from wake ∷ orders) (Ended.Link number back end ∷ ends) are each =
       let rest = link_ends (suc link) sources orders ends are.1 each.1 in
-      let came = subst (λ (m : ℕ). LinkLoads first.exponent failed closed.history (receiving g.head first.history g.route m g.moment) (state from).left end) are.0.0 each.0.0 in
+      let came = subst (λ (m : ℕ). LinkLoads (disk_facts device first.opened first.sealed) first.exponent failed closed.history (receiving g.head first.history g.route m g.moment) (state from).left end) are.0.0 each.0.0 in
       record {
-        loaded = (subst (λ (s : S). LinkLoads first.exponent failed closed.history (receiving g.head first.history g.route link g.moment) (state s).left end) are.0.1 came, rest.loaded);
+        loaded = (subst (λ (s : S). LinkLoads (disk_facts device first.opened first.sealed) first.exponent failed closed.history (receiving g.head first.history g.route link g.moment) (state s).left end) are.0.1 came, rest.loaded);
         read = (subst (λ (s : S). IsSourceRead end (state s) (state back)) are.0.1 each.0.1, rest.read);
         seen = (each.0.2, rest.seen);
         no_answers = rest.no_answers;
@@ -85,7 +85,7 @@ module _ {D S : Type 0} (device : Device D) (state : S → SourceState) (first c
 
   -- what the store tells of a refusal
   abbrev Seen : Option Refusal → Type 0
-  Seen refusal = IfSome refusal (IsSeenIn first closed)
+  Seen refusal = IfSome refusal (IsSeenIn device first closed)
 
   -- what came of jobs that are no links', each of which was refused for such a cause, if it was
   record AreOtherEnds (Cause : Option Refusal → Type 0) (ends : List (JobEnd S)) : Type 0 where
@@ -96,13 +96,13 @@ module _ {D S : Type 0} (device : Device D) (state : S → SourceState) (first c
 
   -- where none of them was refused, this reader answered each of its asks
   abbrev AreAllAnswered : ℕ → List AskAnswer → Type 0
-  AreAllAnswered before answers = AreAnswered (disk_facts device first.opened) (filled_of first) first.history closed.history (every_fourth before g.asks) answers None
+  AreAllAnswered before answers = AreAnswered (disk_facts device first.opened first.sealed) (filled_of first) first.history closed.history (every_fourth before g.asks) answers None
 
   abbrev AreUnrefused : List (JobEnd S) → Type 0
   AreUnrefused ends = AllByRecursion (λ refusal. refusal ≡ None) (filter_map other_in ends)
 
   record AreReaderEnds (from count : ℕ) (ends : List (JobEnd S)) : Type 0 where
-    pub others : AreOtherEnds IsReaderCause ends
+    pub others : AreOtherEnds (IsReaderCause (disk_facts device first.opened first.sealed)) ends
     pub as_many : length (filter_map other_in ends) ≡ count
     pub many : length (filter_map answers_in ends) ≡ count
     pub answered : AreUnrefused ends → (k : ℕ) → k < count → AreAllAnswered (from + k) (answers_at k (filter_map answers_in ends))
@@ -124,7 +124,7 @@ module _ {D S : Type 0} (device : Device D) (state : S → SourceState) (first c
       at rest none zero low =
           let here : from ≡ from + 0 = omega arith in
           subst (λ (n : ℕ). AreAllAnswered n answers) here
-          (subst (λ (o : Option Refusal). AreAnswered (disk_facts device first.opened) (filled_of first) first.history closed.history (every_fourth from g.asks) answers o) none.0 each.0.0)
+          (subst (λ (o : Option Refusal). AreAnswered (disk_facts device first.opened first.sealed) (filled_of first) first.history closed.history (every_fourth from g.asks) answers o) none.0 each.0.0)
       at rest none (suc k) low =
           let deep = rest.answered none.1 k (omega (arith, low)) in
           let next : from + 1 + k ≡ from + suc k = omega arith in
@@ -133,7 +133,7 @@ module _ {D S : Type 0} (device : Device D) (state : S → SourceState) (first c
   reader_ends from (suc count) (Ended.Filler refusal ∷ ends) each = absurd each.0
 
   record AreFillerEnds (ends : List (JobEnd S)) : Type 0 where
-    pub others : AreOtherEnds (IsFillerCause failed) ends
+    pub others : AreOtherEnds (IsFillerCause (disk_facts device first.opened first.sealed) failed) ends
     pub no_answers : filter_map answers_in ends ≡ []
 
   filler_ends : (orders : List (Order S)) (ends : List (JobEnd S)) → AllByRecursion IsFilling orders → EachDid Came orders ends → AreFillerEnds ends
@@ -151,12 +151,12 @@ module _ {D S : Type 0} (device : Device D) (state : S → SourceState) (first c
   -- ---- all of them
 
   pub record AreEnds (link : ℕ) (sources : List S) (readers : ℕ) (ends : List (JobEnd S)) : Type 0 where
-    pub loaded : AreLinksLoaded (extension first.exponent first.history closed.history failed) g link (lefts_of state sources) (filter_map end_in ends)
+    pub loaded : AreLinksLoaded (disk_facts device first.opened first.sealed) (extension first.exponent first.history closed.history failed) g link (lefts_of state sources) (filter_map end_in ends)
     pub read : AreSourcesRead state (filter_map end_in ends) sources (filter_map source_in ends)
-    pub seen : AllByRecursion (λ end. IfSome (refusal_of_end end) (IsSeenIn first closed)) (filter_map end_in ends)
-    pub causes : AllByRecursion IsReaderCause (take readers (filter_map other_in ends))
-    pub filler_causes : AllByRecursion (IsFillerCause failed) (drop readers (filter_map other_in ends))
-    pub others_seen : AllByRecursion (λ refusal. IfSome refusal (IsSeenIn first closed)) (filter_map other_in ends)
+    pub seen : AllByRecursion (λ end. IfSome (refusal_of_end end) (IsSeenIn device first closed)) (filter_map end_in ends)
+    pub causes : AllByRecursion (IsReaderCause (disk_facts device first.opened first.sealed)) (take readers (filter_map other_in ends))
+    pub filler_causes : AllByRecursion (IsFillerCause (disk_facts device first.opened first.sealed) failed) (drop readers (filter_map other_in ends))
+    pub others_seen : AllByRecursion (λ refusal. IfSome refusal (IsSeenIn device first closed)) (filter_map other_in ends)
     pub stands : (k : ℕ) → k < length sources → (job : JobEnd S) (end : LinkEnd) → slice_get ends k ≡ Some job → end_in job ≡ Some end → slice_get (filter_map end_in ends) k ≡ Some end
     pub many : length (filter_map answers_in ends) ≡ readers
     pub answered : AreUnrefused ends → (k : ℕ) → k < readers → AreAllAnswered k (answers_at k (filter_map answers_in ends))
@@ -182,16 +182,16 @@ module _ {D S : Type 0} (device : Device D) (state : S → SourceState) (first c
       let all_others : filter_map other_in ends ≡ filter_map other_in rest.first ++ filter_map other_in rest.second =
       taken_of other_in ends whole.first whole.second [] (filter_map other_in rest.first ++ filter_map other_in rest.second) whole.parts links.no_others later_others in
       record {
-        loaded = subst (AreLinksLoaded (extension first.exponent first.history closed.history failed) g link (lefts_of state sources)) (sym all_ends) links.loaded;
+        loaded = subst (AreLinksLoaded (disk_facts device first.opened first.sealed) (extension first.exponent first.history closed.history failed) g link (lefts_of state sources)) (sym all_ends) links.loaded;
         read = subst (λ (l : List LinkEnd). AreSourcesRead state l sources (filter_map source_in ends)) (sym all_ends)
             (subst (AreSourcesRead state (filter_map end_in whole.first) sources) (sym all_sources) links.read);
-        seen = subst (AllByRecursion (λ end. IfSome (refusal_of_end end) (IsSeenIn first closed))) (sym all_ends) links.seen;
-        causes = subst (λ (l : List (Option Refusal)). AllByRecursion IsReaderCause (take readers l)) (sym all_others)
-            (subst (λ (n : ℕ). AllByRecursion IsReaderCause (take n (filter_map other_in rest.first ++ filter_map other_in rest.second))) read.as_many
-            (subst (AllByRecursion IsReaderCause) (sym (take-append_seam (filter_map other_in rest.first) (filter_map other_in rest.second))) read.others.causes));
-        filler_causes = subst (λ (l : List (Option Refusal)). AllByRecursion (IsFillerCause failed) (drop readers l)) (sym all_others)
-            (subst (λ (n : ℕ). AllByRecursion (IsFillerCause failed) (drop n (filter_map other_in rest.first ++ filter_map other_in rest.second))) read.as_many
-            (subst (AllByRecursion (IsFillerCause failed)) (sym (drop-append_seam (filter_map other_in rest.first) (filter_map other_in rest.second))) filled.others.causes));
+        seen = subst (AllByRecursion (λ end. IfSome (refusal_of_end end) (IsSeenIn device first closed))) (sym all_ends) links.seen;
+        causes = subst (λ (l : List (Option Refusal)). AllByRecursion (IsReaderCause (disk_facts device first.opened first.sealed)) (take readers l)) (sym all_others)
+            (subst (λ (n : ℕ). AllByRecursion (IsReaderCause (disk_facts device first.opened first.sealed)) (take n (filter_map other_in rest.first ++ filter_map other_in rest.second))) read.as_many
+            (subst (AllByRecursion (IsReaderCause (disk_facts device first.opened first.sealed))) (sym (take-append_seam (filter_map other_in rest.first) (filter_map other_in rest.second))) read.others.causes));
+        filler_causes = subst (λ (l : List (Option Refusal)). AllByRecursion (IsFillerCause (disk_facts device first.opened first.sealed) failed) (drop readers l)) (sym all_others)
+            (subst (λ (n : ℕ). AllByRecursion (IsFillerCause (disk_facts device first.opened first.sealed) failed) (drop n (filter_map other_in rest.first ++ filter_map other_in rest.second))) read.as_many
+            (subst (AllByRecursion (IsFillerCause (disk_facts device first.opened first.sealed) failed)) (sym (drop-append_seam (filter_map other_in rest.first) (filter_map other_in rest.second))) filled.others.causes));
         others_seen = subst (AllByRecursion Seen) (sym all_others) (all_append Seen (filter_map other_in rest.first) (filter_map other_in rest.second) read.others.seen filled.others.seen);
         stands = λ k low job end there is. ap (λ (l : List LinkEnd). slice_get l k) all_ends
             ∙ end_at link sources are.of_links whole.first whole.second are.links whole.of_first k low job end (ap (λ (l : List (JobEnd S)). slice_get l k) (sym whole.parts) ∙ there) is;

@@ -1,5 +1,5 @@
 -- What a load leaves whose jobs were run.
-use Rattle.std.proofs.Common.{◌≡◌, ℕ, ℤ, suc, ◌+◌, ◌≤◌, List, [], ◌∷◌, length, min, Option, None, refl, sym, ap, ◌∙◌, subst, arith, length-append}
+use Rattle.std.proofs.Common.{◌≡◌, ℕ, ℤ, suc, ◌+◌, ◌≤◌, List, [], ◌∷◌, length, min, None, refl, sym, ap, ◌∙◌, subst, arith, length-append}
 use Rattle.std.specs.List.{AllByRecursion, filter_map}
 use Rattle.std.proofs.lemmas.List.{length-map}
 use Rattle.arch_disk.specs.Disk.{Device}
@@ -12,6 +12,7 @@ use Rattle.archive_store.specs.Head.{Head}
 use Rattle.archive_store.specs.StoreView.{StoreView}
 use Rattle.load_jobs.specs.declared.ending.LinkEnd.{LinkEnd}
 use Rattle.live_asks.specs.declared.answered.AskAnswer.{AskAnswer}
+use Rattle.live_asks.specs.LiveAsks.{disk_facts}
 use Rattle.live_session.specs.declared.order.JobEnd.{JobEnd}
 use Rattle.live_session.specs.declared.order.Order.{Order}
 use Rattle.live_session.specs.declared.loading.LoadJob.{LoadJob}
@@ -53,29 +54,29 @@ module _ {D S : Type 0} (device : Device D) (state : S → SourceState) (first c
     pub as_many_links : length link_ends ≡ length sources
     as_many_links =
         let failed = what_failed device state first closed g orders ends over link sources readers fillers are done is_history in
-        let p = parts device state first closed g orders ends over link sources readers fillers are done is_history failed.0 failed.1 in
-        as_many_ends first.exponent failed.0 first.history closed.history g link (lefts_of state sources) link_ends p.loaded ∙ length-map sources (λ source. (state source).left)
+        let p = parts device state first closed g orders ends over link sources readers fillers are done is_history failed.0 failed.1 failed.2 in
+        as_many_ends (disk_facts device first.opened first.sealed) first.exponent failed.0 first.history closed.history g link (lefts_of state sources) link_ends p.loaded ∙ length-map sources (λ source. (state source).left)
 
     pub few_readers : length lists ≤ 4
     few_readers =
         let failed = what_failed device state first closed g orders ends over link sources readers fillers are done is_history in
-        let p = parts device state first closed g orders ends over link sources readers fillers are done is_history failed.0 failed.1 in
+        let p = parts device state first closed g orders ends over link sources readers fillers are done is_history failed.0 failed.1 failed.2 in
         let many = p.many in
         omega (arith, many, many_readers)
 
     pub few_counts : AllByRecursion HasFewCounts link_ends
     few_counts =
         let failed = what_failed device state first closed g orders ends over link sources readers fillers are done is_history in
-        let p = parts device state first closed g orders ends over link sources readers fillers are done is_history failed.0 failed.1 in
-        few_ends first.exponent failed.0 first.history closed.history g link (lefts_of state sources) link_ends fit.sound.0.few fit.route p.loaded
+        let p = parts device state first closed g orders ends over link sources readers fillers are done is_history failed.0 failed.1 failed.2 in
+        few_ends (disk_facts device first.opened first.sealed) first.exponent failed.0 first.history closed.history g link (lefts_of state sources) link_ends fit.sound.0.few fit.route p.loaded
 
     -- where nothing was refused no more rows came than the packets of whole dumps are
     pub few_rows : reported_of link link_ends (filter_map other_in ends) ≡ None → length closed.history ≤ length first.history + (counts_of link_ends).routed
     few_rows none =
         let failed = what_failed device state first closed g orders ends over link sources readers fillers are done is_history in
-        let p = parts device state first closed g orders ends over link sources readers fillers are done is_history failed.0 failed.1 in
+        let p = parts device state first closed g orders ends over link sources readers fillers are done is_history failed.0 failed.1 failed.2 in
         let calm = (unrefused link link_ends (filter_map other_in ends) none).0 in
-        let few = rows_counted first.exponent failed.0 first.history closed.history g link (lefts_of state sources) link_ends calm p.loaded (all_of_links device state first closed g orders ends over link sources readers fillers are done is_history) in
+        let few = rows_counted (disk_facts device first.opened first.sealed) first.exponent failed.0 first.history closed.history g link (lefts_of state sources) link_ends calm p.loaded (all_of_links device state first closed g orders ends over link sources readers fillers are done is_history) in
         let whole = ap length (grown device state first closed g orders ends over link sources readers fillers are done is_history) in
         let rows = came_rows device state first closed g orders ends over link sources readers fillers are done is_history in
         let long = length-append first.history (items_of rows) in
@@ -103,11 +104,11 @@ module _ {D S : Type 0} (device : Device D) (state : S → SourceState) (first :
       let closed = left.store in
       let sources = job.sources.items in
       let failed = what_failed device state first closed all orders ends over job.link sources readers job.fillers are done is_history in
-      let p = parts device state first closed all orders ends over job.link sources readers job.fillers are done is_history failed.0 failed.1 in
+      let p = parts device state first closed all orders ends over job.link sources readers job.fillers are done is_history failed.0 failed.1 failed.2 in
       record {
-        outcome = outcome device state first closed all orders ends over job.link sources readers job.fillers are done is_history failed.0 failed.1 many_readers left.answers interleaved;
-        possible = possible device state first closed all orders ends over job.link sources readers job.fillers are done is_history failed.0 failed.1 many_readers left.answers interleaved;
-        loaded = loaded device state first closed all orders ends over job.link sources readers job.fillers are done is_history failed.0 failed.1 many_readers left.answers interleaved;
+        outcome = outcome device state first closed all orders ends over job.link sources readers job.fillers are done is_history failed.0 failed.1 failed.2 many_readers left.answers interleaved;
+        possible = possible device state first closed all orders ends over job.link sources readers job.fillers are done is_history failed.0 failed.1 failed.2 many_readers left.answers interleaved;
+        loaded = loaded device state first closed all orders ends over job.link sources readers job.fillers are done is_history failed.0 failed.1 failed.2 many_readers left.answers interleaved;
         sources = subst (AreSourcesRead state their_ends sources) (sym same) p.read;
         reported = is;
         counts = λ none. counted;

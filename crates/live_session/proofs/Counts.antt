@@ -5,13 +5,11 @@ use Rattle.std.proofs.lemmas.List.{take_all}
 use Rattle.std.proofs.lemmas.List.Elements.{recursion_from_All}
 use Rattle.arch_types.specs.declared.row.Row.{Row}
 use Rattle.arch_types.specs.Dump.{IsDump}
-use Rattle.arch_types.specs.History.{firsts}
 use Rattle.arch_types.specs.Packet.{IsPacket}
 use Rattle.history_items.specs.declared.fills.Addition.{Addition}
 use Rattle.history_items.specs.declared.items.Item.{Item}
 use Rattle.history_items.specs.Items.{rows_in}
-use Rattle.history_items.proofs.Outcomes.{fresh_firsts, length-fresh}
-use Rattle.shared_history.specs.Sent.{AreSomeOf}
+use Rattle.live_asks.specs.LiveAsks.{DiskFacts}
 use Rattle.load_session.specs.declared.session.DumpSummary.{DumpSummary}
 use Rattle.load_session.specs.Receiving.{IsRouteOver, Receiving, receiving, rows_received}
 use Rattle.load_session.proofs.Arrived.{few_arrived, few_rows}
@@ -40,9 +38,9 @@ few_packets dump packets rest is =
     let long = length-append (concat packets) rest in
     omega (arith, each, whole, long)
 
-few_counts : (exponent : ℕ) (failed : Option Addition) (history : List Item) (r : Receiving) (left : Option (List ℕ)) (put : List Row) (summary : DumpSummary) → length r.head.tables ≤ 16 → IsRouteOver r.head r.route
-    → IsSentInto exponent failed history r left put (Whole summary) → HasFewCounts (Whole summary)
-few_counts exponent failed history r left put summary tables over sent =
+few_counts : (facts : DiskFacts) (exponent : ℕ) (failed : Option Addition) (history : List Item) (r : Receiving) (left : Option (List ℕ)) (put : List Row) (summary : DumpSummary) → length r.head.tables ≤ 16 → IsRouteOver r.head r.route
+    → IsSentInto facts exponent failed history r left put (Whole summary) → HasFewCounts (Whole summary)
+few_counts facts exponent failed history r left put summary tables over sent =
     let s = sent.came_to in
     let is = sent.sent_to.2 in
     let packets = few_packets sent.read s.packets s.rest sent.parts in
@@ -54,33 +52,22 @@ few_counts exponent failed history r left put summary tables over sent =
     let arrive = few_arrived s.packets in
     (omega (arith, packets, short, of_packets), omega (arith, packets, short, of_idle), omega (arith, packets, short, of_routed, rows, arrive))
 
-few_of_link : (exponent : ℕ) (failed : Option Addition) (history : List Item) (r : Receiving) (left : Option (List ℕ)) (end : LinkEnd) → length r.head.tables ≤ 16 → IsRouteOver r.head r.route
-    → LinkLoads exponent failed history r left end → HasFewCounts end
-few_of_link exponent failed history r left (Whole summary) tables over loads = few_counts exponent failed history r left loads.put summary tables over loads.sent
-few_of_link exponent failed history r left other tables over loads = tt
-
--- ---- some of the arrivals
-
-some_fewer : {X : Type 0} (some xs : List X) → AreSomeOf some xs → length some ≤ length xs
-some_fewer some [] is = let none = ap length is in omega (arith, none)
-some_fewer some (x ∷ xs) (inl is) = let less = some_fewer some xs is in omega (arith, less)
-some_fewer some (x ∷ xs) (inr (rest, same, is)) = let less = some_fewer rest xs is in let long = ap length same in omega (arith, less, long)
-
-few_firsts : (rows : List Row) → length (firsts rows) ≤ length rows
-few_firsts rows = let first = ap length (fresh_firsts rows) in let few = length-fresh [] rows in omega (arith, first, few)
+few_of_link : (facts : DiskFacts) (exponent : ℕ) (failed : Option Addition) (history : List Item) (r : Receiving) (left : Option (List ℕ)) (end : LinkEnd) → length r.head.tables ≤ 16 → IsRouteOver r.head r.route
+    → LinkLoads facts exponent failed history r left end → HasFewCounts end
+few_of_link facts exponent failed history r left (Whole summary) tables over loads = few_counts facts exponent failed history r left loads.put summary tables over loads.sent
+few_of_link facts exponent failed history r left other tables over loads = tt
 
 -- a link put no more than its packets are
-put_routed : (exponent : ℕ) (failed : Option Addition) (history : List Item) (r : Receiving) (left : Option (List ℕ)) (put : List Row) (summary : DumpSummary) → IsSentInto exponent failed history r left put (Whole summary)
+put_routed : (facts : DiskFacts) (exponent : ℕ) (failed : Option Addition) (history : List Item) (r : Receiving) (left : Option (List ℕ)) (put : List Row) (summary : DumpSummary) → IsSentInto facts exponent failed history r left put (Whole summary)
     → length put ≤ summary.routed
-put_routed exponent failed history r left put summary sent =
+put_routed facts exponent failed history r left put summary sent =
     let s = sent.came_to in
     let is = sent.sent_to in
     let all : take s.place s.packets ≡ s.packets = take_all s.place s.packets (let whole = is.0 in omega (arith, whole)) in
-    let some = some_fewer put (firsts (rows_received r (take s.place s.packets))) sent.sent.some in
-    let few = few_firsts (rows_received r (take s.place s.packets)) in
+    let few = sent.few in
     let same = ap (λ (l : List (List ℕ)). length (rows_received r l)) all in
     let routed = is.2.of_routed in
-    omega (arith, some, few, same, routed)
+    omega (arith, few, same, routed)
 
 -- ---- rows by their links
 
@@ -140,16 +127,16 @@ all_counted link n (row ∷ rows) all =
 
 -- ---- all links
 
-module _ (exponent : ℕ) (failed : Option Addition) (low history : List Item) (g : JobSetting) where
+module _ (facts : DiskFacts) (exponent : ℕ) (failed : Option Addition) (low history : List Item) (g : JobSetting) where
   abbrev Loaded : ℕ → List (Option (List ℕ)) → List LinkEnd → Type 0
-  Loaded link lefts ends = AreLinksLoaded (extension exponent low history failed) g link lefts ends
+  Loaded link lefts ends = AreLinksLoaded facts (extension exponent low history failed) g link lefts ends
 
   pub few_ends : (link : ℕ) (lefts : List (Option (List ℕ))) (ends : List LinkEnd) → length g.head.tables ≤ 16 → IsRouteOver g.head g.route → Loaded link lefts ends → AllByRecursion HasFewCounts ends
   few_ends link [] [] tables over loaded = tt
   few_ends link [] (end ∷ ends) tables over loaded = absurd loaded
   few_ends link (left ∷ lefts) [] tables over loaded = absurd loaded
   few_ends link (left ∷ lefts) (end ∷ ends) tables over loaded =
-      (few_of_link exponent failed history (receiving g.head low g.route link g.moment) left end tables over loaded.0, few_ends (suc link) lefts ends tables over loaded.1)
+      (few_of_link facts exponent failed history (receiving g.head low g.route link g.moment) left end tables over loaded.0, few_ends (suc link) lefts ends tables over loaded.1)
 
   pub as_many_ends : (link : ℕ) (lefts : List (Option (List ℕ))) (ends : List LinkEnd) → Loaded link lefts ends → length ends ≡ length lefts
   as_many_ends link [] [] loaded = refl
@@ -158,10 +145,10 @@ module _ (exponent : ℕ) (failed : Option Addition) (low history : List Item) (
   as_many_ends link (left ∷ lefts) (end ∷ ends) loaded = ap suc (as_many_ends (suc link) lefts ends loaded.1)
 
   -- the rows of a link that is refused by nothing are no more than its packets are
-  link_counted : (link : ℕ) (left : Option (List ℕ)) (end : LinkEnd) (ends : List LinkEnd) → refusal_of_end end ≡ None → LinkLoads exponent failed history (receiving g.head low g.route link g.moment) left end
+  link_counted : (link : ℕ) (left : Option (List ℕ)) (end : LinkEnd) (ends : List LinkEnd) → refusal_of_end end ≡ None → LinkLoads facts exponent failed history (receiving g.head low g.route link g.moment) left end
       → length (filter (λ row. row.link == link) (rows_in (drop (length low) history))) + (counts_of ends).routed ≤ (counts_of (end ∷ ends)).routed
   link_counted link left (Whole summary) ends none loads =
-      let few = put_routed exponent failed history (receiving g.head low g.route link g.moment) left loads.put summary loads.sent in
+      let few = put_routed facts exponent failed history (receiving g.head low g.route link g.moment) left loads.put summary loads.sent in
       let own = ap length loads.own in
       omega (arith, few, own)
   link_counted link left (Rest at kind) ends none loads = absurd (cc none)

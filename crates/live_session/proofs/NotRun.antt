@@ -1,5 +1,5 @@
 -- A load whose jobs weren't run.
-use Rattle.std.proofs.Common.{◌≡◌, ◌⊎◌, inl, inr, ℕ, zero, suc, ◌≤◌, true, List, [], ◌∷◌, ◌++◌, length, map, min, take, drop, Option, Some, None, refl, sym, ap, ◌∙◌, subst, arith, append-nil, length-append, le_refl}
+use Rattle.std.proofs.Common.{◌≡◌, ◌⊎◌, inl, inr, ℕ, zero, suc, ◌≤◌, true, false, List, [], ◌∷◌, ◌++◌, length, map, min, take, drop, Option, Some, None, refl, sym, ap, ◌∙◌, subst, arith, append-nil, length-append, le_refl}
 use Rattle.std.specs.Prelude.{◌==◌, filter, slice_get, IfSome}
 use Rattle.std.specs.List.{AllByRecursion}
 use Rattle.std.proofs.Math.Seq.{drop-append_seam}
@@ -7,7 +7,8 @@ use Rattle.std.proofs.lemmas.List.Elements.{All-nil}
 use Rattle.arch_disk.specs.Disk.{Device}
 use Rattle.arch_types.specs.Packet.{IsPacket}
 use Rattle.outer_traits.specs.States.{SourceState}
-use Rattle.refusals.specs.declared.refusal.Refusal.TheVariants.{OutOfMemory}
+use Rattle.refusals.specs.declared.refusal.Refusal.TheVariants.{DiskFault, OutOfMemory}
+use Rattle.history_items.specs.declared.fills.Addition.{Addition}
 use Rattle.history_items.specs.declared.fills.Fill.{Fill}
 use Rattle.history_items.specs.declared.fills.Fill.TheVariants.{Done, Fault}
 use Rattle.history_items.specs.declared.items.Item.{Item}
@@ -21,7 +22,7 @@ use Rattle.live_archive.specs.GoesOn.{NoneFailed, OneFailed}
 use Rattle.live_archive.proofs.Going.{all_freed_is}
 use Rattle.live_fills.specs.Laws.{WereLate}
 use Rattle.live_fills.proofs.Late.{settling_adds_none}
-use Rattle.live_asks.specs.LiveAsks.{disk_facts}
+use Rattle.live_asks.specs.LiveAsks.{DiskFacts, disk_facts}
 use Rattle.load_jobs.specs.declared.ending.LinkEnd.{LinkEnd}
 use Rattle.load_jobs.specs.declared.ending.LinkEnd.TheVariants.{Refused}
 use Rattle.retrieval.specs.declared.found_asks.FoundAsk.{FoundAsk}
@@ -41,13 +42,18 @@ abbrev ends_for : {S : Type 0} → List S → List LinkEnd
 ends_for sources = map (λ source. Refused OutOfMemory) sources
 
 -- of no refusals
-none_taken : (n : ℕ) → AllByRecursion IsReaderCause (take n [])
-none_taken zero = tt
-none_taken (suc n) = tt
+none_taken : (facts : DiskFacts) (n : ℕ) → AllByRecursion (IsReaderCause facts) (take n [])
+none_taken facts zero = tt
+none_taken facts (suc n) = tt
 
-none_dropped : (n : ℕ) → AllByRecursion (IsFillerCause None) (drop n [])
-none_dropped zero = tt
-none_dropped (suc n) = tt
+none_dropped : (facts : DiskFacts) (n : ℕ) → AllByRecursion (IsFillerCause facts None) (drop n [])
+none_dropped facts zero = tt
+none_dropped facts (suc n) = tt
+
+-- a list with an item between others isn't empty
+none_between : (before : List Fill) (count : ℕ) (addition : Addition) (behind : List Fill) → before ++ Fault count true addition ∷ behind ≡ [] → ⊥
+none_between [] count addition behind none = cc none
+none_between (item ∷ before) count addition behind none = cc none
 
 nothing_behind : (history : List Item) → drop (length history) history ≡ []
 nothing_behind history = ap (drop (length history)) (sym (append-nil history)) ∙ drop-append_seam history []
@@ -65,10 +71,10 @@ module _ {D S : Type 0} (device : Device D) (state : S → SourceState) (first c
     where
       go : NoneFailed device first closed ⊎ OneFailed device first closed → NoneFailed device first closed
       go (inl none) = none
-      go (inr one) =
-          let whole : faults_in first.fills ++ Fault one.count true one.addition ∷ [] ≡ [] = sym one.faults ∙ same_faults nothing.fills in
-          let alone : Fault one.count true one.addition ∷ [] ≡ [] = subst (λ (l : List Fill). l ++ Fault one.count true one.addition ∷ [] ≡ []) (faults_in-done first.fills done) whole in
-          absurd (cc alone)
+      go (inr one) = absurd (none_between one.before one.count one.addition one.behind (ap (λ (l : List Fill). l ++ (one.before ++ Fault one.count true one.addition ∷ one.behind)) (sym (faults_in-done first.fills done)) ∙ (sym one.faults ∙ same_faults nothing.fills)))
+
+  none_read : unfailed.reads ≡ []
+  none_read = sym (unfailed.faults ∙ ap (λ (l : List Fill). l ++ unfailed.reads) (faults_in-done first.fills done)) ∙ same_faults nothing.fills
 
   none_late : WereLate first closed
   none_late place interval base since there = absurd (go nothing.fills)
@@ -81,7 +87,7 @@ module _ {D S : Type 0} (device : Device D) (state : S → SourceState) (first c
       go (inr settled) = early (settling_adds_none first.fills place interval base (subst (λ (l : List Fill). slice_get l place ≡ Some (Done interval base)) settled there))
 
   -- of a dump of which nothing was read, nothing was sent
-  nothing_sent : (link : ℕ) (source : S) → IsSentInto first.exponent None closed.history (receiving g.head first.history g.route link g.moment) (state source).left [] (Refused OutOfMemory)
+  nothing_sent : (link : ℕ) (source : S) → IsSentInto (disk_facts device first.opened first.sealed) first.exponent None closed.history (receiving g.head first.history g.route link g.moment) (state source).left [] (Refused OutOfMemory)
   nothing_sent link source = record {
     read = [];
     read_to = nothing_read (state source).left;
@@ -96,13 +102,14 @@ module _ {D S : Type 0} (device : Device D) (state : S → SourceState) (first c
     between = inl refl;
     since = ([], append-nil first.history ∙ sym nothing.history);
     reached = ([], append-nil closed.history);
-    sent = record { some = refl; kept = tt };
+    few = omega arith;
+    sent = λ _. record { some = refl; kept = tt };
     sent_to = refl;
     cause = tt;
-    alone = λ more grown own. (refl, nothing.history);
+    alone = λ told more grown own. (refl, nothing.history);
   }
 
-  links : (link : ℕ) (sources : List S) → AreLinksLoaded (extension first.exponent first.history closed.history None) g link (lefts_of state sources) (ends_for sources)
+  links : (link : ℕ) (sources : List S) → AreLinksLoaded (disk_facts device first.opened first.sealed) (extension first.exponent first.history closed.history None) g link (lefts_of state sources) (ends_for sources)
   links link [] = tt
   links link (source ∷ sources) = (record { put = []; own = ap (filter (λ row. row.link == link)) none_behind; sent = nothing_sent link source }, links (suc link) sources)
 
@@ -111,18 +118,22 @@ module _ {D S : Type 0} (device : Device D) (state : S → SourceState) (first c
   read (source ∷ sources) = ((le_refl _, refl, λ never. refl), read sources)
 
   abbrev outcome : List S → JobsOutcome
-  outcome sources = record { reached = closed.history; ends = ends_for sources; answers = []; others = []; failed = None }
+  outcome sources = record { reached = closed.history; ends = ends_for sources; answers = []; others = []; failed = None; unread = false }
 
-  possible : (link : ℕ) (sources : List S) → reported_of link (ends_for sources) [] ≡ Some (reported OutOfMemory None) → IsJobsOutcome (disk_facts device first.opened) (filled_of first) g link (lefts_of state sources) (outcome sources)
+  possible : (link : ℕ) (sources : List S) → reported_of link (ends_for sources) [] ≡ Some (reported OutOfMemory None) → IsJobsOutcome (disk_facts device first.opened first.sealed) (filled_of first) g link (lefts_of state sources) (outcome sources)
   possible link sources is = record {
     more = [];
     grown = nothing.history ∙ sym (append-nil first.history);
     of_links = tt;
     links = links link sources;
     answered = λ none. absurd (cc (none, is));
-    readers = none_taken (min 4 (length g.asks));
-    fillers = none_dropped (min 4 (length g.asks));
-    reported_so = λ none. refl;
+    readers = none_taken (disk_facts device first.opened first.sealed) (min 4 (length g.asks));
+    fillers = none_dropped (disk_facts device first.opened first.sealed) (min 4 (length g.asks));
+    reported_so = λ none. (refl, refl);
+    faulted = λ t said fault.
+        let same : ◌≡◌ {A = Option ReportedRefusal} (Some (reported OutOfMemory None)) (Some t) = sym is ∙ said in
+        let told : reported OutOfMemory None ≡ t = cc same in
+        let never : OutOfMemory ≡ DiskFault = ap (λ (r : ReportedRefusal). r.refusal) told ∙ fault in absurd (cc never);
     failed = tt;
   }
 
@@ -132,8 +143,8 @@ module _ {D S : Type 0} (device : Device D) (state : S → SourceState) (first c
     idle = nothing.idle done;
     late = none_late;
     history = refl;
-    failed = unfailed;
-    refused = subst (λ (o : Option ReportedRefusal). IfSome o (λ t. IsSeenIn first closed t.refusal)) (sym is) tt;
+    failed = (unfailed, λ _. none_read, λ failed. absurd (cc failed));
+    refused = subst (λ (o : Option ReportedRefusal). IfSome o (λ t. IsSeenIn device first closed t.refusal)) (sym is) tt;
   }
 
 -- what is reported is want of memory

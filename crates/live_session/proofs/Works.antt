@@ -73,7 +73,7 @@ module _ {D T S : Type 0} (device : Device D) (state : S → SourceState) (first
       let w = placed_by passes orders ends each.1 began.1 q (k, omega (arith, low), e) place has in
       (w.0, later_contains (work_of link each.0.0.put p.ended) (works_of passes orders ends each.1) w.0 w.1, w.2)
   placed_by (p ∷ passes) (Ordered.Reader before ∷ orders) (Ended.Reader answers refusal ∷ ends) each began q (zero, low, e) place has =
-      absurd (none_there p.ended.history.places place (each.0.0.put_none.0 ∙ began.0.none.0) (subst (λ (x : JobPass T). Contains x.ended.history.places place) (sym e) has))
+      absurd (none_there p.ended.history.places place (each.0.0.put_none ∙ began.0.none.0) (subst (λ (x : JobPass T). Contains x.ended.history.places place) (sym e) has))
   placed_by (p ∷ passes) (Ordered.Reader before ∷ orders) (Ended.Reader answers refusal ∷ ends) each began q (suc k, low, e) place has = placed_by passes orders ends each.1 began.1 q (k, omega (arith, low), e) place has
   placed_by (p ∷ passes) (Ordered.Filler wakes ∷ orders) (Ended.Filler refusal ∷ ends) each began q (zero, low, e) place has =
       absurd (none_there p.ended.history.places place (each.0.0.put_none.1 ∙ began.0.none.0) (subst (λ (x : JobPass T). Contains x.ended.history.places place) (sym e) has))

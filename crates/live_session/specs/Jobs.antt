@@ -1,6 +1,7 @@
 -- What the jobs of a session are given, and what comes of each.
-use Rattle.std.specs.Prelude.{◌≡◌, ℕ, ℤ, ◌≤◌, List, [], ◌∷◌, IfNone, IfSome}
+use Rattle.std.specs.Prelude.{◌≡◌, ℕ, ℤ, ◌≤◌, List, [], ◌∷◌, IfNone, IfSome, None, Some}
 use Rattle.arch_disk.specs.Disk.{Device}
+use Rattle.refusals.specs.declared.refusal.Refusal.TheVariants.{DiskFault}
 use Rattle.refusals.specs.declared.refusal.Which.TheVariants.{Links}
 use Rattle.refusals.specs.Limits.{limit_of}
 use Rattle.outer_traits.specs.Outside.{Stays}
@@ -21,6 +22,7 @@ use Rattle.load_session.specs.Receiving.{IsRouteOver, Receiving, receiving}
 use Rattle.load_jobs.specs.declared.ending.LinkEnd.{LinkEnd}
 use Rattle.load_jobs.specs.Ends.{IsLinkRun, IsReadCounted}
 use Rattle.load_jobs.specs.Links.{CanSend}
+use Rattle.live_archive.specs.Reads.{NotedRead}
 use Rattle.live_asks.specs.LiveAsks.{AreAnswered, OnlySees, disk_facts, every_fourth}
 use Rattle.live_fills.specs.Filler.{AreWorksDone, FillsAlone, IsRefusalOf}
 use Rattle.live_session.specs.declared.order.JobEnd.{JobEnd}
@@ -86,19 +88,22 @@ abbrev pub job_pass : {T : Type 0} → PassView Item Fill T → PassView Item Fi
 job_pass began ended = record { began = began; ended = ended }
 
 -- This came of a job by its pass: what was read of a link's dump was sent, as its end tells; a reader's asks were
--- answered, or those before one that wasn't; a filler filled alone, each of its works to the end, or there is why not.
+-- answered, and it noted nothing, or those before one that wasn't, for a failed read that it noted among others; a
+-- filler filled alone, each of its works to the end, or there is why not.
 abbrev pub IsOutcomeOf : {D T S : Type 0} → Device D → (S → SourceState) → StoreView D → JobSetting → JobPass T
     → Order S → JobEnd S → Type 0
 IsOutcomeOf device state first setting pass (Ordered.Link link source wake) (Ended.Link number back end) =
-    IsLinkRun first (received_by setting link pass.began) (state source).left (state back).left pass.began pass.ended
-    end × IsSourceRead end (state source) (state back) × (number ≡ link)
+    IsLinkRun device first (received_by setting link pass.began) (state source).left (state back).left pass.began
+    pass.ended end × IsSourceRead end (state source) (state back) × (number ≡ link)
 IsOutcomeOf device state first setting pass (Ordered.Reader before) (Ended.Reader answers refusal) =
-    OnlySees pass.began pass.ended
-    × AreAnswered (disk_facts device first.opened) (filled_of first) pass.began.history.seen pass.ended.history.seen
-    (every_fourth before setting.asks) answers refusal
+    OnlySees first.sealed pass.began pass.ended
+    × AreAnswered (disk_facts device first.opened first.sealed) (filled_of first) pass.began.history.seen
+    pass.ended.history.seen (every_fourth before setting.asks) answers refusal
+    × (refusal ≡ Some DiskFault → NotedRead pass.began.fills pass.ended.fills)
+    × (refusal ≡ None → pass.ended.fills.places ≡ pass.began.fills.places)
 IsOutcomeOf device state first setting pass (Ordered.Filler wakes) (Ended.Filler refusal) =
     FillsAlone first pass.began pass.ended × IfNone refusal (AreWorksDone device first pass.began pass.ended)
-    × IfSome refusal (IsRefusalOf first pass.ended)
+    × IfSome refusal (IsRefusalOf device first pass.ended)
 IsOutcomeOf device state first setting pass order end = ⊥
 
 module _ {D T S : Type 0} (device : Device D) (state : S → SourceState) (first : StoreView D)

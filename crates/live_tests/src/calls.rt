@@ -1,6 +1,6 @@
 // Single calls of an archive in turns. Each is made in one function, since its clauses stand in the goals of each that
 // makes it.
-ghost use Rattle.std.specs.Prelude.{◌≡◌, ◌<◌, IfOk, IfSome};
+ghost use Rattle.std.specs.Prelude.{◌≡◌, ◌<◌, IfOk, IfSome, IsTrue};
 ghost use Rattle.std.specs.Arc.{arc_value};
 ghost use Rattle.archive_store.specs.Installs.{IsRightFor};
 ghost use Rattle.store_fills.specs.Built.{IsTaskRows};
@@ -85,7 +85,8 @@ pub(crate) fn built<D: Disk, R: Wait>(
     requires free { IsFree live.now.cell pass.old }
     ensures free { IsFree live.now.cell pass.new }
     ensures share { pass.new.share ≡ pass.old.share }
-    ensures right { IfSome result (IsRightFor (as_seen live.now.cell.first.store pass.new)) }
+    ensures right { IfSome result (λ filled. IsTrue D.device.is_transparent →
+        IsRightFor (as_seen live.now.cell.first.store pass.new) filled) }
 {
     let Ok(Some(task)) = live.begin_fill(rt, alloc, pass) else {
         return None;
@@ -108,7 +109,8 @@ pub(crate) fn installed<D: Disk, R: Wait>(
     filled: Filled,
 ) -> Option<Installed>
     requires free { IsFree live.now.cell pass.old }
-    requires right { IsRightFor (as_seen live.now.cell.first.store pass.old) filled }
+    requires right { IsTrue D.device.is_transparent →
+        IsRightFor (as_seen live.now.cell.first.store pass.old) filled }
     ensures free { IsFree live.now.cell pass.new }
     ensures share { pass.new.share ≡ pass.old.share }
 {

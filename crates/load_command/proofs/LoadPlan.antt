@@ -13,7 +13,7 @@ use Rattle.outer_traits.specs.States.{InputsState, SourceState}
 use Rattle.command_plans.specs.Inputs.{AnsweredByPlan}
 use Rattle.command_plans.specs.Ledger.{UsedInputs}
 use Rattle.command_plans.proofs.Ledgers.{inputs_unused}
-use Rattle.command_plans.specs.Plan.{FailedCalls, OfMemory, OfInputs, OfOutput, OfDisk, no_failed_calls, with_failed_call, CommandPlan, Way, Returned, Stopped, Interrupted, Allows, EachEnd, IsDetermined, map_done}
+use Rattle.command_plans.specs.Plan.{FailedCalls, OfMemory, OfInputs, OfOutput, OfDisk, no_failed_calls, with_failed_call, CommandPlan, May, Choose, Way, Returned, Stopped, Interrupted, Allows, EachEnd, IsDetermined, map_done}
 use Rattle.command_plans.specs.Sources.{AreNewSources, GaveSources, TookSources, UsedSources, opening_all_plan}
 use Rattle.command_plans.proofs.Plans.{allows_map_done, cut, determined, determined_map_done, ended, gave}
 use Rattle.command_plans.proofs.Sources.{new_sources_length, opening_all_determined, unused_sources, used_sources}
@@ -23,7 +23,9 @@ use Rattle.ask_answers.specs.Asks.{asks_check_plan}
 use Rattle.ask_answers.proofs.AskSheets.{asked_determined, check_determined, check_refused, checked}
 use Rattle.command_runs.specs.ArchiveWork.{RanWith, UsedByWork, opened_plan}
 use Rattle.command_runs.specs.Command.{Effects, EndedAt, HasDiskOutcome, Opened, Progress, RanOver, archive_opened, failed_at, nothing_done, opening_plan, sources_at}
-use Rattle.command_runs.specs.FillingPlan.{after_filling, filled_to}
+use Rattle.command_runs.specs.FillingPlan.{FillingEnd, Refused, Unread, Unwritten, Whole, after_filling, fill_failed, filled_to}
+use Rattle.command_runs.specs.Reading.{InMemory, OnPages, RowsPlace, after_pages, reading_plan}
+use Rattle.command_runs.proofs.Reading.{AreTold}
 use Rattle.command_runs.specs.Report.{read_only, unopened}
 use Rattle.command_runs.proofs.Commands.{no_text}
 use Rattle.command_runs.proofs.FillingPlan.{filling_determined}
@@ -52,26 +54,38 @@ module _ (dumps : ℕ) (filled : FilledArchive) (c : JobsOutcome) where
   printing_used [] = ((refl, refl), (refl, refl))
   printing_used (ask ∷ asks) = ((refl, refl), ((refl, refl), (refl, refl)))
 
-  pub session_used : (next : CommandPlan Progress ⊥) → EachEnd Used next → (reported : Option ReportedRefusal) (failed : Option Addition) → EachEnd Used (after_session dumps filled c next reported failed)
-  session_used next behind None failed = ((refl, refl), ((refl, refl), λ full is. each full))
+  pub session_used : (place : RowsPlace) (next : CommandPlan Progress ⊥) → EachEnd Used next → (reported : Option ReportedRefusal) (failed : Option Addition) → EachEnd Used (after_session place dumps filled c next reported failed)
+  session_used place next behind None failed = ((refl, refl), over place)
     where
       each : (full : Bool) → EachEnd Used (after_filling (history_extended dumps filled None c) next full)
       each true = (refl, refl)
       each false = behind
-  session_used next behind (Some reported) None = λ end is. each end
-    where
-      each : (end : Option Refusal) → Used (Stopped (filled_to filled c.reached (job_refused dumps filled c reported) end) (Some reported.refusal))
-      each None = (refl, refl)
-      each (Some refused.DiskFault) = (refl, refl)
-      each (Some other) = (refl, refl)
-  session_used next behind (Some reported) (Some addition) = (refl, refl)
 
-  pub jobs_used : (asks : List Ask) (reported : Option ReportedRefusal) (failed : Option Addition) → EachEnd Used (after_jobs dumps filled asks c reported failed)
-  jobs_used asks reported failed = session_used (load_printing_plan dumps filled asks c) (printing_used asks) reported failed
+      filling : EachEnd Used (May OfDisk (fill_failed filled c.reached (history_extended dumps filled None c)) (Choose (λ (full : Bool). Unit {0}) (after_filling (history_extended dumps filled None c) next)))
+      filling = ((refl, refl), λ full is. each full)
+
+      read : (found : Option Refusal) → EachEnd Used (after_pages (history_extended dumps filled None c) (May OfDisk (fill_failed filled c.reached (history_extended dumps filled None c)) (Choose (λ (full : Bool). Unit {0}) (after_filling (history_extended dumps filled None c) next))) found)
+      read None = filling
+      read (Some refusal) = (refl, refl)
+
+      over : (at : RowsPlace) → EachEnd Used (reading_plan at (history_extended dumps filled None c) (May OfDisk (fill_failed filled c.reached (history_extended dumps filled None c)) (Choose (λ (full : Bool). Unit {0}) (after_filling (history_extended dumps filled None c) next))))
+      over InMemory = filling
+      over (OnPages Tells) = ((refl, refl), λ found was. read found)
+  session_used place next behind (Some reported) None = λ end is. each end
+    where
+      each : (end : FillingEnd) → Used (Stopped (filled_to filled c.reached (job_refused dumps filled c reported) end) (Some reported.refusal))
+      each Whole = (refl, refl)
+      each Unwritten = (refl, refl)
+      each Unread = (refl, refl)
+      each Refused = (refl, refl)
+  session_used place next behind (Some reported) (Some addition) = (refl, refl)
+
+  pub jobs_used : (Tells : Type 0) (asks : List Ask) (reported : Option ReportedRefusal) (failed : Option Addition) → EachEnd Used (after_jobs Tells dumps filled asks c reported failed)
+  jobs_used Tells asks reported failed = session_used (OnPages Tells) (load_printing_plan dumps filled asks c) (printing_used asks) reported failed
 
 -- ---- dumps that were opened, loaded into an archive that was
 
-module _ {D : Type 0} (device : Device D) (e : Effects D) (facts : DiskFacts) (files : Option Files) (next : Option ℤ) (words : LoadWords) (text : Option (List ℕ)) (sheet : Result (List Ask) Refusal) (filled : FilledArchive)
+module _ {D : Type 0} (device : Device D) (e : Effects D) (facts : ℕ → DiskFacts) (files : Option Files) (next : Option ℤ) (words : LoadWords) (text : Option (List ℕ)) (sheet : Result (List Ask) Refusal) (filled : FilledArchive)
     {S : Type 0} (state : S → SourceState) (olds : List S) (as_many : length words.dumps ≡ length olds) where
   abbrev loading : CommandPlan Progress ⊥
   loading = loading_plan facts files next (load_asked words text sheet) filled
@@ -156,7 +170,7 @@ module _ {D : Type 0} (device : Device D) (e : Effects D) (files : Option Files)
   opens = opening_all_plan files words.dumps 0
 
   abbrev behind : CommandPlan Progress ⊥
-  behind = opened_plan (length words.dumps) device e.disk (λ records. loading_plan (disk_facts device e.disk) files next (load_asked words text sheet))
+  behind = opened_plan (length words.dumps) device e.disk (λ known. loading_plan (disk_facts device e.disk) files next (load_asked words text sheet))
 
   abbrev plan : CommandPlan Progress ⊥
   plan = archive_load_plan device e.disk files next words text sheet
@@ -182,13 +196,13 @@ module _ {D : Type 0} (device : Device D) (e : Effects D) (files : Option Files)
         (closed (failed_at way OfInputs) (subst (λ (l : List S). UsedSources state firsts l (failed_at way OfInputs)) (sym before.2) (subst (UsedSources state firsts firsts) (sym before.1) (unused_sources state firsts))))
     over way (inr used) = subst (λ (n : ℕ). UsedInputs a b n (failed_at way OfInputs)) (sym (used.given ∙ as_many)) (closed (failed_at way OfInputs) used.used)
 
-    pub ran_loaded : RanWith device (opened_plan (length firsts) device e.disk (λ records. loading_plan (disk_facts device e.disk) files next (load_asked words text sheet))) e
+    pub ran_loaded : RanWith device (opened_plan (length firsts) device e.disk (λ known. loading_plan (disk_facts device e.disk) files next (load_asked words text sheet))) e
         (UsedByWork (length firsts) firsts lasts (HaveUsedSources state firsts lasts)) → RanOver device plan e a b
     ran_loaded went = record {
       ran = record {
         way = went.ran.way;
         allows = gave (map_done nothing_done opens) (λ (done : Unit {0}). behind) tt went.ran.way (allows_map_done nothing_done opens (Returned tt) (allows 0))
-            (subst (λ (n : ℕ). Allows (opened_plan n device e.disk (λ records. loading_plan (disk_facts device e.disk) files next (load_asked words text sheet))) went.ran.way) as_many went.ran.allows);
+            (subst (λ (n : ℕ). Allows (opened_plan n device e.disk (λ known. loading_plan (disk_facts device e.disk) files next (load_asked words text sheet))) went.ran.way) as_many went.ran.allows);
         did = went.ran.did;
       };
       inputs = over went.ran.way went.used;
@@ -215,24 +229,24 @@ module _ {D : Type 0} (device : Device D) (e : Effects D) (files : Option Files)
 
 -- ---- which answer is due
 
-pub session_determined : (sources : ℕ) (filled : FilledArchive) (c : JobsOutcome) (next : CommandPlan Progress ⊥) → IsDetermined next → (reported : Option ReportedRefusal) (failed : Option Addition)
-    → IsDetermined (after_session sources filled c next reported failed)
-session_determined sources filled c next due None failed = filling_determined (λ full. Unit {0}) filled c.reached (history_extended sources filled None c) next due
-session_determined sources filled c next due (Some reported) None = λ end is. tt
-session_determined sources filled c next due (Some reported) (Some addition) = tt
+pub session_determined : (place : RowsPlace) (told : AreTold place) (sources : ℕ) (filled : FilledArchive) (c : JobsOutcome) (next : CommandPlan Progress ⊥) → IsDetermined next → (reported : Option ReportedRefusal) (failed : Option Addition)
+    → IsDetermined (after_session place sources filled c next reported failed)
+session_determined place told sources filled c next due None failed = filling_determined place (λ full. Unit {0}) filled c.reached (history_extended sources filled None c) next told due
+session_determined place told sources filled c next due (Some reported) None = λ end is. tt
+session_determined place told sources filled c next due (Some reported) (Some addition) = tt
 
-jobs_determined : (dumps : ℕ) (filled : FilledArchive) (asks : List Ask) (c : JobsOutcome) (reported : Option ReportedRefusal) (failed : Option Addition) → IsDetermined (after_jobs dumps filled asks c reported failed)
-jobs_determined dumps filled asks c reported failed = session_determined dumps filled c (load_printing_plan dumps filled asks c) (printing asks) reported failed
+jobs_determined : (Tells : Type 0) → Tells → (dumps : ℕ) (filled : FilledArchive) (asks : List Ask) (c : JobsOutcome) (reported : Option ReportedRefusal) (failed : Option Addition) → IsDetermined (after_jobs Tells dumps filled asks c reported failed)
+jobs_determined Tells told dumps filled asks c reported failed = session_determined (OnPages Tells) told dumps filled c (load_printing_plan dumps filled asks c) (printing asks) reported failed
   where
     printing : (asks : List Ask) → IsDetermined (load_printing_plan dumps filled asks c)
     printing [] = tt
     printing (ask ∷ asks) = tt
 
-module _ (facts : DiskFacts) (files : Option Files) (next : Option ℤ) (words : LoadWords) (sheet : Result (List Ask) Refusal) (filled : FilledArchive) where
+module _ (facts : ℕ → DiskFacts) (told : (sealed : ℕ) → (facts sealed).known) (files : Option Files) (next : Option ℤ) (words : LoadWords) (sheet : Result (List Ask) Refusal) (filled : FilledArchive) where
   routed_determined : (route : List RouteStatement) → IsDetermined (after_route facts files next words sheet filled route)
   routed_determined route =
       determined (asks_check_plan (archive_opened (length words.dumps) filled) filled.plain sheet) (jobs_plan facts files next words filled route) (check_determined (archive_opened (length words.dumps) filled) filled.plain sheet)
-      (λ asks g given c came. jobs_determined (length words.dumps) filled asks c (reported_of words.link c.ends c.others) c.failed)
+      (λ asks sealed any g given c came. jobs_determined (facts sealed).known (told sealed) (length words.dumps) filled asks c (reported_of words.link c.ends c.others) c.failed)
 
   loading_determined : (text : Option (List ℕ)) → IsDetermined (loading_plan facts files next (load_asked words text sheet) filled)
   loading_determined text = (λ a b h k. h ∙ sym k, λ found h. each found)
@@ -251,10 +265,10 @@ load_determined device disk (Some all) next words known some = (λ a b h k. h �
   where
     archived : (text : Option (List ℕ)) (sheet : Result (List Ask) Refusal) → IsDetermined (archive_load_plan device disk (Some all) next words text sheet)
     archived text sheet =
-        determined (map_done nothing_done (opening_all_plan (Some all) words.dumps 0)) (λ (done : Unit {0}). opened_plan (length words.dumps) device disk (λ records. loading_plan (disk_facts device disk) (Some all) next (load_asked words text sheet)))
+        determined (map_done nothing_done (opening_all_plan (Some all) words.dumps 0)) (λ (done : Unit {0}). opened_plan (length words.dumps) device disk (λ facts. loading_plan (disk_facts device disk) (Some all) next (load_asked words text sheet)))
         (determined_map_done nothing_done (opening_all_plan (Some all) words.dumps 0) (opening_all_determined all words.dumps 0))
         (λ done. determined (opening_plan (length words.dumps) device disk) (loading_plan (disk_facts device disk) (Some all) next (load_asked words text sheet)) (opens_determined (length words.dumps) device disk known)
-        (λ filled. loading_determined (disk_facts device disk) (Some all) next words sheet filled text))
+        (λ filled. loading_determined (disk_facts device disk) (λ sealed. known) (Some all) next words sheet filled text))
 
     each : (found : Option Refusal) → IsDetermined (after_limits device disk (Some all) next words found)
     each None =

@@ -32,7 +32,7 @@ wanting_memory : (asks : List Ask) (s : Progress) (plan : CommandPlan Progress �
 wanting_memory [] s plan some = absurd (omega (arith, some))
 wanting_memory (ask ∷ asks) s plan some = inl refl
 
-module _ {D : Type 0} (device : Device D) (disk left : D) (sources : ℕ) (opened : FilledArchive) (asks : List Ask) (c : JobsOutcome) (disk_is : HasDiskOutcome device disk left false (AllFilled opened c.reached))
+module _ {D : Type 0} (device : Device D) (disk left : D) (sources : ℕ) (opened : FilledArchive) (asks : List Ask) (c : JobsOutcome) (disk_is : HasDiskOutcome device disk left c.unread (AllFilled opened c.reached))
     (output output' : OutputState) (report : Report) where
   abbrev went : Effects D
   went = effects_of disk left output output' report

@@ -14,6 +14,7 @@ use Rattle.ask_answers.specs.Asks.{asked_plan, asks_check_plan, with_sources}
 use Rattle.command_runs.specs.ArchiveWork.{opened_plan}
 use Rattle.command_runs.specs.Command.{Progress, Extended, archive_opened, nothing_done}
 use Rattle.command_runs.specs.FillingPlan.{all_filled, filling_behind_plan, filling_plan}
+use Rattle.command_runs.specs.Reading.{OnPages, RowsPlace}
 use Rattle.command_runs.specs.Report.{loaded}
 use Rattle.script_answers.specs.Scripts.{after_answer, script_octets_plan}
 use Rattle.live_asks.specs.LiveAsks.{DiskFacts, disk_facts}
@@ -33,7 +34,7 @@ history_extended dumps filled link outcome = record {
   report = loaded None link (length filled.plain.history) (length outcome.reached) 0 0 0;
   disk = Extended filled outcome.reached;
   sources = dumps;
-  failed = failed_reads outcome.ends;
+  failed = failed_reads outcome;
   log = None;
   pending = None;
 }
@@ -50,7 +51,7 @@ job_refused dumps filled outcome reported = record (history_extended dumps fille
 abbrev pub write_failed : ℕ → FilledArchive → JobsOutcome → ReportedRefusal → Addition → Progress
 write_failed dumps filled outcome reported addition = record (job_refused dumps filled outcome reported) {
   disk = outcome_of_failure filled outcome.reached addition;
-  failed = with_failed_call OfDisk (failed_reads outcome.ends);
+  failed = with_failed_call OfDisk (failed_reads outcome);
   pending = pending_behind reported.refusal;
 }
 
@@ -75,31 +76,34 @@ load_printing_plan dumps filled asks outcome =
 -- What the jobs lead to, by what is reported of them and what a failed write was to add. Where none was refused, what
 -- is late still is filled, and this follows. Where one was, that is reported, whatever the filling comes to. Behind a
 -- write that failed no fill comes: it is taken back last.
-abbrev pub after_session : ℕ → FilledArchive → JobsOutcome → CommandPlan Progress ⊥ → Option ReportedRefusal
+abbrev pub after_session : RowsPlace → ℕ → FilledArchive → JobsOutcome → CommandPlan Progress ⊥ → Option ReportedRefusal
     → Option Addition → CommandPlan Progress ⊥
-after_session sources filled outcome next None failed =
-    filling_plan (λ full. Unit {0}) filled outcome.reached (history_extended sources filled None outcome) next
-after_session sources filled outcome next (Some reported) None =
+after_session rows sources filled outcome next None failed =
+    filling_plan rows (λ full. Unit {0}) filled outcome.reached (history_extended sources filled None outcome) next
+after_session rows sources filled outcome next (Some reported) None =
     filling_behind_plan filled outcome.reached (job_refused sources filled outcome reported) reported.refusal
-after_session sources filled outcome next (Some reported) (Some addition) =
+after_session rows sources filled outcome next (Some reported) (Some addition) =
     Stop (write_failed sources filled outcome reported addition) (Some reported.refusal)
 
--- what the jobs of a load lead to: where none was refused and all is filled, all is printed
-abbrev pub after_jobs : ℕ → FilledArchive → List Ask → JobsOutcome → Option ReportedRefusal → Option Addition
+-- what the jobs of a load lead to: where none was refused and all is filled, all is printed; `Tells` says that the disk
+-- tells what it holds
+abbrev pub after_jobs : Type 0 → ℕ → FilledArchive → List Ask → JobsOutcome → Option ReportedRefusal → Option Addition
     → CommandPlan Progress ⊥
-after_jobs dumps filled asks outcome = after_session dumps filled outcome (load_printing_plan dumps filled asks outcome)
+after_jobs Tells dumps filled asks outcome =
+    after_session (OnPages Tells) dumps filled outcome (load_printing_plan dumps filled asks outcome)
 
 -- ---- the jobs
 
--- Runs the jobs of links, readers and fillers over an archive that was opened on a disk of which this is known, at the
--- clock's moment: what they come to is chosen by the turns that they take.
-abbrev pub jobs_plan : DiskFacts → Option Files → Option ℤ → LoadWords → FilledArchive → List RouteStatement
+-- Runs the jobs of links, readers and fillers over an archive that was opened, at the clock's moment: what they come to
+-- is chosen by the turns that they take. Of its disk this is known, by how many of its rows stand in runs.
+abbrev pub jobs_plan : (ℕ → DiskFacts) → Option Files → Option ℤ → LoadWords → FilledArchive → List RouteStatement
     → List Ask → CommandPlan Progress ⊥
 jobs_plan facts files next words filled route asks =
+    Choose (λ (sealed : ℕ). Unit {0}) (λ sealed.
     Choose (IsSettingOf filled.plain next route asks) (λ setting.
-    Choose (IsJobsOutcome facts filled setting words.link (dumps_of files words.dumps)) (λ outcome.
-    after_jobs (length words.dumps) filled asks outcome (reported_of words.link outcome.ends outcome.others)
-    outcome.failed))
+    Choose (IsJobsOutcome (facts sealed) filled setting words.link (dumps_of files words.dumps)) (λ outcome.
+    after_jobs (facts sealed).known (length words.dumps) filled asks outcome
+    (reported_of words.link outcome.ends outcome.others) outcome.failed)))
 
 -- ---- before them
 
@@ -109,14 +113,14 @@ abbrev pub route_plan : Progress → Archive → Option (List ℕ) → CommandPl
 route_plan s archive text = May OfMemory s (Question (IsRouteAnswer archive text) (after_answer s))
 
 -- what a route leads to: the asks are checked, and the jobs run
-abbrev pub after_route : DiskFacts → Option Files → Option ℤ → LoadWords → Result (List Ask) Refusal
+abbrev pub after_route : (ℕ → DiskFacts) → Option Files → Option ℤ → LoadWords → Result (List Ask) Refusal
     → FilledArchive → List RouteStatement → CommandPlan Progress ⊥
 after_route facts files next words asks filled route =
     and_then (asks_check_plan (archive_opened (length words.dumps) filled) filled.plain asks)
     (jobs_plan facts files next words filled route)
 
 -- what the number of the last link leads to: the text of the route is looked at
-abbrev pub after_links : DiskFacts → Option Files → Option ℤ → LoadAsked → FilledArchive → Option Refusal
+abbrev pub after_links : (ℕ → DiskFacts) → Option Files → Option ℤ → LoadAsked → FilledArchive → Option Refusal
     → CommandPlan Progress ⊥
 after_links facts files next asked filled None =
     and_then (route_plan (archive_opened (length asked.words.dumps) filled) filled.plain asked.text)
@@ -126,7 +130,7 @@ after_links facts files next asked filled (Some refusal) =
 
 -- loads dumps that were opened into an archive that was: Limit Links; the refusal of the route; that of the asks; that
 -- of the first job by number that is refused
-abbrev pub loading_plan : DiskFacts → Option Files → Option ℤ → LoadAsked → FilledArchive → CommandPlan Progress ⊥
+abbrev pub loading_plan : (ℕ → DiskFacts) → Option Files → Option ℤ → LoadAsked → FilledArchive → CommandPlan Progress ⊥
 loading_plan facts files next asked filled =
     Question (λ found. found ≡ links_refusal asked.words) (after_links facts files next asked filled)
 
@@ -137,7 +141,7 @@ abbrev pub archive_load_plan : {D : Type 0} → Device D → D → Option Files 
 archive_load_plan device disk files next words text asks =
     and_then (map_done nothing_done (opening_all_plan files words.dumps 0))
     (λ done. opened_plan (length words.dumps) device disk
-    (λ records. loading_plan (disk_facts device disk) files next (load_asked words text asks)))
+    (λ known. loading_plan (disk_facts device disk) files next (load_asked words text asks)))
 
 -- reads the script of a route, where one is given, and goes on with its text; where none is there is none
 abbrev pub routed_plan : Option Files → Option (List ℕ) → (Option (List ℕ) → CommandPlan Progress ⊥)

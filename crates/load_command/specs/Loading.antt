@@ -16,7 +16,7 @@ use Rattle.archive_store.specs.Entries.{Archive, FilledArchive}
 use Rattle.ask_answers.specs.Asks.{AreAnswerable, AreRefused}
 use Rattle.command_words.specs.Job.{LoadWords}
 use Rattle.command_words.specs.LoadLimits.{links_refusal}
-use Rattle.command_plans.specs.Plan.{FailedCalls, OfInputs, Way}
+use Rattle.command_plans.specs.Plan.{FailedCalls, OfDisk, OfInputs, Way}
 use Rattle.command_plans.specs.Sources.{UsedSources}
 use Rattle.command_runs.specs.Command.{DiskOutcome, ExtensionFailed, FillingFailed, Progress, failed_at, sources_at}
 use Rattle.command_runs.specs.Moment.{IsMomentOf}
@@ -104,10 +104,12 @@ abbrev pub is_unread : LinkEnd → Bool
 is_unread (Unread refused) = true
 is_unread other = false
 
--- which calls failed of the outside while links read their dumps
-abbrev pub failed_reads : List LinkEnd → FailedCalls
-failed_reads ends OfInputs = list_any is_unread ends
-failed_reads ends other = false
+-- which calls failed of the outside while jobs ran, though no write did: reads of links' sources, and of the disk's
+-- pages
+abbrev pub failed_reads : JobsOutcome → FailedCalls
+failed_reads outcome OfInputs = list_any is_unread outcome.ends
+failed_reads outcome OfDisk = outcome.unread
+failed_reads outcome other = false
 
 -- what became of the disk of an archive that was extended to this, where a write failed that was to add rows, or a fill
 abbrev pub outcome_of_failure : FilledArchive → List Item → Addition → DiskOutcome

@@ -79,7 +79,7 @@ pub(crate) fn load_opened<
     ensures { (files : AnOption Files) (next : AnOption ℤ) →
         lefts_of S.state sources.items ≡ dumps_of files (load_words_of asked.entry.words.now).dumps →
         IsMomentOf next moment →
-        RanWith D.device (opened_plan (length sources.items) D.device disk (λ records.
+        RanWith D.device (opened_plan (length sources.items) D.device disk (λ known.
         loading_plan (disk_facts D.device disk) files next (load_asked (load_words_of asked.entry.words.now)
         (option_map (λ text. text.now) asked.entry.text) asked.entry.sheet)))
         (effects_of disk (disk_of_work result.0) (K.state sink.old) (K.state sink.new) (report_of_work result.0))

@@ -1,6 +1,6 @@
 //! The jobs of a load, what is filled behind them, and what is printed.
 
-ghost use Rattle.std.specs.Prelude.{◌≡◌, ◌<◌, ◌≤◌, ◌+◌, ◌-◌, ◌++◌, ℕ, ℤ, Option as AnOption, [], None, OnErr, Some, false, length};
+ghost use Rattle.std.specs.Prelude.{◌≡◌, ◌<◌, ◌≤◌, ◌+◌, ◌-◌, ◌++◌, ℕ, ℤ, Option as AnOption, [], None, OnErr, Some, length};
 ghost use Rattle.refusals.specs.Limits.{limit_of};
 ghost use Rattle.outer_traits.specs.Outside.{Files};
 ghost use Rattle.text_forms.specs.ClockTime.{IsClockTime};
@@ -147,7 +147,7 @@ fn print<D: Disk, K: Sink>(
     ensures { (disk : D) (left : D) (sources : ℕ) (opened : FilledArchive) (outcome : JobsOutcome) →
         IsBehindJobs opened.plain outcome (archive_of store.now) dumps answers.now →
         before ≡ length opened.plain.history →
-        HasDiskOutcome D.device disk left false (AllFilled opened outcome.reached) →
+        HasDiskOutcome D.device disk left outcome.unread (AllFilled opened outcome.reached) →
         Ran D.device (load_printing_plan sources opened (asks_found asks.now) outcome)
         (effects_of disk left (K.state sink.old) (K.state sink.new) result) }
 {

@@ -1,6 +1,7 @@
 -- What the store that a session's turns leave has, by what a session says of one store.
-use Rattle.std.proofs.Common.{◌≡◌, ◌⊎◌, inl, inr, ℕ, List, [], ◌∷◌, ◌++◌, IsTrue, true, false, Some, refl, sym, ap, subst, ◌∙◌, append-nil}
+use Rattle.std.proofs.Common.{◌≡◌, ◌⊎◌, inl, inr, ℕ, zero, suc, Contains, List, [], ◌∷◌, ◌++◌, IsTrue, true, false, Some, refl, ap, subst, ◌∙◌, append-nil}
 use Rattle.std.specs.Prelude.{slice_get}
+use Rattle.std.specs.List.{AllByRecursion}
 use mathlib.Core.List.{IsPrefix}
 use Rattle.arch_disk.specs.Image.{Image}
 use Rattle.arch_disk.specs.Disk.{Device, LeavesOnly}
@@ -13,34 +14,66 @@ use Rattle.history_items.specs.declared.fills.Fill.TheVariants.{Begun, Done, Fre
 use Rattle.history_items.specs.Fills.{rows_of_faults, unacknowledged_in}
 use Rattle.history_items.specs.Items.{items_of}
 use Rattle.store_fills.specs.Faults.{faults_in}
-use Rattle.shared_history.proofs.Members.{IsIn, contains_from}
+use Rattle.shared_history.proofs.Members.{IsIn, contains_from, in_from}
+use Rattle.archive_store.specs.UnreadRows.{IsFaultOfRead}
 use Rattle.archive_store.specs.StoreView.{IsKeptWithFills, StoreView, archive_of, filled_of}
 use Rattle.live_archive.specs.GoesOn.{GoesOn, NoneFailed, OneFailed}
 use Rattle.live_archive.specs.Images.{HasPendingRows, IsBetween, LeavesBetween}
 use Rattle.load_session.specs.During.{HasBatchInHand, IsDuring}
 use Rattle.load_jobs.specs.Laws.{AFaultIsTheOne}
-use Rattle.load_jobs.proofs.OneLink.{fault_alone, some_fault}
 
 -- ---- failed writes
 
-module _ {D : Type 0} (device : Device D) (first closed : StoreView D) (none : faults_in first.fills ≡ []) (goes : GoesOn device first closed) where
-  -- a fault at some place is the one write that failed
-  pub failed_once : (place count : ℕ) (addition : Addition) → slice_get closed.fills place ≡ Some (Fault count true addition) → OneFailed device first closed × (faults_in closed.fills ≡ Fault count true addition ∷ [])
-  failed_once place count addition there = go goes.faults
-    where
-      go : NoneFailed device first closed ⊎ OneFailed device first closed → OneFailed device first closed × (faults_in closed.fills ≡ Fault count true addition ∷ [])
-      go (inl unfailed) = absurd (some_fault closed.fills place count true addition there (unfailed.same_faults ∙ none))
-      go (inr one) =
-          let alone : faults_in closed.fills ≡ Fault one.count true one.addition ∷ [] = one.faults ∙ ap (λ (l : List Fill). l ++ Fault one.count true one.addition ∷ []) none in
-          (one, fault_alone closed.fills place count true addition (Fault one.count true one.addition) there alone)
+-- a list has an item
+pub among_faults : (fills : List Fill) (place count : ℕ) (addition : Addition) → slice_get fills place ≡ Some (Fault count true addition) → Contains (faults_in fills) (Fault count true addition)
+among_faults [] place count addition at = absurd cc
+among_faults (Begun i b ∷ fills) zero count addition at = absurd cc
+among_faults (Begun i b ∷ fills) (suc place) count addition at = among_faults fills place count addition at
+among_faults (Done i b ∷ fills) zero count addition at = absurd cc
+among_faults (Done i b ∷ fills) (suc place) count addition at = among_faults fills place count addition at
+among_faults (Freed i ∷ fills) zero count addition at = absurd cc
+among_faults (Freed i ∷ fills) (suc place) count addition at = among_faults fills place count addition at
+among_faults (Closed ∷ fills) zero count addition at = absurd cc
+among_faults (Closed ∷ fills) (suc place) count addition at = among_faults fills place count addition at
+among_faults (Fault c w a ∷ fills) zero count addition at =
+    let same : Fault c w a ≡ Fault count true addition = cc at in contains_from (Fault count true addition) (Fault c w a ∷ faults_in fills) (inl same)
+among_faults (Fault c w a ∷ fills) (suc place) count addition at =
+    contains_from (Fault count true addition) (Fault c w a ∷ faults_in fills) (inr (in_from (Fault count true addition) (faults_in fills) (among_faults fills place count addition at)))
 
-  -- without a fault no call failed
-  pub never_failed : faults_in closed.fills ≡ [] → NoneFailed device first closed
-  never_failed calm = go goes.faults
+-- none of reads is of a failed write
+pub no_write : (reads : List Fill) (count : ℕ) (addition : Addition) → AllByRecursion IsFaultOfRead reads → IsIn (Fault count true addition) reads → ⊥
+no_write [] count addition each is = is
+no_write (item ∷ reads) count addition each (inl same) = let read = each.0.1 in cc (same, read)
+no_write (item ∷ reads) count addition each (inr more) = no_write reads count addition each.1 more
+
+-- so the one between such is the one of a failed write
+pub one_write : (before behind : List Fill) (one : Fill) (count : ℕ) (addition : Addition) → AllByRecursion IsFaultOfRead (before ++ behind) → IsIn (Fault count true addition) (before ++ one ∷ behind) → one ≡ Fault count true addition
+one_write [] behind one count addition each (inl same) = same
+one_write [] behind one count addition each (inr more) = absurd (no_write behind count addition each more)
+one_write (item ∷ before) behind one count addition each (inl same) = absurd (let read = each.0.1 in cc (same, read))
+one_write (item ∷ before) behind one count addition each (inr more) = one_write before behind one count addition each.1 more
+
+module _ {D : Type 0} (device : Device D) (first closed : StoreView D) (none : faults_in first.fills ≡ []) (goes : GoesOn device first closed) where
+  abbrev IsTheOne : ℕ → Addition → Type 0
+  IsTheOne count addition = (one : OneFailed device first closed) × (one.addition ≡ addition) × (faults_in closed.fills ≡ one.before ++ Fault count true addition ∷ one.behind)
+
+  the_one : (count : ℕ) (addition : Addition) → IsIn (Fault count true addition) (faults_in closed.fills) → OneFailed device first closed → IsTheOne count addition
+  the_one count addition there one =
+      let alone : faults_in closed.fills ≡ one.before ++ Fault one.count true one.addition ∷ one.behind = one.faults ∙ ap (λ (l : List Fill). l ++ (one.before ++ Fault one.count true one.addition ∷ one.behind)) none in
+      let same = one_write one.before one.behind (Fault one.count true one.addition) count addition one.each (subst (IsIn (Fault count true addition)) alone there) in
+      let of : one.addition ≡ addition = cc same in
+      (one, of, alone ∙ ap (λ (f : Fill). one.before ++ f ∷ one.behind) same)
+
+  -- a fault at some place is the one write that failed
+  pub failed_once : (place count : ℕ) (addition : Addition) → slice_get closed.fills place ≡ Some (Fault count true addition) → IsTheOne count addition
+  failed_once place count addition at = go goes.faults
     where
-      go : NoneFailed device first closed ⊎ OneFailed device first closed → NoneFailed device first closed
-      go (inl unfailed) = unfailed
-      go (inr one) = absurd (let e : faults_in first.fills ++ Fault one.count true one.addition ∷ [] ≡ [] = sym one.faults ∙ calm in let f : Fault one.count true one.addition ∷ [] ≡ [] = subst (λ (l : List Fill). l ++ Fault one.count true one.addition ∷ [] ≡ []) none e in cc f)
+      there : IsIn (Fault count true addition) (faults_in closed.fills)
+      there = in_from (Fault count true addition) (faults_in closed.fills) (among_faults closed.fills place count addition at)
+
+      go : NoneFailed device first closed ⊎ OneFailed device first closed → IsTheOne count addition
+      go (inl unfailed) = absurd (no_write unfailed.reads count addition unfailed.each (subst (IsIn (Fault count true addition)) (unfailed.faults ∙ ap (λ (l : List Fill). l ++ unfailed.reads) none) there))
+      go (inr one) = the_one count addition there one
 
 -- ---- images
 
@@ -73,7 +106,7 @@ module _ {D : Type 0} (device : Device D) (first closed : StoreView D) where
       → LeavesOnly device first.disk closed.disk (IsDuring (archive_of first) closed.history (rows_of_faults closed.fills))
   left_during clear goes kept =
       let here : LeavesBetween device first first = record {
-        appends = record { history = ([], append-nil first.history); fills = ([], append-nil first.fills); head = refl; exponent = refl; opened = refl };
+        appends = record { history = ([], append-nil first.history); fills = ([], append-nil first.fills); head = refl; exponent = refl; opened = refl; sealed = refl };
         images = started device first.disk (IsBetween first first) (λ c left. record {
           history = first.history;
           holds = ([], append-nil first.history);

@@ -3,11 +3,12 @@ use Rattle.std.proofs.Common.{◌≡◌, ◌==◌, ◌⊎◌, inl, inr, ℕ, zer
 use Rattle.std.specs.Prelude.{slice_get}
 use Rattle.std.proofs.Math.Seq.{drop-append_seam}
 use mathlib.Core.List.{IsPrefix}
+use Rattle.arch_disk.specs.Disk.{Device}
 use Rattle.refusals.specs.declared.refusal.Refusal.{Refusal}
 use Rattle.refusals.specs.declared.refusal.Refusal.TheVariants.{DiskFault}
 use Rattle.arch_types.specs.declared.row.Row.{Row}
 use Rattle.history_items.specs.declared.fills.Addition.{Addition}
-use Rattle.history_items.specs.declared.fills.Addition.TheVariants.{Rows}
+use Rattle.history_items.specs.declared.fills.Addition.TheVariants.{Nothing, Rows}
 use Rattle.history_items.specs.declared.fills.Fill.{Fill}
 use Rattle.history_items.specs.declared.fills.Fill.TheVariants.{Begun, Done, Freed, Fault, Closed}
 use Rattle.history_items.specs.declared.items.Item.{Item}
@@ -20,12 +21,13 @@ use Rattle.shared_history.proofs.Own.{each_row_is_of_a_link, get_drop, rows_of_a
 use Rattle.shared_history.proofs.Sending.{one_link_ingests, sent_stays}
 use Rattle.shared_history.proofs.Putting.{get_begins, put_stays}
 use Rattle.turn_cell.specs.Pass.{PassView}
+use Rattle.archive_store.specs.Pages.{HasPages, TellsRows}
 use Rattle.archive_store.specs.StoreView.{StoreView}
 use Rattle.load_session.specs.declared.session.DumpSummary.{DumpSummary}
 use Rattle.load_session.specs.Receiving.{Receiving, rows_received}
 use Rattle.load_session.specs.Session.{next_fresh_rows}
 use Rattle.load_jobs.specs.Laws.{FaultIsOfTheBatch, IsOneLink, OneLinkReaches}
-use Rattle.load_jobs.specs.Links.{HasNoted, IsDumpSent, work_of}
+use Rattle.load_jobs.specs.Links.{FailedAt, HasNoted, IsDumpSent, work_of}
 
 -- ---- what one link put is all that came
 
@@ -123,24 +125,33 @@ fault_alone (Fault c w a ∷ fills) (suc place) count wrote addition x at one =
     let rest : faults_in fills ≡ [] = cc one in
     absurd (some_fault fills place count wrote addition at rest)
 
-module _ {D T : Type 0} (first : StoreView D) (dump : List ℕ) (r : Receiving) (put : List Row) (old new : PassView Item Fill T) (answer : Result DumpSummary Refusal) (sent : IsDumpSent first dump r put old new answer) where
+module _ {D T : Type 0} (device : Device D) (first : StoreView D) (dump : List ℕ) (r : Receiving) (put : List Row) (old new : PassView Item Fill T) (answer : Result DumpSummary Refusal) (sent : IsDumpSent device first dump r put old new answer) where
   -- its turns noted nothing, unless the disk failed
   pub silent_unless_failed : (new.fills.places ≡ old.fills.places) ⊎ (sent.came_to.refusal ≡ Some DiskFault)
   silent_unless_failed = go sent.came_to.refusal sent.noted
     where
-      go : (refusal : Option Refusal) → HasNoted r sent.came_to old new refusal → (new.fills.places ≡ old.fills.places) ⊎ (refusal ≡ Some DiskFault)
+      go : (refusal : Option Refusal) → HasNoted device first r sent.came_to old new refusal → (new.fills.places ≡ old.fills.places) ⊎ (refusal ≡ Some DiskFault)
       go None noted = inl noted
       go (Some DiskFault) noted = inr refl
       go (Some other) noted = inl noted
 
-  -- the one fault of a later fill list is that of the batch in hand
-  pub batch_in_hand : sent.came_to.refusal ≡ Some DiskFault → (later : List Fill) (x : Fill) → IsPrefix new.fills.seen later → faults_in later ≡ x ∷ []
-      → (count : ℕ) × (faults_in later ≡ Fault count true (Rows (next_fresh_rows r sent.came_to)) ∷ [])
-  batch_in_hand is later x begins one =
-      let noted = subst (HasNoted r sent.came_to old new) is sent.noted in
-      let held = noted.2 in
-      let there = subst (λ (l : List Fill). slice_get l noted.0 ≡ Some (Fault held.0 true (Rows (next_fresh_rows r sent.came_to)))) begins.1 (get_begins new.fills.seen begins.0 noted.0 _ held.1) in
-      (held.0, fault_alone later noted.0 held.0 true (Rows (next_fresh_rows r sent.came_to)) x there one)
+  -- the one fault of a later fill list is that of the batch in hand, or of a read
+  pub batch_in_hand : sent.came_to.refusal ≡ Some DiskFault → (later : List Fill) (x : Fill) → IsPrefix new.fills.seen later → faults_in later ≡ x ∷ [] → TellsRows device first
+      → ((count : ℕ) × (faults_in later ≡ Fault count true (Rows (next_fresh_rows r sent.came_to)) ∷ [])) ⊎ (HasPages first × ((count : ℕ) × (faults_in later ≡ Fault count false Nothing ∷ [])))
+  batch_in_hand is later x begins one told = go noted.2
+    where
+      noted : HasNoted device first r sent.came_to old new (Some DiskFault)
+      noted = subst (HasNoted device first r sent.came_to old new) is sent.noted
+
+      alone : (count : ℕ) (wrote : Bool) (addition : Addition) → slice_get new.fills.seen noted.0 ≡ Some (Fault count wrote addition) → faults_in later ≡ Fault count wrote addition ∷ []
+      alone count wrote addition at =
+          let there = subst (λ (l : List Fill). slice_get l noted.0 ≡ Some (Fault count wrote addition)) begins.1 (get_begins new.fills.seen begins.0 noted.0 _ at) in
+          fault_alone later noted.0 count wrote addition x there one
+
+      go : FailedAt device first r sent.came_to new.fills.seen noted.0
+          → ((count : ℕ) × (faults_in later ≡ Fault count true (Rows (next_fresh_rows r sent.came_to)) ∷ [])) ⊎ (HasPages first × ((count : ℕ) × (faults_in later ≡ Fault count false Nothing ∷ [])))
+      go (inl (count, rows, at, known)) = inl (count, alone count true (Rows rows) at ∙ ap (λ (l : List Row). Fault count true (Rows l) ∷ []) (known told))
+      go (inr (paged, (count, at))) = inr (paged, (count, alone count false Nothing at))
 
   -- ---- the session
 
@@ -168,19 +179,19 @@ module _ {D T : Type 0} (first : StoreView D) (dump : List ℕ) (r : Receiving) 
         sym begins ∙ ap (λ (l : List Item). first.history ++ l) more
 
     -- the history is the first one followed by the rows of the packets that were sent
-    pub one_link_history : after ≡ after_rows first.history (rows_received r (take sent.came_to.place sent.came_to.packets))
-    one_link_history =
+    pub one_link_history : TellsRows device first → after ≡ after_rows first.history (rows_received r (take sent.came_to.place sent.came_to.packets))
+    one_link_history told =
         let arrived = rows_received r (take sent.came_to.place sent.came_to.packets) in
-        one_link_ingests first.history after arrived put one.is_history whole_put (sent_stays arrived put new.history.seen after one.begins sent.sent)
+        one_link_ingests first.history after arrived put one.is_history whole_put (sent_stays arrived put new.history.seen after one.begins (sent.sent told))
 
 -- ---- the laws
 
-module _ (D T : Type 0) where
-  pub one_link_reaches : OneLinkReaches D T
-  one_link_reaches first dump r put old new answer later sent one = (
-    reached_all first dump r put old new answer sent later one,
-    one_link_history first dump r put old new answer sent later one,
+module _ {D : Type 0} (T : Type 0) (device : Device D) where
+  pub one_link_reaches : OneLinkReaches T device
+  one_link_reaches first dump r put old new answer later sent one told = (
+    reached_all device first dump r put old new answer sent later one,
+    one_link_history device first dump r put old new answer sent later one told,
   )
 
-  pub fault_is_of_the_batch : FaultIsOfTheBatch D T
-  fault_is_of_the_batch first dump r put old new answer later fault sent failed begins one = batch_in_hand first dump r put old new answer sent failed later fault begins one
+  pub fault_is_of_the_batch : FaultIsOfTheBatch T device
+  fault_is_of_the_batch first dump r put old new answer later fault sent failed begins one told = batch_in_hand device first dump r put old new answer sent failed later fault begins one told

@@ -16,7 +16,7 @@ use Rattle.history_items.specs.declared.fills.Fill.{Fill}
 use Rattle.history_items.specs.declared.fills.Fill.TheVariants.{Fault}
 use Rattle.history_items.specs.declared.items.Item.{Item}
 use Rattle.history_items.specs.Fills.{pending_fault_of}
-use Rattle.history_items.specs.Items.{after_rows}
+use Rattle.history_items.specs.Items.{after_rows, items_of}
 use Rattle.history_items.specs.Outcomes.{fresh_of}
 use Rattle.space_packet.specs.declared.dump.Why.{Why}
 use Rattle.space_packet.specs.Cut.{IsCut}
@@ -30,37 +30,40 @@ use Rattle.archive_store.specs.Calls.{IsIngestRefusal}
 use Rattle.archive_store.specs.Limits.{IsLimit}
 use Rattle.archive_store.specs.StoreView.{StoreView}
 use Rattle.archive_store.proofs.Calls.{ingest_cases}
-use Rattle.archive_store.proofs.UnreadRows.{told_in_memory}
-use Rattle.live_archive.specs.Added.{AddsTo, AreFaults}
+use Rattle.archive_store.specs.Pages.{TellsRows}
+use Rattle.live_archive.specs.Added.{AddsTo, AreBatchFaults}
 use Rattle.live_archive.specs.Answers.{SaysIngested}
 use Rattle.live_archive.specs.GoesOn.{GoesOn, dones}
+use Rattle.live_archive.specs.Reads.{IsUnread}
 use Rattle.live_archive.specs.Turns.{TookTurn}
 use Rattle.live_archive.proofs.Added.{ingests_add}
+use Rattle.live_archive.proofs.Going.{told_on}
+use Rattle.live_archive.proofs.Unread.{unread_is, unread_on}
 use Rattle.load_session.specs.declared.batches.NextBatch.{NextBatch}
 use Rattle.load_session.specs.declared.session.DumpSummary.{DumpSummary}
 use Rattle.load_session.specs.Batches.{batch_at}
 use Rattle.load_session.specs.Receiving.{Receiving, rows_received}
 use Rattle.load_session.specs.Session.{SessionResult}
-use Rattle.load_jobs.specs.Links.{HasAdded, HasNoted, HoldsBatch, IsDumpSent, IsRecordedIn, IsSendingEnd, batches_of}
+use Rattle.load_jobs.specs.Links.{HasAdded, HasNoted, IsDumpSent, IsRecordedIn, IsSendingEnd, batches_of}
 use Rattle.load_jobs.specs.Underway.{IsATurnEach, IsSentSoFar}
 use Rattle.load_jobs.proofs.Batches.{IsNextBatch, batch_is, between_is}
 use Rattle.load_jobs.proofs.Completed.{completes}
 use Rattle.load_jobs.proofs.SentSoFar.{sent_same}
 use Rattle.load_jobs.proofs.Taken.{IsTaken, turns_counted}
 
-module _ {D T : Type 0} (first : StoreView D) (dump : List ℕ) (r : Receiving) (old : PassView Item Fill T) where
+module _ {D T : Type 0} (device : Device D) (first : StoreView D) (dump : List ℕ) (r : Receiving) (old : PassView Item Fill T) where
   -- its turns put rows, and this became of the dump
   abbrev pub EndedSo : PassView Item Fill T → Result DumpSummary Refusal → Type 0
-  EndedSo new answer = (put : List Row) × HasAdded r.link put old new × IsDumpSent first dump r put old new answer
+  EndedSo new answer = (put : List Row) × HasAdded r.link put old new × IsDumpSent device first dump r put old new answer
 
   -- it came to this: these packets, of which those before a place were sent
   abbrev came_to : PassView Item Fill T → List (List ℕ) → List ℕ → ℕ → Option Refusal → SessionResult
   came_to now packets rest place refusal = record { packets = packets; rest = rest; place = place; reached = now.history.seen; refusal = refusal }
 
   stopped : (so_far more : List (List ℕ)) (rest : List ℕ) (at packets idle routed : ℕ) (now : PassView Item Fill T) (refusal : Refusal) → IsTaken dump r so_far at packets idle routed
-      → IsDump dump (so_far ++ more) rest → IsSentSoFar r so_far old now
-      → HasNoted r (came_to now (so_far ++ more) rest (length so_far) (Some refusal)) old now (Some refusal) → now.turns ≤ old.turns + batches_of (length so_far) + 1
-      → IsSendingEnd first r (came_to now (so_far ++ more) rest (length so_far) (Some refusal)) now (Some refusal) → EndedSo now (Err refusal)
+      → IsDump dump (so_far ++ more) rest → IsSentSoFar (TellsRows device first) r so_far old now
+      → HasNoted device first r (came_to now (so_far ++ more) rest (length so_far) (Some refusal)) old now (Some refusal) → now.turns ≤ old.turns + batches_of (length so_far) + 1
+      → IsSendingEnd device first r (came_to now (so_far ++ more) rest (length so_far) (Some refusal)) now (Some refusal) → EndedSo now (Err refusal)
   stopped so_far more rest at packets idle routed now refusal t parts s noted turned cause =
       let ones : take (length so_far) (so_far ++ more) ≡ so_far = take-append_seam so_far more in (
         s.put,
@@ -71,7 +74,8 @@ module _ {D T : Type 0} (first : StoreView D) (dump : List ℕ) (r : Receiving) 
           within = let l = length-append so_far more in omega (arith, l);
           between = between_is dump so_far more at rest t.cut t.batches parts;
           reached = refl;
-          sent = subst (λ (l : List (List ℕ)). HasSent (rows_received r l) now.history.seen s.put) (sym ones) s.has_sent;
+          few = subst (λ (l : List (List ℕ)). length s.put ≤ length (rows_received r l)) (sym ones) s.few;
+          sent = λ told. subst (λ (l : List (List ℕ)). HasSent (rows_received r l) now.history.seen s.put) (sym ones) (s.has_sent told);
           noted = noted;
           turned = turned;
           cause = cause;
@@ -80,7 +84,7 @@ module _ {D T : Type 0} (first : StoreView D) (dump : List ℕ) (r : Receiving) 
         },
       )
 
-  module _ (so_far : List (List ℕ)) (start packets idle routed : ℕ) (t : IsTaken dump r so_far start packets idle routed) (mid : PassView Item Fill T) (s : IsSentSoFar r so_far old mid)
+  module _ (so_far : List (List ℕ)) (start packets idle routed : ℕ) (t : IsTaken dump r so_far start packets idle routed) (mid : PassView Item Fill T) (s : IsSentSoFar (TellsRows device first) r so_far old mid)
       (silent : mid.fills.places ≡ old.fills.places) (turns : IsATurnEach old.turns mid.turns so_far) where
     -- no packets follow
     pub all_sent : (end : ℕ) (taken : NextBatch) (why : Why) → IsNextBatch dump start end r taken → taken.packets ≡ 0 → (taken.packets < 64 → BeginsWithNoPacket (drop end dump)) → why ≡ why_of (drop end dump)
@@ -96,7 +100,8 @@ module _ {D T : Type 0} (first : StoreView D) (dump : List ℕ) (r : Receiving) 
             within = omega arith;
             between = inl refl;
             reached = refl;
-            sent = subst (λ (l : List (List ℕ)). HasSent (rows_received r l) mid.history.seen s.put) (sym all) s.has_sent;
+            few = subst (λ (l : List (List ℕ)). length s.put ≤ length (rows_received r l)) (sym all) s.few;
+            sent = λ told. subst (λ (l : List (List ℕ)). HasSent (rows_received r l) mid.history.seen s.put) (sym all) (s.has_sent told);
             noted = silent;
             turned = turns_counted old.turns mid.turns so_far turns;
             cause = refl;
@@ -118,7 +123,7 @@ module _ {D T : Type 0} (first : StoreView D) (dump : List ℕ) (r : Receiving) 
 
     -- ---- a batch was refused
 
-    module _ (device : Device D) (new : PassView Item Fill T) (end : ℕ) (taken : NextBatch) (n : IsNextBatch dump start end r taken) where
+    module _ (new : PassView Item Fill T) (end : ℕ) (taken : NextBatch) (n : IsNextBatch dump start end r taken) where
       module _ (more : List (List ℕ)) (rest : List ℕ) (full : (length n.packets ≡ 64) ⊎ (more ≡ [])) (parts : IsDump dump (so_far ++ (n.packets ++ more)) rest)
           (before after : StoreView D) (found : GoesOn device first before) (noted : List Fill) (a : AddsTo before mid new [] noted) where
         abbrev all : List (List ℕ)
@@ -133,7 +138,7 @@ module _ {D T : Type 0} (first : StoreView D) (dump : List ℕ) (r : Receiving) 
             let one = a.turns in
             omega (arith, counted, one)
 
-        end_with : (e : Refusal) → HasNoted r (state e) old new (Some e) → IsSendingEnd first r (state e) new (Some e) → EndedSo new (Err e)
+        end_with : (e : Refusal) → HasNoted device first r (state e) old new (Some e) → IsSendingEnd device first r (state e) new (Some e) → EndedSo new (Err e)
         end_with e noted_so = stopped so_far (n.packets ++ more) rest start packets idle routed new e t parts (sent_same r before old mid new so_far noted a s) noted_so one_more
 
         rows : batch_rows taken.batch ≡ rows_received r (batch_at (length so_far) all)
@@ -165,37 +170,48 @@ module _ {D T : Type 0} (first : StoreView D) (dump : List ℕ) (r : Receiving) 
             (subst (λ (x : ℕ). IsLimit x which before.records (after_rows before.history (batch_rows taken.batch))) found.appends.exponent passed))
 
         -- where the disk failed
-        noted_batch : (count : ℕ) → noted ≡ Fault count true (additions.Rows (fresh_of before.history (batch_rows taken.batch))) ∷ [] → HasNoted r (state refused.DiskFault) old new (Some refused.DiskFault)
-        noted_batch count is =
-            let fault = Fault count true (additions.Rows (fresh_of before.history (batch_rows taken.batch))) in
-            let at : new.fills.places ≡ old.fills.places ++ length before.fills ∷ [] =
-            a.fills.places ∙ (ap (λ (l : List Fill). mid.fills.places ++ range_with_len (length before.fills) (length l)) is ∙ ap (λ (l : List ℕ). l ++ length before.fills ∷ []) silent) in
-            let there : slice_get new.fills.seen (length before.fills) ≡ Some fault =
-            ap (λ (l : List Fill). slice_get l (length before.fills)) a.fills.seen
-            ∙ (ap (λ (l : List Fill). slice_get (before.fills ++ l) (length before.fills)) is ∙ get_next before.fills fault []) in
-            let held : HoldsBatch r (state refused.DiskFault) new.fills.seen (length before.fills) = (
-              count,
-              there
-                  ∙ (ap (λ (h : List Item). Some (Fault count true (additions.Rows (fresh_of h (batch_rows taken.batch))))) (sym history)
-                  ∙ ap (λ (l : List Row). Some (Fault count true (additions.Rows (fresh_of new.history.seen l)))) rows),
-            ) in
-            (length before.fills, at, held)
+        noted_at : (fault : Fill) → noted ≡ fault ∷ [] → (new.fills.places ≡ old.fills.places ++ length before.fills ∷ []) × (slice_get new.fills.seen (length before.fills) ≡ Some fault)
+        noted_at fault is = (
+          a.fills.places ∙ (ap (λ (l : List Fill). mid.fills.places ++ range_with_len (length before.fills) (length l)) is ∙ ap (λ (l : List ℕ). l ++ length before.fills ∷ []) silent),
+          ap (λ (l : List Fill). slice_get l (length before.fills)) a.fills.seen
+              ∙ (ap (λ (l : List Fill). slice_get (before.fills ++ l) (length before.fills)) is ∙ get_next before.fills fault []),
+        )
 
-        ended_for : (e : Refusal) → IsIngestRefusal device before after (batch_rows taken.batch) e → AreFaults (additions.Rows (fresh_of before.history (batch_rows taken.batch))) e noted → EndedSo new (Err e)
+        noted_fault : AreBatchFaults device before (batch_rows taken.batch) refused.DiskFault noted → HasNoted device first r (state refused.DiskFault) old new (Some refused.DiskFault)
+        noted_fault (inl (fresh, are, (count, is))) =
+            let at = noted_at (Fault count true (additions.Rows fresh)) is in
+            let known : TellsRows device first → fresh ≡ fresh_of new.history.seen (rows_received r (batch_at (length so_far) all)) = λ told.
+            are.told (told_on device first before found.appends.sealed told)
+            ∙ (ap (λ (h : List Item). fresh_of h (batch_rows taken.batch)) (sym history) ∙ ap (fresh_of new.history.seen) rows) in
+            (length before.fills, at.0, inl (count, fresh, at.1, known))
+        noted_fault (inr (paged, (count, is))) =
+            let at = noted_at (Fault count false additions.Nothing) is in
+            (length before.fills, at.0, inr (subst (λ (n : ℕ). 0 < n) found.appends.sealed paged, (count, at.1)))
+
+        -- where rows weren't read
+        unread_for : (e : Refusal) → IsUnread (TellsRows device first) first.sealed e → AreBatchFaults device before (batch_rows taken.batch) e noted → EndedSo new (Err e)
+        unread_for refused.DiskFault why are = end_with refused.DiskFault (noted_fault are) tt
+        unread_for (refused.Damaged file at) why are = end_with (refused.Damaged file at) (places are) why
+        unread_for refused.OutOfMemory why are = end_with refused.OutOfMemory (places are) tt
+        unread_for _ why are = absurd why
+
+        ended_for : (e : Refusal) → IsIngestRefusal device before after (batch_rows taken.batch) e → AreBatchFaults device before (batch_rows taken.batch) e noted → EndedSo new (Err e)
         ended_for e said are =
-            ingest_cases device before after (batch_rows taken.batch) (λ r. AreFaults (additions.Rows (fresh_of before.history (batch_rows taken.batch))) r noted → EndedSo new (Err r)) e said
+            ingest_cases device before after (batch_rows taken.batch) (λ r. AreBatchFaults device before (batch_rows taken.batch) r noted → EndedSo new (Err r)) e said
             (λ faults r are. end_with (refused.NeedsReopen faults) (places are) (ap pending_fault_of (fills are) ∙ r.0))
-            (λ which number r are.
-            let passes = r.1 (told_in_memory device before) in
-            end_with (refused.Limit which number) (places are) (passes.number_is, (before.records, recorded are, limit_of_batch which passes.first)))
-            (λ failed are. end_with refused.DiskFault (noted_batch are.0 are.1) tt)
+            (λ which number r are. end_with (refused.Limit which number) (places are) (λ told.
+            let passes = r.1 (told_on device first before found.appends.sealed told) in
+            (passes.number_is, (before.records, recorded are, limit_of_batch which passes.first))))
+            (λ failed are. end_with refused.DiskFault (noted_fault are) tt)
+            (λ refusal r are. unread_for refusal (unread_on device first before found.appends.sealed refusal (unread_is device before after refusal r.unread)) are)
             (λ r are. end_with refused.OutOfMemory (places are) tt) are
 
       stopped_for : (refusal : Refusal) (more : List (List ℕ)) (rest : List ℕ) → (length n.packets ≡ 64) ⊎ (more ≡ []) → IsDump dump (so_far ++ (n.packets ++ more)) rest
           → TookTurn device first mid new (SaysIngested device (batch_rows taken.batch) (Err refusal)) → EndedSo new (Err refusal)
       stopped_for refusal more rest full parts turn =
           let adds = ingests_add T device first turn.before turn.after mid new (batch_rows taken.batch) (Err refusal) turn.turned turn.said in
-          ended_for more rest full parts turn.before turn.after turn.turned.found adds.0 adds.2 refusal turn.said adds.1
+          let none = subst (λ (l : List Row). AddsTo turn.before mid new (items_of l) adds.1) adds.2.0 adds.3 in
+          ended_for more rest full parts turn.before turn.after turn.turned.found adds.1 none refusal turn.said adds.2.1
 
       pub batch_refused : (refusal : Refusal) → (taken.packets < 64 → BeginsWithNoPacket (drop end dump))
           → TookTurn device first mid new (SaysIngested device (batch_rows taken.batch) (Err refusal)) → EndedSo new (Err refusal)

@@ -85,7 +85,7 @@ run_of_split read sent in_hand w s =
 
 -- ---- a link that is under way
 
-module _ {T : Type 0} (r : Receiving) (read : List ℕ) (sent in_hand : List (List ℕ)) (old now : PassView Item Fill T) (p : Progress) (u : IsUnderway r read sent [] in_hand old now p) where
+module _ {T told : Type 0} (r : Receiving) (read : List ℕ) (sent in_hand : List (List ℕ)) (old now : PassView Item Fill T) (p : Progress) (u : IsUnderway told r read sent [] in_hand old now p) where
   -- what is in hand was taken for a batch behind what had come before
   pub taken_here : old.history.seen ≡ r.history → IsTakenFor r in_hand p.taken
   taken_here seen = taken_for_behind r.head r.history r.route r.link r.moment in_hand p.taken (subst (λ (l : List Item). databases_in l ≡ []) seen u.alone) u.taken

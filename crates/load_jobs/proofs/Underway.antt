@@ -1,7 +1,7 @@
 -- A link goes on between its turns.
 use Rattle.std.proofs.Common.{◌≡◌, inr, ℕ, ℤ, ◌+◌, ◌-◌, ◌*◌, ◌<◌, ◌≤◌, List, [], ◌∷◌, ◌++◌, length, Option, Result, Ok, Err, refl, sym, ap, subst, ◌∙◌, arith, append-nil, append_assoc, length-append}
-use Rattle.std.specs.Prelude.{OnOk}
-use Rattle.std.specs.List.{concat, range_with_len}
+use Rattle.std.specs.Prelude.{Contains, OnOk}
+use Rattle.std.specs.List.{AllByRecursion, concat, range_with_len}
 use Rattle.std.proofs.lemmas.List.Elements.{All-nil}
 use Rattle.arch_disk.specs.Disk.{Device}
 use Rattle.arch_types.specs.declared.row.Row.{Row}
@@ -24,6 +24,7 @@ use Rattle.stream_graph.specs.declared.statement.RouteStatement.{RouteStatement}
 use Rattle.turn_cell.specs.Pass.{PassView}
 use Rattle.archive_store.specs.Head.{Head}
 use Rattle.archive_store.specs.Batches.{batch_rows}
+use Rattle.archive_store.specs.Pages.{TellsRows}
 use Rattle.archive_store.specs.StoreView.{StoreView}
 use Rattle.live_archive.specs.Added.{AddsTo}
 use Rattle.live_archive.specs.Answers.{SaysIngested}
@@ -43,31 +44,31 @@ use Rattle.load_jobs.proofs.Taken.{nothing_taken}
 use Rattle.load_jobs.proofs.Splits.{in_hand_next, none_behind_it, read_of_split, rest_of_split, sent_taken, split_front, taken_by, taken_here}
 
 -- whole batches were sent of what was read, and some packets are in hand
-abbrev pub IsOn : {T : Type 0} → Receiving → List ℕ → PassView Item Fill T → PassView Item Fill T → Progress → Type 0
-IsOn r read old now p =
-    (sent : List (List ℕ)) × (in_hand : List (List ℕ)) × AreBatches sent × IsUnderway r read sent [] in_hand old now p
+abbrev pub IsOn : {T : Type 0} → Type 0 → Receiving → List ℕ → PassView Item Fill T → PassView Item Fill T → Progress → Type 0
+IsOn told r read old now p =
+    (sent : List (List ℕ)) × (in_hand : List (List ℕ)) × AreBatches sent × IsUnderway told r read sent [] in_hand old now p
 
 -- so it goes on, whatever was read and sent before
-abbrev pub GoesOnTo : {T : Type 0} → Receiving → PassView Item Fill T → PassView Item Fill T → Progress → Progress → Type 0
-GoesOnTo {T = T} r old now before after =
-    (origin : PassView Item Fill T) (read : List ℕ) (sent in_hand : List (List ℕ)) → AreBatches sent → IsUnderway (behind r origin) read sent [] in_hand origin old before → IsOn (behind r origin) read origin now after
+abbrev pub GoesOnTo : {T : Type 0} → Type 0 → Receiving → PassView Item Fill T → PassView Item Fill T → Progress → Progress → Type 0
+GoesOnTo {T = T} told r old now before after =
+    (origin : PassView Item Fill T) (read : List ℕ) (sent in_hand : List (List ℕ)) → AreBatches sent → IsUnderway told (behind r origin) read sent [] in_hand origin old before → IsOn told (behind r origin) read origin now after
 
 -- whole batches were sent, and these batches are ahead: all of their packets are these, and some behind them are in hand
-abbrev pub IsOnAhead : {T : Type 0} → Receiving → List ℕ → List NextBatch → List (List ℕ) → List (List ℕ) → PassView Item Fill T → PassView Item Fill T → Progress → Type 0
-IsOnAhead r read batches all in_hand old now p =
-    (sent : List (List ℕ)) × (groups : List (List (List ℕ))) × AreBatches sent × AreTakenFor (behind_none r) groups batches × (sent ++ packets_of groups ≡ all) × IsUnderway r read sent (packets_of groups) in_hand old now p
+abbrev pub IsOnAhead : {T : Type 0} → Type 0 → Receiving → List ℕ → List NextBatch → List (List ℕ) → List (List ℕ) → PassView Item Fill T → PassView Item Fill T → Progress → Type 0
+IsOnAhead told r read batches all in_hand old now p =
+    (sent : List (List ℕ)) × (groups : List (List (List ℕ))) × AreBatches sent × AreTakenFor (behind_none r) groups batches × (sent ++ packets_of groups ≡ all) × IsUnderway told r read sent (packets_of groups) in_hand old now p
 
 -- so some of these batches were sent, and the others are ahead, whatever was read and sent before
-abbrev pub SendsTo : {T : Type 0} → Receiving → List NextBatch → List NextBatch → PassView Item Fill T → PassView Item Fill T → Progress → Progress → Type 0
-SendsTo {T = T} r batches left old now before after =
+abbrev pub SendsTo : {T : Type 0} → Type 0 → Receiving → List NextBatch → List NextBatch → PassView Item Fill T → PassView Item Fill T → Progress → Progress → Type 0
+SendsTo {T = T} told r batches left old now before after =
     (origin : PassView Item Fill T) (read : List ℕ) (sent : List (List ℕ)) (groups : List (List (List ℕ))) (in_hand : List (List ℕ)) → AreBatches sent → AreTakenFor (behind_none r) groups batches
-    → IsUnderway (behind r origin) read sent (packets_of groups) in_hand origin old before → IsOnAhead (behind r origin) read left (sent ++ packets_of groups) in_hand origin now after
+    → IsUnderway told (behind r origin) read sent (packets_of groups) in_hand origin old before → IsOnAhead told (behind r origin) read left (sent ++ packets_of groups) in_hand origin now after
 
 -- ---- octets
 
 -- nothing of the sending changes where only what waits does
-pub same_but_waiting : {T : Type 0} (r : Receiving) (read more : List ℕ) (sent in_hand : List (List ℕ)) (old now : PassView Item Fill T) (p q : Progress) → IsUnderway r read sent [] in_hand old now p
-    → IsSplitSoFar more (sent ++ in_hand) q.splitter → q.taken ≡ p.taken → q.packets ≡ p.packets → q.idle ≡ p.idle → q.routed ≡ p.routed → IsUnderway r more sent [] in_hand old now q
+pub same_but_waiting : {T told : Type 0} (r : Receiving) (read more : List ℕ) (sent in_hand : List (List ℕ)) (old now : PassView Item Fill T) (p q : Progress) → IsUnderway told r read sent [] in_hand old now p
+    → IsSplitSoFar more (sent ++ in_hand) q.splitter → q.taken ≡ p.taken → q.packets ≡ p.packets → q.idle ≡ p.idle → q.routed ≡ p.routed → IsUnderway told r more sent [] in_hand old now q
 same_but_waiting r read more sent in_hand old now p q u split taken packets idle routed = record {
   alone = u.alone;
   split = split;
@@ -83,9 +84,9 @@ same_but_waiting r read more sent in_hand old now p q u split taken packets idle
 }
 
 -- a piece more was read
-pub underway_fed : {T : Type 0} (r : Receiving) (read piece : List ℕ) (sent in_hand : List (List ℕ)) (old now : PassView Item Fill T) (p q : Progress) → IsUnderway r read sent [] in_hand old now p
+pub underway_fed : {T told : Type 0} (r : Receiving) (read piece : List ℕ) (sent in_hand : List (List ℕ)) (old now : PassView Item Fill T) (p q : Progress) → IsUnderway told r read sent [] in_hand old now p
     → q.splitter ≡ record { at = p.splitter.at; octets = p.splitter.octets ++ piece } → q.taken ≡ p.taken → q.packets ≡ p.packets → q.idle ≡ p.idle → q.routed ≡ p.routed
-    → IsUnderway r (read ++ piece) sent [] in_hand old now q
+    → IsUnderway told r (read ++ piece) sent [] in_hand old now q
 underway_fed r read piece sent in_hand old now p q u fed taken packets idle routed =
     same_but_waiting r read (read ++ piece) sent in_hand old now p q u (fed_more read (sent ++ in_hand) p.splitter piece q.splitter u.split fed) taken packets idle routed
 
@@ -100,8 +101,8 @@ pub taken_at : (head : Head) (route : List RouteStatement) (link : ℕ) (moment 
 taken_at head route link moment old new before after is t = subst (λ (m : ℤ). HasTakenWaiting (receiving head [] route link m) old new before after) is t
 
 -- whole batches were taken ahead
-pub underway_ahead : {T : Type 0} (r : Receiving) (read : List ℕ) (sent in_hand : List (List ℕ)) (old now : PassView Item Fill T) (batches : List NextBatch) (p q : Progress) → IsUnderway r read sent [] in_hand old now p
-    → (t : HasTakenAhead (behind_none r) in_hand p.splitter q.splitter q.taken batches) → q.packets ≡ p.packets → q.idle ≡ p.idle → q.routed ≡ p.routed → IsUnderway r read sent (packets_of t.groups) t.in_hand old now q
+pub underway_ahead : {T told : Type 0} (r : Receiving) (read : List ℕ) (sent in_hand : List (List ℕ)) (old now : PassView Item Fill T) (batches : List NextBatch) (p q : Progress) → IsUnderway told r read sent [] in_hand old now p
+    → (t : HasTakenAhead (behind_none r) in_hand p.splitter q.splitter q.taken batches) → q.packets ≡ p.packets → q.idle ≡ p.idle → q.routed ≡ p.routed → IsUnderway told r read sent (packets_of t.groups) t.in_hand old now q
 underway_ahead r read sent in_hand old now batches p q u t packets idle routed = record {
   alone = u.alone;
   split = t.split read sent u.split;
@@ -117,8 +118,8 @@ underway_ahead r read sent in_hand old now batches p q u t packets idle routed =
 }
 
 -- what was in hand is ahead, and nothing is in hand
-pub underway_batched : {T : Type 0} (r : Receiving) (read : List ℕ) (sent in_hand : List (List ℕ)) (old now : PassView Item Fill T) (p q : Progress) → IsUnderway r read sent [] in_hand old now p → q.splitter ≡ p.splitter
-    → IsTakenFor (behind_none r) [] q.taken → q.packets ≡ p.packets → q.idle ≡ p.idle → q.routed ≡ p.routed → IsUnderway r read sent (in_hand ++ []) [] old now q
+pub underway_batched : {T told : Type 0} (r : Receiving) (read : List ℕ) (sent in_hand : List (List ℕ)) (old now : PassView Item Fill T) (p q : Progress) → IsUnderway told r read sent [] in_hand old now p → q.splitter ≡ p.splitter
+    → IsTakenFor (behind_none r) [] q.taken → q.packets ≡ p.packets → q.idle ≡ p.idle → q.routed ≡ p.routed → IsUnderway told r read sent (in_hand ++ []) [] old now q
 underway_batched r read sent in_hand old now p q u waits none packets idle routed = record {
   alone = u.alone;
   split = subst (λ (l : List (List ℕ)). IsSplitSoFar read (sent ++ l) q.splitter) (sym (append-nil (in_hand ++ []) ∙ append-nil in_hand)) (subst (IsSplitSoFar read (sent ++ in_hand)) (sym waits) u.split);
@@ -140,8 +141,8 @@ as_if p batch front behind = record p { splitter = record { at = length (concat 
 packets_behind : (sent packets ahead in_hand : List (List ℕ)) → (sent ++ packets) ++ (ahead ++ in_hand) ≡ sent ++ ((packets ++ ahead) ++ in_hand)
 packets_behind sent packets ahead in_hand = append_assoc sent packets (ahead ++ in_hand) ∙ ap (λ (l : List (List ℕ)). sent ++ l) (sym (append_assoc packets ahead in_hand))
 
-underway_first : {T : Type 0} (r : Receiving) (read : List ℕ) (sent packets ahead in_hand : List (List ℕ)) (old now : PassView Item Fill T) (p : Progress) (batch : NextBatch)
-    → IsUnderway r read sent (packets ++ ahead) in_hand old now p → IsTakenFor (behind_none r) packets batch → IsUnderway r read sent [] packets old now (as_if p batch (sent ++ packets) (ahead ++ in_hand))
+underway_first : {T told : Type 0} (r : Receiving) (read : List ℕ) (sent packets ahead in_hand : List (List ℕ)) (old now : PassView Item Fill T) (p : Progress) (batch : NextBatch)
+    → IsUnderway told r read sent (packets ++ ahead) in_hand old now p → IsTakenFor (behind_none r) packets batch → IsUnderway told r read sent [] packets old now (as_if p batch (sent ++ packets) (ahead ++ in_hand))
 underway_first r read sent packets ahead in_hand old now p batch u taken = record {
   alone = u.alone;
   split = split_front read (sent ++ packets) (ahead ++ in_hand) p.splitter (subst (λ (l : List (List ℕ)). IsSplitSoFar read l p.splitter) (sym (packets_behind sent packets ahead in_hand)) u.split);
@@ -194,8 +195,8 @@ within_sent r ahead batch p q hand most over w waits same packets idle routed =
     }
 
 -- where nothing is in hand, there are no packets in it
-pub none_in_hand : {T : Type 0} (r : Receiving) (read : List ℕ) (sent in_hand : List (List ℕ)) (old now : PassView Item Fill T) (p : Progress) → IsUnderway r read sent [] in_hand old now p → length in_hand ≡ 0
-    → IsUnderway r read sent [] [] old now p
+pub none_in_hand : {T told : Type 0} (r : Receiving) (read : List ℕ) (sent in_hand : List (List ℕ)) (old now : PassView Item Fill T) (p : Progress) → IsUnderway told r read sent [] in_hand old now p → length in_hand ≡ 0
+    → IsUnderway told r read sent [] [] old now p
 none_in_hand r read sent [] old now p u none = u
 none_in_hand r read sent (q ∷ qs) old now p u none = absurd (omega (arith, none))
 
@@ -216,46 +217,49 @@ groups_sent r sent groups batches whole t =
 
 -- ---- answers
 
-module _ {D T : Type 0} (first : StoreView D) (r : Receiving) (read : List ℕ) (origin now : PassView Item Fill T) (p : Progress) (seen : origin.history.seen ≡ r.history) where
+module _ {D T : Type 0} (device : Device D) (first : StoreView D) (r : Receiving) (read : List ℕ) (origin now : PassView Item Fill T) (p : Progress) (seen : origin.history.seen ≡ r.history) where
   -- memory was wanting before a batch
-  pub answered_no_memory : IsOn r read origin now p → IsAnswered first read r origin now (Err refused.OutOfMemory)
+  pub answered_no_memory : IsOn (TellsRows device first) r read origin now p → IsAnswered device first read r origin now (Err refused.OutOfMemory)
   answered_no_memory (sent, in_hand, whole, u) =
-      sent_no_memory first read r origin sent (length (concat sent)) p.packets p.idle p.routed (sent_taken r read sent in_hand origin now p u whole) now u.so_far u.silent u.turns
+      sent_no_memory device first read r origin sent (length (concat sent)) p.packets p.idle p.routed (sent_taken r read sent in_hand origin now p u whole) now u.so_far u.silent u.turns
 
   -- the turn of what is in hand was refused
-  refused_in_hand : (device : Device D) (sent in_hand : List (List ℕ)) (new : PassView Item Fill T) (refusal : Refusal) → AreBatches sent → (u : IsUnderway r read sent [] in_hand origin now p)
-      → (length in_hand < 64 → BeginsWithNoPacket p.splitter.octets) → TookTurn device first now new (SaysIngested device (batch_rows p.taken.batch) (Err refusal)) → IsAnswered first read r origin new (Err refusal)
-  refused_in_hand device sent in_hand new refusal whole u last turn =
+  refused_in_hand : (sent in_hand : List (List ℕ)) (new : PassView Item Fill T) (refusal : Refusal) → AreBatches sent → (u : IsUnderway (TellsRows device first) r read sent [] in_hand origin now p)
+      → (length in_hand < 64 → BeginsWithNoPacket p.splitter.octets) → TookTurn device first now new (SaysIngested device (batch_rows p.taken.batch) (Err refusal)) → IsAnswered device first read r origin new (Err refusal)
+  refused_in_hand sent in_hand new refusal whole u last turn =
       let next = in_hand_next r read sent in_hand origin now p u seen in
       let count = u.taken.count in
-      batch_refused first read r origin sent (length (concat sent)) p.packets p.idle p.routed (sent_taken r read sent in_hand origin now p u whole) now u.so_far u.silent u.turns device new p.splitter.at p.taken next refusal
+      batch_refused device first read r origin sent (length (concat sent)) p.packets p.idle p.routed (sent_taken r read sent in_hand origin now p u whole) now u.so_far u.silent u.turns new p.splitter.at p.taken next refusal
       (λ few. none_behind_it r read sent in_hand origin now p u (last (omega (arith, few, count)))) turn
 
   -- all of it was sent
-  pub answered_all : (sent : List (List ℕ)) → IsUnderway r read sent [] [] origin now p → BeginsWithNoPacket p.splitter.octets → IsAnswered first read r origin now (Ok (summary_of p))
+  pub answered_all : (sent : List (List ℕ)) → IsUnderway (TellsRows device first) r read sent [] [] origin now p → BeginsWithNoPacket p.splitter.octets → IsAnswered device first read r origin now (Ok (summary_of p))
   answered_all sent u none =
       let front = rest_of_split read sent (record { at = length (concat sent); octets = p.splitter.octets }) (split_front read sent [] p.splitter u.split) in
       let none_more = subst BeginsWithNoPacket (sym front) none in
       let whole = rest_of_split read (sent ++ []) p.splitter u.split in
-      all_sent first read r origin sent (length (concat sent)) p.packets p.idle p.routed (taken_by r read sent [] origin now p u (inr none_more)) now u.so_far u.silent u.turns
+      all_sent device first read r origin sent (length (concat sent)) p.packets p.idle p.routed (taken_by r read sent [] origin now p u (inr none_more)) now u.so_far u.silent u.turns
       p.splitter.at p.taken (why_of p.splitter.octets) (in_hand_next r read sent [] origin now p u seen) u.taken.count (λ few. none_behind_it r read sent [] origin now p u none) (ap why_of (sym whole))
 
 -- ---- a turn
 
-module _ {D T : Type 0} (r : Receiving) (read : List ℕ) (origin now : PassView Item Fill T) (p : Progress) (seen : origin.history.seen ≡ r.history) (batch : NextBatch) (sent packets ahead in_hand : List (List ℕ))
-    (whole : AreBatches sent) (t : IsTakenFor (behind_none r) packets batch) (u : IsUnderway r read sent (packets ++ ahead) in_hand origin now p) where
+module _ {D T : Type 0} (device : Device D) (first : StoreView D) (r : Receiving) (read : List ℕ) (origin now : PassView Item Fill T) (p : Progress) (seen : origin.history.seen ≡ r.history) (batch : NextBatch) (sent packets ahead in_hand : List (List ℕ))
+    (whole : AreBatches sent) (t : IsTakenFor (behind_none r) packets batch) (u : IsUnderway (TellsRows device first) r read sent (packets ++ ahead) in_hand origin now p) where
   -- that of the batch that comes next was refused
-  pub answered_refused : (first : StoreView D) (device : Device D) (new : PassView Item Fill T) (refusal : Refusal) → (length packets < 64 → (ahead ++ in_hand ≡ []) × BeginsWithNoPacket p.splitter.octets)
-      → TookTurn device first now new (SaysIngested device (batch_rows batch.batch) (Err refusal)) → IsAnswered first read r origin new (Err refusal)
-  answered_refused first device new refusal last turn =
-      refused_in_hand first r read origin now (as_if p batch (sent ++ packets) (ahead ++ in_hand)) seen device sent packets new refusal whole (underway_first r read sent packets ahead in_hand origin now p batch u t)
+  pub answered_refused : (new : PassView Item Fill T) (refusal : Refusal) → (length packets < 64 → (ahead ++ in_hand ≡ []) × BeginsWithNoPacket p.splitter.octets)
+      → TookTurn device first now new (SaysIngested device (batch_rows batch.batch) (Err refusal)) → IsAnswered device first read r origin new (Err refusal)
+  answered_refused new refusal last turn =
+      refused_in_hand device first r read origin now (as_if p batch (sent ++ packets) (ahead ++ in_hand)) seen sent packets new refusal whole (underway_first r read sent packets ahead in_hand origin now p batch u t)
       (λ few. let none = last few in subst (λ (l : List (List ℕ)). BeginsWithNoPacket (concat l ++ p.splitter.octets)) (sym none.0) none.1) turn
 
+module _ {T told : Type 0} (r : Receiving) (read : List ℕ) (origin now : PassView Item Fill T) (p : Progress) (seen : origin.history.seen ≡ r.history) (batch : NextBatch) (sent packets ahead in_hand : List (List ℕ))
+    (whole : AreBatches sent) (t : IsTakenFor (behind_none r) packets batch) (u : IsUnderway told r read sent (packets ++ ahead) in_hand origin now p) where
   -- it was sent, and is counted
-  pub underway_sent : (before : StoreView D) (new : PassView Item Fill T) (q : Progress) (noted : List Fill) → AddsTo before now new (items_of (fresh_of before.history (batch_rows batch.batch))) noted → noted ≡ []
+  pub underway_sent : {D : Type 0} (before : StoreView D) (new : PassView Item Fill T) (q : Progress) (fresh : List Row) (noted : List Fill) → AllByRecursion (Contains (batch_rows batch.batch)) fresh → length fresh ≤ length (batch_rows batch.batch)
+      → (told → fresh ≡ fresh_of before.history (batch_rows batch.batch)) → AddsTo before now new (items_of fresh) noted → noted ≡ []
       → 0 < batch.packets → q.splitter ≡ p.splitter → q.taken ≡ p.taken → q.packets ≡ p.packets + batch.packets → q.idle ≡ p.idle + (batch.packets - length batch.batch.arrivals)
-      → q.routed ≡ p.routed + length (batch_rows batch.batch) → IsUnderway r read (sent ++ packets) ahead in_hand origin new q
-  underway_sent before new q noted adds none some waits same of_new idle routed =
+      → q.routed ≡ p.routed + length (batch_rows batch.batch) → IsUnderway told r read (sent ++ packets) ahead in_hand origin new q
+  underway_sent before new q fresh noted are fewer known adds none some waits same of_new idle routed =
       let here = taken_here r read sent packets origin now (as_if p batch (sent ++ packets) (ahead ++ in_hand)) (underway_first r read sent packets ahead in_hand origin now p batch u t) seen in
       let c = u.counted in
       let of_packets = c.of_packets in
@@ -272,7 +276,7 @@ module _ {D T : Type 0} (r : Receiving) (read : List ℕ) (origin now : PassView
         alone = u.alone;
         split = subst (IsSplitSoFar read ((sent ++ packets) ++ (ahead ++ in_hand))) (sym waits) (subst (λ (l : List (List ℕ)). IsSplitSoFar read l p.splitter) (sym (packets_behind sent packets ahead in_hand)) u.split);
         taken = subst (IsTakenFor (behind_none r) in_hand) (sym same) u.taken;
-        so_far = sent_more r before origin now new sent packets (batch_rows batch.batch) noted here.batch.rows adds u.so_far;
+        so_far = sent_more r before origin now new sent packets (batch_rows batch.batch) fresh noted here.batch.rows are fewer known adds u.so_far;
         silent = adds.fills.places ∙ (ap (λ (l : List Fill). now.fills.places ++ range_with_len (length before.fills) (length l)) none ∙ (append-nil now.fills.places ∙ u.silent));
         turns = omega (arith, batches, had, count, some, one, more);
         counted = record {
@@ -288,16 +292,16 @@ module _ {D T : Type 0} (r : Receiving) (read : List ℕ) (origin now : PassView
 
 -- ---- turns one behind the other
 
-module _ {T : Type 0} (r : Receiving) (read : List ℕ) (batches : List NextBatch) (all in_hand : List (List ℕ)) (origin now : PassView Item Fill T) (p : Progress) (on : IsOnAhead r read batches all in_hand origin now p) where
+module _ {T told : Type 0} (r : Receiving) (read : List ℕ) (batches : List NextBatch) (all in_hand : List (List ℕ)) (origin now : PassView Item Fill T) (p : Progress) (on : IsOnAhead told r read batches all in_hand origin now p) where
   -- all were sent
-  pub all_ahead_sent : length batches ≡ 0 → IsUnderway r read all [] in_hand origin now p
+  pub all_ahead_sent : length batches ≡ 0 → IsUnderway told r read all [] in_hand origin now p
   all_ahead_sent none = go on.1 on.4 on.5 (packets_of_groups (behind_none r) on.1 batches on.3)
     where
-      go : (groups : List (List (List ℕ))) → on.0 ++ packets_of groups ≡ all → IsUnderway r read on.0 (packets_of groups) in_hand origin now p → length (packets_of groups) ≡ 64 * length batches → IsUnderway r read all [] in_hand origin now p
+      go : (groups : List (List (List ℕ))) → on.0 ++ packets_of groups ≡ all → IsUnderway told r read on.0 (packets_of groups) in_hand origin now p → length (packets_of groups) ≡ 64 * length batches → IsUnderway told r read all [] in_hand origin now p
       go groups same u count = rest (packets_of groups) same u (omega (arith, count, none))
         where
-          rest : (ahead : List (List ℕ)) → on.0 ++ ahead ≡ all → IsUnderway r read on.0 ahead in_hand origin now p → length ahead ≡ 0 → IsUnderway r read all [] in_hand origin now p
-          rest [] same u none = subst (λ (l : List (List ℕ)). IsUnderway r read l [] in_hand origin now p) (sym (append-nil on.0) ∙ same) u
+          rest : (ahead : List (List ℕ)) → on.0 ++ ahead ≡ all → IsUnderway told r read on.0 ahead in_hand origin now p → length ahead ≡ 0 → IsUnderway told r read all [] in_hand origin now p
+          rest [] same u none = subst (λ (l : List (List ℕ)). IsUnderway told r read l [] in_hand origin now p) (sym (append-nil on.0) ∙ same) u
           rest (q ∷ qs) same u none = absurd (omega (arith, none))
 
   module _ (batch : NextBatch) (left : List NextBatch) (is : batches ≡ batch ∷ left) where
@@ -305,14 +309,14 @@ module _ {T : Type 0} (r : Receiving) (read : List ℕ) (batches : List NextBatc
     next_group : (packets : List (List ℕ)) × (more : List (List (List ℕ))) × (on.1 ≡ packets ∷ more) × (length packets ≡ 64) × IsTakenFor (behind_none r) packets batch × AreTakenFor (behind_none r) more left
     next_group = taken_next (behind_none r) on.1 batches left batch on.3 is
 
-    next_underway : IsUnderway r read on.0 (next_group.0 ++ packets_of next_group.1) in_hand origin now p
-    next_underway = subst (λ (l : List (List ℕ)). IsUnderway r read on.0 l in_hand origin now p) (ap packets_of next_group.2) on.5
+    next_underway : IsUnderway told r read on.0 (next_group.0 ++ packets_of next_group.1) in_hand origin now p
+    next_underway = subst (λ (l : List (List ℕ)). IsUnderway told r read on.0 l in_hand origin now p) (ap packets_of next_group.2) on.5
 
     -- it was sent
     pub one_sent : (new : PassView Item Fill T) (q : Progress)
-        → ((sent packets ahead in_hand : List (List ℕ)) → AreBatches sent → IsTakenFor (behind_none r) packets batch → IsUnderway r read sent (packets ++ ahead) in_hand origin now p
-        → IsUnderway r read (sent ++ packets) ahead in_hand origin new q)
-        → IsOnAhead r read left all in_hand origin new q
+        → ((sent packets ahead in_hand : List (List ℕ)) → AreBatches sent → IsTakenFor (behind_none r) packets batch → IsUnderway told r read sent (packets ++ ahead) in_hand origin now p
+        → IsUnderway told r read (sent ++ packets) ahead in_hand origin new q)
+        → IsOnAhead told r read left all in_hand origin new q
     one_sent new q sends =
         let n = next_group in (
           on.0 ++ n.0,
@@ -324,19 +328,19 @@ module _ {T : Type 0} (r : Receiving) (read : List ℕ) (batches : List NextBatc
         )
 
     -- its turn was refused
-    pub one_refused : {D : Type 0} {refusal : Refusal} (first : StoreView D) (new : PassView Item Fill T)
+    pub one_refused : {D : Type 0} {refusal : Refusal} (device : Device D) (first : StoreView D) (new : PassView Item Fill T)
         → ((sent packets ahead in_hand : List (List ℕ)) → AreBatches sent → IsTakenFor (behind_none r) packets batch → (length packets < 64 → (ahead ++ in_hand ≡ []) × BeginsWithNoPacket p.splitter.octets)
-        → IsUnderway r read sent (packets ++ ahead) in_hand origin now p → IsAnswered first read r origin new (Err refusal))
-        → IsAnswered first read r origin new (Err refusal)
-    one_refused first new refuses =
+        → IsUnderway told r read sent (packets ++ ahead) in_hand origin now p → IsAnswered device first read r origin new (Err refusal))
+        → IsAnswered device first read r origin new (Err refusal)
+    one_refused device first new refuses =
         let n = next_group in
         let full = n.3 in
         refuses on.0 n.0 (packets_of n.1) in_hand on.2 n.4 (λ few. absurd (omega (arith, few, full))) next_underway
 
 -- ---- a link that begins
 
-pub underway_begun : {T : Type 0} (r : Receiving) (pass : PassView Item Fill T) (p : Progress) → databases_in pass.history.seen ≡ [] → pass.history.places ≡ [] → IsClockTime r.moment → HasBegun r.moment p
-    → IsUnderway r [] [] [] [] pass pass p
+pub underway_begun : {T told : Type 0} (r : Receiving) (pass : PassView Item Fill T) (p : Progress) → databases_in pass.history.seen ≡ [] → pass.history.places ≡ [] → IsClockTime r.moment → HasBegun r.moment p
+    → IsUnderway told r [] [] [] [] pass pass p
 underway_begun r pass p alone fresh time b = record {
   alone = alone;
   split = subst (IsSplitSoFar [] []) (sym b.waiting) (record { joined = refl; each = All-nil IsPacket; place = refl });
@@ -372,18 +376,18 @@ begun_waits moment p b =
     (λ q more is e. let header = is.header in let none = ap length e in let both = length-append q more in omega (arith, header, none, both))
 
 -- memory was wanting behind what was read
-pub no_memory_at : {D T : Type 0} (first : StoreView D) (r : Receiving) (left now : Option (List ℕ)) (read : List ℕ) (origin pass : PassView Item Fill T) (p : Progress) → origin.history.seen ≡ r.history → IsTaken left read now
-    → IsBetweenReads r read origin pass p → IsWithinLimit p → IsRefusedAt r left first origin pass refused.OutOfMemory
-no_memory_at first r left now read origin pass p seen taken b within =
+pub no_memory_at : {D T : Type 0} (device : Device D) (first : StoreView D) (r : Receiving) (left now : Option (List ℕ)) (read : List ℕ) (origin pass : PassView Item Fill T) (p : Progress) → origin.history.seen ≡ r.history → IsTaken left read now
+    → IsBetweenReads (TellsRows device first) r read origin pass p → IsWithinLimit p → IsRefusedAt r left device first origin pass refused.OutOfMemory
+no_memory_at device first r left now read origin pass p seen taken b within =
     let all = read_of_split read (b.sent ++ b.in_hand) p.splitter b.underway.split in
     let fits = within.octets in
     record {
       read = read;
       read_of = read_of left now read taken;
       short = omega (arith, all, fits);
-      answered = answered_no_memory first r read origin pass p seen (b.sent, b.in_hand, b.whole, b.underway);
+      answered = answered_no_memory device first r read origin pass p seen (b.sent, b.in_hand, b.whole, b.underway);
     }
 
 -- nor before anything was read
-pub nothing_sent : {D T : Type 0} (first : StoreView D) (r : Receiving) (pass : PassView Item Fill T) → pass.history.places ≡ [] → IsAnswered first [] r pass pass (Err refused.OutOfMemory)
-nothing_sent first r pass fresh = sent_no_memory first [] r pass [] 0 0 0 0 (nothing_taken [] r) pass (sent_none r pass fresh) refl (omega arith)
+pub nothing_sent : {D T : Type 0} (device : Device D) (first : StoreView D) (r : Receiving) (pass : PassView Item Fill T) → pass.history.places ≡ [] → IsAnswered device first [] r pass pass (Err refused.OutOfMemory)
+nothing_sent device first r pass fresh = sent_no_memory device first [] r pass [] 0 0 0 0 (nothing_taken [] r) pass (sent_none r pass fresh) refl (omega arith)

@@ -1,6 +1,7 @@
 -- How a link ends.
 use Rattle.std.specs.Prelude.{◌≡◌, ℕ, ◌<◌, ◌≤◌, List, length, take, Bool, true, false, Option, Some, None, IfSome, Result, Ok, Err}
 use Rattle.std.specs.Result.{result_err}
+use Rattle.arch_disk.specs.Disk.{Device}
 use Rattle.refusals.specs.declared.refusal.BadKind.{BadKind}
 use Rattle.refusals.specs.declared.refusal.BadKind.TheVariants as bad
 use Rattle.refusals.specs.declared.refusal.Refusal.{Refusal}
@@ -97,7 +98,7 @@ IsEndOfReading reading.NoMore (Ok summary) end = IsEndOfSummary summary end
 
 -- ---- the whole
 
-module _ {D T : Type 0} (first : StoreView D) (r : Receiving) (left left' : Option (List ℕ)) where
+module _ {D T : Type 0} (device : Device D) (first : StoreView D) (r : Receiving) (left left' : Option (List ℕ)) where
   -- What became of a link, whose source had these octets left, and has those at its end: these were read of its dump,
   -- their packets were sent by turns that put these rows, and this ended it.
   pub record IsLinkRun (old new : PassView Item Fill T) (end : LinkEnd) : Type 0 where
@@ -108,5 +109,5 @@ module _ {D T : Type 0} (first : StoreView D) (r : Receiving) (left left' : Opti
     pub all_taken : IsAllTaken left left' read end
     pub short : length read ≤ limit_of DumpOctets
     pub answer : Result DumpSummary Refusal
-    pub sent : IsDumpSent first read r put old new answer
+    pub sent : IsDumpSent device first read r put old new answer
     pub ended : IsEndOf answer end

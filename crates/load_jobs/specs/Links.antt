@@ -1,9 +1,10 @@
 -- What the turns of a link put, and what became of its dump.
-use Rattle.std.specs.Prelude.{◌≡◌, ℕ, ◌+◌, ◌/◌, ◌≤◌, List, [], ◌∷◌, ◌++◌, length, slice_get, take, true, IfOk, Option, Some, None, Result}
+use Rattle.std.specs.Prelude.{◌≡◌, ◌⊎◌, ℕ, ◌+◌, ◌/◌, ◌≤◌, List, [], ◌∷◌, ◌++◌, length, slice_get, take, true, IfOk, Option, Some, None, Result}
 use Rattle.std.specs.Result.{result_err}
 use mathlib.Core.List.{IsPrefix}
+use Rattle.arch_disk.specs.Disk.{Device}
 use Rattle.refusals.specs.declared.refusal.Refusal.{Refusal}
-use Rattle.refusals.specs.declared.refusal.Refusal.TheVariants.{DiskFault, Limit, NeedsReopen, OutOfMemory}
+use Rattle.refusals.specs.declared.refusal.Refusal.TheVariants.{Damaged, DiskFault, Limit, NeedsReopen, OutOfMemory}
 use Rattle.refusals.specs.declared.refusal.Which.TheVariants.{Links}
 use Rattle.refusals.specs.Limits.{limit_of}
 use Rattle.arch_types.specs.declared.row.Row.{Row}
@@ -21,8 +22,10 @@ use Rattle.shared_history.specs.Sent.{HasSent}
 use Rattle.shared_history.specs.Turns.{HasPut, LinkWork}
 use Rattle.turn_cell.specs.Pass.{PassView}
 use Rattle.archive_store.specs.Limits.{IsLimit}
+use Rattle.archive_store.specs.Pages.{HasPages, TellsRows}
 use Rattle.archive_store.specs.StoreView.{StoreView}
 use Rattle.live_archive.specs.GoesOn.{dones}
+use Rattle.live_archive.specs.Reads.{IsReadFaultAt}
 use Rattle.load_session.specs.declared.session.DumpSummary.{DumpSummary}
 use Rattle.load_session.specs.Receiving.{IsRouteOver, Receiving, rows_received}
 use Rattle.load_session.specs.Session.{IsBetweenBatches, IsSummary, SessionResult, next_fresh_rows, next_rows}
@@ -54,17 +57,24 @@ pub record HasAdded {T : Type 0} (link : ℕ) (put : List Row) (old new : PassVi
   pub begins : IsPrefix old.history.seen new.history.seen × IsPrefix old.fills.seen new.fills.seen
   pub share : new.share ≡ old.share
 
--- a fault stands at the place: the disk failed at the new rows of the batch in hand
-abbrev pub HoldsBatch : Receiving → SessionResult → List Fill → ℕ → Type 0
-HoldsBatch r s fills place =
-    (count : ℕ) × (slice_get fills place ≡ Some (Fault count true (Rows (next_fresh_rows r s))))
+module _ {D : Type 0} (device : Device D) (first : StoreView D) where
+  -- a fault stands at the place: a write failed at new rows of the batch in hand, which are these where the store
+  -- tells its rows
+  abbrev pub HoldsBatch : Receiving → SessionResult → List Fill → ℕ → Type 0
+  HoldsBatch r s fills place =
+      (count : ℕ) × (rows : List Row) × (slice_get fills place ≡ Some (Fault count true (Rows rows)))
+      × (TellsRows device first → rows ≡ next_fresh_rows r s)
 
--- They noted nothing in the fill list; but where the disk failed, the batch in hand.
-abbrev pub HasNoted : {T : Type 0} → Receiving → SessionResult → PassView Item Fill T → PassView Item Fill T
-    → Option Refusal → Type 0
-HasNoted r s old new (Some DiskFault) =
-    (place : ℕ) × (new.fills.places ≡ old.fills.places ++ place ∷ []) × HoldsBatch r s new.fills.seen place
-HasNoted r s old new other = new.fills.places ≡ old.fills.places
+  -- a fault stands there by which the disk failed at the batch in hand, or, where rows stand in runs, at a read for it
+  abbrev pub FailedAt : Receiving → SessionResult → List Fill → ℕ → Type 0
+  FailedAt r s fills place = HoldsBatch r s fills place ⊎ (HasPages first × IsReadFaultAt fills place)
+
+  -- They noted nothing in the fill list; but where the disk failed, one fault.
+  abbrev pub HasNoted : {T : Type 0} → Receiving → SessionResult → PassView Item Fill T → PassView Item Fill T
+      → Option Refusal → Type 0
+  HasNoted r s old new (Some DiskFault) =
+      (place : ℕ) × (new.fills.places ≡ old.fills.places ++ place ∷ []) × FailedAt r s new.fills.seen place
+  HasNoted r s old new other = new.fills.places ≡ old.fills.places
 
 -- how many batches of 64 so many packets are
 abbrev pub batches_of : ℕ → ℕ
@@ -84,31 +94,36 @@ IsRecordedIn first pass records =
     ≤ first.records + length pass.history.seen + dones pass.fills.seen
 
 -- Why the sending ended: all packets were sent; or the batch in hand passes a limit, a failed write is pending, the
--- disk failed, or there was no memory.
-abbrev pub IsSendingEnd : {D T : Type 0} → StoreView D → Receiving → SessionResult → PassView Item Fill T
+-- disk failed, a page broke its format, which never comes where the store tells its rows, or there was no memory.
+-- Where it doesn't, nothing is said of a limit.
+abbrev pub IsSendingEnd : {D T : Type 0} → Device D → StoreView D → Receiving → SessionResult → PassView Item Fill T
     → Option Refusal → Type 0
-IsSendingEnd first r s pass None = s.place ≡ length s.packets
-IsSendingEnd first r s pass (Some (Limit which number)) =
-    (number ≡ limit_of which)
+IsSendingEnd device first r s pass None = s.place ≡ length s.packets
+IsSendingEnd device first r s pass (Some (Limit which number)) =
+    TellsRows device first → (number ≡ limit_of which)
     × ((records : ℕ) × IsRecordedIn first pass records
     × IsLimit first.exponent which records (after_rows s.reached (next_rows r s)))
-IsSendingEnd first r s pass (Some (NeedsReopen faults)) = pending_fault_of pass.fills.seen ≡ Some faults
-IsSendingEnd first r s pass (Some DiskFault) = Unit {0}
-IsSendingEnd first r s pass (Some OutOfMemory) = Unit {0}
-IsSendingEnd first r s pass (Some other) = ⊥
+IsSendingEnd device first r s pass (Some (NeedsReopen faults)) = pending_fault_of pass.fills.seen ≡ Some faults
+IsSendingEnd device first r s pass (Some DiskFault) = Unit {0}
+IsSendingEnd device first r s pass (Some (Damaged file at)) = TellsRows device first → ⊥
+IsSendingEnd device first r s pass (Some OutOfMemory) = Unit {0}
+IsSendingEnd device first r s pass (Some other) = ⊥
 
--- The packets of a dump were sent, batch by batch, up to where the sending ended, and it was answered so. What was
--- put is some of the first of each table and key of their rows, and the table and key of each are in the history.
-pub record IsDumpSent {D T : Type 0} (first : StoreView D) (dump : List ℕ) (r : Receiving) (put : List Row)
-    (old new : PassView Item Fill T) (answer : Result DumpSummary Refusal) : Type 0 where
+-- The packets of a dump were sent, batch by batch, up to where the sending ended, and it was answered so. Where the
+-- store tells its rows, what was put is some of the first of each table and key of the packets' rows, and the table
+-- and key of each are in the history; there are never more.
+pub record IsDumpSent {D T : Type 0} (device : Device D) (first : StoreView D) (dump : List ℕ) (r : Receiving)
+    (put : List Row) (old new : PassView Item Fill T) (answer : Result DumpSummary Refusal) : Type 0 where
   pub came_to : SessionResult
   pub parts : IsDump dump came_to.packets came_to.rest
   pub within : came_to.place ≤ length came_to.packets
   pub between : IsBetweenBatches came_to.place came_to.packets
   pub reached : came_to.reached ≡ new.history.seen
-  pub sent : HasSent (rows_received r (take came_to.place came_to.packets)) new.history.seen put
-  pub noted : HasNoted r came_to old new came_to.refusal
+  pub few : length put ≤ length (rows_received r (take came_to.place came_to.packets))
+  pub sent : TellsRows device first →
+      HasSent (rows_received r (take came_to.place came_to.packets)) new.history.seen put
+  pub noted : HasNoted device first r came_to old new came_to.refusal
   pub turned : HasTurned came_to.place old new came_to.refusal
-  pub cause : IsSendingEnd first r came_to new came_to.refusal
+  pub cause : IsSendingEnd device first r came_to new came_to.refusal
   pub answer_is : came_to.refusal ≡ result_err answer
   pub summary : IfOk answer (IsSummary dump r came_to)

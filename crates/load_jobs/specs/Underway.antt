@@ -1,5 +1,6 @@
 -- A link between its turns.
 use Rattle.std.specs.Prelude.{◌≡◌, ℕ, ℤ, ◌+◌, ◌*◌, ◌<◌, ◌≤◌, List, [], ◌∷◌, ◌++◌, flat_map, length, Option, Result, Err}
+use Rattle.arch_disk.specs.Disk.{Device}
 use Rattle.arch_types.specs.declared.row.Row.{Row}
 use Rattle.arch_types.specs.Dump.{BeginsWithNoPacket}
 use Rattle.refusals.specs.declared.refusal.Refusal.{Refusal}
@@ -12,6 +13,7 @@ use Rattle.shared_history.specs.Sent.{HasSent}
 use Rattle.space_packet.specs.Rest.{why_of}
 use Rattle.space_packet.specs.Waiting.{IsSplitSoFar, Waiting}
 use Rattle.turn_cell.specs.Pass.{PassView}
+use Rattle.archive_store.specs.Pages.{TellsRows}
 use Rattle.archive_store.specs.StoreView.{StoreView}
 use Rattle.load_session.specs.declared.batches.NextBatch.{NextBatch}
 use Rattle.load_session.specs.declared.session.DumpSummary.{DumpSummary}
@@ -24,12 +26,13 @@ use Rattle.load_jobs.specs.Reading.{IsReadOf, IsReadingEnd}
 
 -- ---- what was sent
 
--- the rows of these packets were sent
-pub record IsSentSoFar {T : Type 0} (r : Receiving) (packets : List (List ℕ)) (old now : PassView Item Fill T)
-    : Type 0 where
+-- the rows of these packets were sent, as far as that is told
+pub record IsSentSoFar {T : Type 0} (told : Type 0) (r : Receiving) (packets : List (List ℕ))
+    (old now : PassView Item Fill T) : Type 0 where
   pub put : List Row
   pub added : HasAdded r.link put old now
-  pub has_sent : HasSent (rows_received r packets) now.history.seen put
+  pub few : length put ≤ length (rows_received r packets)
+  pub has_sent : told → HasSent (rows_received r packets) now.history.seen put
 
 -- a turn was taken for each batch
 abbrev pub IsATurnEach : ℕ → ℕ → List (List ℕ) → Type 0
@@ -111,22 +114,22 @@ pub record HasTakenAhead (r : Receiving) (had : List (List ℕ)) (old new : Wait
 
 -- Of the octets that were read, these packets were sent, these behind them were taken ahead, and these are in hand;
 -- behind those octets wait. Nothing was noted in the fill list, and nothing had added a database before.
-pub record IsUnderway {T : Type 0} (r : Receiving) (read : List ℕ) (sent ahead in_hand : List (List ℕ))
-    (old now : PassView Item Fill T) (p : Progress) : Type 0 where
+pub record IsUnderway {T : Type 0} (told : Type 0) (r : Receiving) (read : List ℕ)
+    (sent ahead in_hand : List (List ℕ)) (old now : PassView Item Fill T) (p : Progress) : Type 0 where
   pub alone : databases_in old.history.seen ≡ []
   pub split : IsSplitSoFar read (sent ++ (ahead ++ in_hand)) p.splitter
   pub taken : IsTakenFor (behind_none r) in_hand p.taken
-  pub so_far : IsSentSoFar r sent old now
+  pub so_far : IsSentSoFar told r sent old now
   pub silent : now.fills.places ≡ old.fills.places
   pub turns : IsATurnEach old.turns now.turns sent
   pub counted : AreCounted r sent p
 
 -- so it is between two reads: whole batches were sent, none is ahead, and no packet waits whole
-pub record IsBetweenReads {T : Type 0} (r : Receiving) (read : List ℕ) (old now : PassView Item Fill T)
+pub record IsBetweenReads {T : Type 0} (told : Type 0) (r : Receiving) (read : List ℕ) (old now : PassView Item Fill T)
     (p : Progress) : Type 0 where
   pub sent : List (List ℕ)
   pub in_hand : List (List ℕ)
-  pub underway : IsUnderway r read sent [] in_hand old now p
+  pub underway : IsUnderway told r read sent [] in_hand old now p
   pub whole : AreBatches sent
   pub none_waits : BeginsWithNoPacket p.splitter.octets
 
@@ -143,10 +146,10 @@ summary_of p = record {
 -- ---- how it ends
 
 -- its turns put rows, and this became of what was read of its dump
-abbrev pub IsAnswered : {D T : Type 0} → StoreView D → List ℕ → Receiving → PassView Item Fill T
+abbrev pub IsAnswered : {D T : Type 0} → Device D → StoreView D → List ℕ → Receiving → PassView Item Fill T
     → PassView Item Fill T → Result DumpSummary Refusal → Type 0
-IsAnswered first read r old new answer =
-    (put : List Row) × HasAdded r.link put old new × IsDumpSent first read r put old new answer
+IsAnswered device first read r old new answer =
+    (put : List Row) × HasAdded r.link put old new × IsDumpSent device first read r put old new answer
 
 -- ---- what its calls do, whatever was read and sent before
 
@@ -156,57 +159,57 @@ TakesAhead r before after batches = (had : List (List ℕ)) → IsTakenFor (behi
     → HasTakenAhead (behind_none r) had before.splitter after.splitter after.taken batches
 
 -- a batch was sent by a turn, and is counted
-abbrev pub SendsBatch : {T : Type 0} → Receiving → NextBatch → PassView Item Fill T → PassView Item Fill T → Progress
-    → Progress → Type 0
-SendsBatch {T = T} r batch old new before after =
+abbrev pub SendsBatch : {T : Type 0} → Type 0 → Receiving → NextBatch → PassView Item Fill T → PassView Item Fill T
+    → Progress → Progress → Type 0
+SendsBatch {T = T} told r batch old new before after =
     (origin : PassView Item Fill T) (read : List ℕ) (sent packets ahead in_hand : List (List ℕ)) → AreBatches sent
     → IsTakenFor (behind_none r) packets batch
-    → IsUnderway (behind r origin) read sent (packets ++ ahead) in_hand origin old before
-    → IsUnderway (behind r origin) read (sent ++ packets) ahead in_hand origin new after
+    → IsUnderway told (behind r origin) read sent (packets ++ ahead) in_hand origin old before
+    → IsUnderway told (behind r origin) read (sent ++ packets) ahead in_hand origin new after
 
 -- its turn was refused, where it is a whole batch or no packet is behind it
-abbrev pub RefusesBatch : {D T : Type 0} → StoreView D → Receiving → NextBatch → PassView Item Fill T
+abbrev pub RefusesBatch : {D T : Type 0} → Device D → StoreView D → Receiving → NextBatch → PassView Item Fill T
     → PassView Item Fill T → Progress → Refusal → Type 0
-RefusesBatch {T = T} first r batch old new before refusal =
+RefusesBatch {T = T} device first r batch old new before refusal =
     (origin : PassView Item Fill T) (read : List ℕ) (sent packets ahead in_hand : List (List ℕ)) → AreBatches sent
     → IsTakenFor (behind_none r) packets batch
     → (length packets < 64 → (ahead ++ in_hand ≡ []) × BeginsWithNoPacket before.splitter.octets)
-    → IsUnderway (behind r origin) read sent (packets ++ ahead) in_hand origin old before
-    → IsAnswered first read (behind r origin) origin new (Err refusal)
+    → IsUnderway (TellsRows device first) (behind r origin) read sent (packets ++ ahead) in_hand origin old before
+    → IsAnswered device first read (behind r origin) origin new (Err refusal)
 
 -- batches that were taken ahead were sent, each by a turn, and are counted
-abbrev pub SendsAhead : {T : Type 0} → Receiving → List NextBatch → PassView Item Fill T → PassView Item Fill T
-    → Progress → Progress → Type 0
-SendsAhead {T = T} r batches old new before after =
+abbrev pub SendsAhead : {T : Type 0} → Type 0 → Receiving → List NextBatch → PassView Item Fill T
+    → PassView Item Fill T → Progress → Progress → Type 0
+SendsAhead {T = T} told r batches old new before after =
     (origin : PassView Item Fill T) (read : List ℕ) (sent : List (List ℕ)) (groups : List (List (List ℕ)))
     (in_hand : List (List ℕ)) → AreBatches sent → AreTakenFor (behind_none r) groups batches
-    → IsUnderway (behind r origin) read sent (packets_of groups) in_hand origin old before
-    → IsUnderway (behind r origin) read (sent ++ packets_of groups) [] in_hand origin new after
+    → IsUnderway told (behind r origin) read sent (packets_of groups) in_hand origin old before
+    → IsUnderway told (behind r origin) read (sent ++ packets_of groups) [] in_hand origin new after
 
 -- the turn of one of them was refused: those behind it are as if they had not been taken
-abbrev pub RefusesAhead : {D T : Type 0} → StoreView D → Receiving → List NextBatch → PassView Item Fill T
+abbrev pub RefusesAhead : {D T : Type 0} → Device D → StoreView D → Receiving → List NextBatch → PassView Item Fill T
     → PassView Item Fill T → Progress → Refusal → Type 0
-RefusesAhead {T = T} first r batches old new before refusal =
+RefusesAhead {T = T} device first r batches old new before refusal =
     (origin : PassView Item Fill T) (read : List ℕ) (sent : List (List ℕ)) (groups : List (List (List ℕ)))
     (in_hand : List (List ℕ)) → AreBatches sent → AreTakenFor (behind_none r) groups batches
-    → IsUnderway (behind r origin) read sent (packets_of groups) in_hand origin old before
-    → IsAnswered first read (behind r origin) origin new (Err refusal)
+    → IsUnderway (TellsRows device first) (behind r origin) read sent (packets_of groups) in_hand origin old before
+    → IsAnswered device first read (behind r origin) origin new (Err refusal)
 
 -- what waited was taken in hand, and sent but for fewer packets than a batch takes
-abbrev pub SendsWaiting : {T : Type 0} → Receiving → PassView Item Fill T → PassView Item Fill T → Progress → Progress
-    → Type 0
-SendsWaiting {T = T} r old new before after =
+abbrev pub SendsWaiting : {T : Type 0} → Type 0 → Receiving → PassView Item Fill T → PassView Item Fill T → Progress
+    → Progress → Type 0
+SendsWaiting {T = T} told r old new before after =
     (origin : PassView Item Fill T) (read : List ℕ) (sent in_hand : List (List ℕ)) → AreBatches sent
-    → IsUnderway (behind r origin) read sent [] in_hand origin old before
-    → IsBetweenReads (behind r origin) read origin new after
+    → IsUnderway told (behind r origin) read sent [] in_hand origin old before
+    → IsBetweenReads told (behind r origin) read origin new after
 
 -- the sending was answered so
-abbrev pub EndsSending : {D T : Type 0} → StoreView D → Receiving → PassView Item Fill T → PassView Item Fill T
-    → Progress → Result DumpSummary Refusal → Type 0
-EndsSending {T = T} first r old new before answer =
+abbrev pub EndsSending : {D T : Type 0} → Device D → StoreView D → Receiving → PassView Item Fill T
+    → PassView Item Fill T → Progress → Result DumpSummary Refusal → Type 0
+EndsSending {T = T} device first r old new before answer =
     (origin : PassView Item Fill T) (read : List ℕ) (sent in_hand : List (List ℕ)) → AreBatches sent
-    → IsUnderway (behind r origin) read sent [] in_hand origin old before
-    → IsAnswered first read (behind r origin) origin new answer
+    → IsUnderway (TellsRows device first) (behind r origin) read sent [] in_hand origin old before
+    → IsAnswered device first read (behind r origin) origin new answer
 
 -- ---- what reading its dump comes to
 
@@ -219,18 +222,18 @@ pub record HasBegun (moment : ℤ) (p : Progress) : Type 0 where
 
 module _ {T : Type 0} (r : Receiving) (left : Option (List ℕ)) where
   -- These octets were read, so that those are left, and no more for this reason. What is left to send is in hand.
-  pub record IsSentUpTo (left' : Option (List ℕ)) (old new : PassView Item Fill T) (p : Progress) (end : ReadingEnd)
-      : Type 0 where
+  pub record IsSentUpTo (told : Type 0) (left' : Option (List ℕ)) (old new : PassView Item Fill T) (p : Progress)
+      (end : ReadingEnd) : Type 0 where
     pub read : List ℕ
     pub read_of : IsReadOf left read
     pub short : length read ≤ limit_of DumpOctets
-    pub sent : IsBetweenReads r read old new p
+    pub sent : IsBetweenReads told r read old new p
     pub ends : IsReadingEnd left left' read p.splitter.octets end
 
   -- these octets were read, and the sending of them was refused
-  pub record IsRefusedAt {D : Type 0} (first : StoreView D) (old new : PassView Item Fill T) (refusal : Refusal)
-      : Type 0 where
+  pub record IsRefusedAt {D : Type 0} (device : Device D) (first : StoreView D) (old new : PassView Item Fill T)
+      (refusal : Refusal) : Type 0 where
     pub read : List ℕ
     pub read_of : IsReadOf left read
     pub short : length read ≤ limit_of DumpOctets
-    pub answered : IsAnswered first read r old new (Err refusal)
+    pub answered : IsAnswered device first read r old new (Err refusal)

@@ -2,6 +2,7 @@
 
 ghost use Rattle.std.specs.Prelude.{◌≤◌, IfErr, IfOk, MatchResult, OnOk};
 ghost use Rattle.outer_traits.specs.Outside.{Stays};
+ghost use Rattle.archive_store.specs.Pages.{TellsRows};
 ghost use Rattle.turn_cell.specs.Pass.{IsFree};
 ghost use Rattle.load_session.specs.Receiving.{receiving};
 ghost use Rattle.load_jobs.specs.Ends.{IsLinkRun, IsReadCounted};
@@ -57,7 +58,7 @@ pub fn run_link<D: Disk, S: Source, G: Gate, R: Wait>(
     ensures free { IsFree link.entry.live.now.cell result.pass }
 
     // What became of it, by its end: of the octets that its source had left and has left, and of its own pass.
-    ensures run { IsLinkRun link.entry.live.now.cell.first.store (receiving link.entry.reception.head.now
+    ensures run { IsLinkRun D.device link.entry.live.now.cell.first.store (receiving link.entry.reception.head.now
         link.entry.pass.history.seen link.entry.reception.graph.now link.entry.reception.link
         link.entry.reception.moment) (S.state link.entry.source).left (S.state result.source).left
         link.entry.pass result.pass result.end }
@@ -108,7 +109,7 @@ fn send_dump<D: Disk, S: Source, G: Gate, R: Wait>(
     requires can { CanSend live.now.cell.first.store (receiving reception.now.head.now pass.old.history.seen
         reception.now.graph.now reception.now.link reception.now.moment) pass.old }
     ensures free { IsFree live.now.cell pass.new }
-    ensures run { IsLinkRun live.now.cell.first.store (receiving reception.now.head.now pass.old.history.seen
+    ensures run { IsLinkRun D.device live.now.cell.first.store (receiving reception.now.head.now pass.old.history.seen
         reception.now.graph.now reception.now.link reception.now.moment) (S.state source.old).left
         (S.state source.new).left pass.old pass.new result }
     ensures counted { IsReadCounted result (S.state source.old).faults (S.state source.new).faults }
@@ -174,10 +175,10 @@ fn send_read<D: Disk, S: Source, G: Gate, R: Wait>(
     // No more is read: what was read is sent but for fewer packets than a batch takes.
     ensures sent { IfOk result (IsSentUpTo (receiving reception.now.head.now pass.old.history.seen
         reception.now.graph.now reception.now.link reception.now.moment) (S.state source.old).left
-        (S.state source.new).left pass.old pass.new progress.new) }
+        (TellsRows D.device live.now.cell.first.store) (S.state source.new).left pass.old pass.new progress.new) }
     ensures refused { IfErr result (IsRefusedAt (receiving reception.now.head.now pass.old.history.seen
         reception.now.graph.now reception.now.link reception.now.moment) (S.state source.old).left
-        live.now.cell.first.store pass.old pass.new) }
+        D.device live.now.cell.first.store pass.old pass.new) }
     ensures within { OnOk result (IsWithinLimit progress.new) }
     ensures counted { MatchResult result (λ end. IsReadingCounted end (S.state source.old).faults
         (S.state source.new).faults) (λ _. Stays (S.state source.old).faults (S.state source.new).faults) }

@@ -4,6 +4,7 @@ ghost use Rattle.std.specs.Prelude.{◌≡◌, ◌+◌, ◌-◌, ◌*◌, ◌^�
 ghost use Rattle.refusals.specs.Limits.{limit_of};
 ghost use Rattle.refusals.specs.declared.refusal.Which.TheVariants as limits;
 ghost use Rattle.arch_types.specs.Dump.{BeginsWithNoPacket};
+ghost use Rattle.archive_store.specs.Pages.{TellsRows};
 ghost use Rattle.field_codec.specs.declared.entry.Entry.TheVariants as entries;
 ghost use Rattle.field_codec.specs.Entries.{IsArchiveEntry};
 ghost use Rattle.space_packet.specs.Rest.{why_of};
@@ -221,9 +222,10 @@ pub(crate) fn send_waiting<D: Disk, G: Gate, R: Wait>(
         reception.now.moment) progress.old.taken }
     requires within { IsWithinLimit progress.old }
     ensures free { IsFree live.now.cell pass.new }
-    ensures sent { OnOk result (SendsWaiting (receiving reception.now.head.now [] reception.now.graph.now
-        reception.now.link reception.now.moment) pass.old pass.new progress.old progress.new) }
-    ensures refused { IfErr result (λ refusal. EndsSending live.now.cell.first.store (receiving
+    ensures sent { OnOk result (SendsWaiting (TellsRows D.device live.now.cell.first.store) (receiving
+        reception.now.head.now [] reception.now.graph.now reception.now.link reception.now.moment) pass.old
+        pass.new progress.old progress.new) }
+    ensures refused { IfErr result (λ refusal. EndsSending D.device live.now.cell.first.store (receiving
         reception.now.head.now [] reception.now.graph.now reception.now.link reception.now.moment) pass.old pass.new
         progress.old (Err refusal)) }
     ensures within { OnOk result (IsWithinLimit progress.new) }
@@ -238,6 +240,7 @@ pub(crate) fn send_waiting<D: Disk, G: Gate, R: Wait>(
         send_ahead(
             rt, alloc, live, pass, reception, progress, ahead, wake, gate, number,
         )?;
+        live.rouse();
         if is_last {
             return Ok(());
         }
@@ -267,7 +270,7 @@ pub(crate) fn send_rest<D: Disk, G: Gate, R: Wait>(
     requires within { IsWithinLimit progress.old }
     requires none_waits { BeginsWithNoPacket progress.old.splitter.octets }
     ensures free { IsFree live.now.cell pass.new }
-    ensures sent { EndsSending live.now.cell.first.store (receiving reception.now.head.now []
+    ensures sent { EndsSending D.device live.now.cell.first.store (receiving reception.now.head.now []
         reception.now.graph.now reception.now.link reception.now.moment) pass.old pass.new progress.old result }
     ensures why { IfOk result (λ summary. summary.why ≡ why_of progress.old.splitter.octets) }
 {
@@ -306,9 +309,10 @@ fn send_ahead<D: Disk, G: Gate, R: Wait>(
         reception.now.moment) ahead.items }
     requires within { IsWithinLimitWith (64 * length ahead.items) progress.old }
     ensures free { IsFree live.now.cell pass.new }
-    ensures sent { OnOk result (SendsAhead (receiving reception.now.head.now [] reception.now.graph.now
-        reception.now.link reception.now.moment) ahead.items pass.old pass.new progress.old progress.new) }
-    ensures refused { IfErr result (λ refusal. RefusesAhead live.now.cell.first.store (receiving
+    ensures sent { OnOk result (SendsAhead (TellsRows D.device live.now.cell.first.store) (receiving
+        reception.now.head.now [] reception.now.graph.now reception.now.link reception.now.moment) ahead.items pass.old
+        pass.new progress.old progress.new) }
+    ensures refused { IfErr result (λ refusal. RefusesAhead D.device live.now.cell.first.store (receiving
         reception.now.head.now [] reception.now.graph.now reception.now.link reception.now.moment) ahead.items
         pass.old pass.new progress.old refusal) }
     ensures within { OnOk result (IsWithinLimit progress.new) }
@@ -325,8 +329,8 @@ fn send_ahead<D: Disk, G: Gate, R: Wait>(
 
 /// Ingests a batch in a turn, and wakes a filler once it is acknowledged.
 ///
-/// Refuses by a `Limit` of the history, by `NeedsReopen` where the disk failed in the turn of another, by `DiskFault`
-/// where it did in its own, or by `OutOfMemory`.
+/// Refuses by a `Limit` of the history, by `NeedsReopen` where a write failed in the turn of another, by `DiskFault`
+/// where the disk failed in its own, by `Damaged` where a page breaks its format, or by `OutOfMemory`.
 fn send_batch<D: Disk, G: Gate, R: Wait>(
     rt: &R,
     alloc: Global,
@@ -350,9 +354,10 @@ fn send_batch<D: Disk, G: Gate, R: Wait>(
     requires within { IsWithinLimitWith batch.packets progress.old }
     requires some { 0 < batch.packets }
     ensures free { IsFree live.now.cell pass.new }
-    ensures sent { OnOk result (SendsBatch (receiving reception.now.head.now [] reception.now.graph.now
-        reception.now.link reception.now.moment) batch pass.old pass.new progress.old progress.new) }
-    ensures refused { IfErr result (λ refusal. RefusesBatch live.now.cell.first.store (receiving
+    ensures sent { OnOk result (SendsBatch (TellsRows D.device live.now.cell.first.store) (receiving
+        reception.now.head.now [] reception.now.graph.now reception.now.link reception.now.moment) batch pass.old
+        pass.new progress.old progress.new) }
+    ensures refused { IfErr result (λ refusal. RefusesBatch D.device live.now.cell.first.store (receiving
         reception.now.head.now [] reception.now.graph.now reception.now.link reception.now.moment) batch pass.old
         pass.new progress.old refusal) }
     ensures within { OnOk result (StaysWithin batch.packets progress.old progress.new) }

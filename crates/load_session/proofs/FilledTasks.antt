@@ -1,12 +1,12 @@
 -- One fill more.
 use Rattle.std.proofs.Common.{◌≡◌, ◌≢◌, ◌⊎◌, inl, inr, ℕ, ◌+◌, ◌<◌, ◌≤◌, List, [], ◌∷◌, ◌++◌, length, Bool, true, false, Option, Some, None, refl, sym, ap, subst, ◌∙◌, arith, append-nil}
-use Rattle.std.specs.Prelude.{zero, suc, filter, nat_lt, if◌then◌else◌}
+use Rattle.std.specs.Prelude.{zero, suc, filter, nat_lt, IsNone, if◌then◌else◌}
 use Rattle.std.specs.Option.{is_some, option_map, option_map_or}
 use Rattle.std.proofs.Math.Path.{fun_ext}
 use Rattle.std.proofs.lemmas.Bool.Decides.{nat_tests}
 use Rattle.std.proofs.lemmas.List.{take_all}
 use Rattle.std.proofs.lemmas.Option.{slice_get_within}
-use Rattle.arch_disk.specs.Disk.{Device, raised}
+use Rattle.arch_disk.specs.Disk.{Device, NoFault, OnlyReads, raised}
 use Rattle.arch_types.specs.declared.inserted.Installed.{Installed}
 use Rattle.arch_types.specs.declared.inserted.Installed.TheVariants.{Done as BecameDone, Stale}
 use Rattle.intervals.specs.declared.interval.Interval.{Interval}
@@ -26,7 +26,7 @@ use Rattle.history_items.proofs.FillLists.{base_after_item, flight_after_item}
 use Rattle.history_items.proofs.Late.{last_is_greatest, late_by_last}
 use Rattle.late_marks.specs.Mark.{is_late_by}
 use Rattle.interval_fills.specs.Intervals.{NoneSince, rows_of_interval}
-use Rattle.interval_fills.specs.Steps.{AllLateInFlight, BeginsFill, IsFillBase, MachineState, freed}
+use Rattle.interval_fills.specs.Steps.{AllLateInFlight, IsFillBase, IsNextToFill, MachineState, freed}
 use Rattle.interval_fills.proofs.Steps.{same_interval}
 use Rattle.interval_walks.specs.Counts.{intervals_in, late_intervals}
 use Rattle.interval_walks.proofs.Counts.{none_late, one_late_less}
@@ -41,7 +41,15 @@ use Rattle.store_fills.specs.Filled.{HoldsRows}
 use Rattle.store_fills.specs.LastFills.{PlacedFills, fill_over, fillings_in}
 use Rattle.store_fills.specs.Sound.{Filling, Fillings, base_of_filling, with_filling}
 use Rattle.archive_store.proofs.CurrentSets.{late_by_fill}
-use Rattle.archive_store.proofs.UnreadRows.{begun_same, told_in_memory}
+use Rattle.archive_store.proofs.ReadOn.{reads_but_disk, reads_calm, reads_disk, reads_on, told_is}
+use Rattle.archive_store.specs.Pages.{TellsRows}
+use Rattle.archive_store.specs.Replays.{rows_below}
+use Rattle.archive_store.specs.UnreadRows.{IsLeftByRefusal, IsReadFault, IsReadOn, IsReadRefusal, ReadsRows}
+use Rattle.arch_disk.proofs.Moments.{looked_none}
+use Rattle.arch_types.specs.declared.row_fault.RowFault.{RowFault}
+use Rattle.arch_types.specs.declared.row_fault.RowFault.TheVariants as unread
+use Rattle.refusals.specs.Refusal.{refusal_of_rows}
+use Rattle.replay_merge.specs.RowSource.{told_if}
 use Rattle.archive_store.specs.Head.{Head}
 use Rattle.archive_store.specs.Entries.{filled_archive}
 use Rattle.archive_store.specs.Installs.{FillIsAppended, IsAbandoned, IsInstallRefusal, IsStoreInstalled}
@@ -125,7 +133,7 @@ module _ {D : Type 0} (device : Device D) (old new : StoreView D) (done : BuiltF
       ap (λ (j : Interval). built_fill j done.exponent done.base done.mdb done.set) at ∙ ap (λ (n : ℕ). built_fill task.interval done.exponent n done.mdb done.set) over
       ∙ ap (λ (e : ℕ). built_fill task.interval e task.base done.mdb done.set) by.0 ∙ ap (λ (db : Database). built_fill task.interval task.exponent task.base db done.set) by.1
 
-  pub task_filled : (became : Installed) → task.base ≡ length old.history → HoldsRows (database_in old.head.mdb old.history) done.set (rows_of_interval old.exponent task.interval old.history) → IsStoreInstalled device old new done became
+  pub task_filled : (became : Installed) → task.base ≡ length old.history → (TellsRows device old → HoldsRows (database_in old.head.mdb old.history) done.set (rows_of_interval old.exponent task.interval old.history)) → IsStoreInstalled device old new done became
       → IsTaskFilled device old new task
   task_filled BecameDone whole holds both = record { set = done.set; installable = both.0; appended = subst (FillIsAppended device old new) same_built both.1; holds = holds }
   task_filled (Stale position) whole holds stale = absurd (never_stale old.exponent old.history done.interval done.base position (over ∙ whole) stale.1.0 stale.1.1)
@@ -233,10 +241,11 @@ pub record IsFilling {D : Type 0} (device : Device D) (old now : StoreView D) (f
   pub room : 0 < filled → now.records ≤ limit_of Records
   pub healed : 0 < filled → pending_fault_of old.fills ≡ None
   pub unfailed : IsUnfailed device old now
-  pub sets : AddsRightFills old.head old.exponent old.history (fillings_in old.filled) (fillings_in now.filled)
+  pub sets : TellsRows device old → AddsRightFills old.head old.exponent old.history (fillings_in old.filled) (fillings_in now.filled)
   pub head : now.head ≡ old.head
   pub exponent : now.exponent ≡ old.exponent
   pub opened : now.opened ≡ old.opened
+  pub sealed : now.sealed ≡ old.sealed
   pub unchanged : filled ≡ 0 → now ≡ old
 
 -- where a fill has what there isn't, none was filled
@@ -253,10 +262,11 @@ filling_first device store idle = record {
   room = λ some. absurd (omega (arith, some));
   healed = λ some. absurd (omega (arith, some));
   unfailed = record { same_faults = refl; no_failed_write = refl; no_fault = refl };
-  sets = λ i. inl refl;
+  sets = λ told i. inl refl;
   head = refl;
   exponent = refl;
   opened = refl;
+  sealed = refl;
   unchanged = λ none. refl;
 }
 
@@ -270,22 +280,33 @@ filling_done {D = D} device old now new filled f none = subst (λ (x : StoreView
   unfailed = f.unfailed;
 })
 
+-- what one of them tells the other does
+told_alike : {D : Type 0} (device : Device D) (a b : StoreView D) → b.sealed ≡ a.sealed → TellsRows device a → TellsRows device b
+told_alike device a b same told paged = told (omega (arith, paged, same))
+
 module _ {D : Type 0} (device : Device D) (old now begun_store : StoreView D) (filled : ℕ) (f : IsFilling device old now filled) (task : FillTask) (began : BeginsTask device now begun_store task) where
   abbrev i : Interval
   i = task.interval
 
-  -- of rows that are told
-  step : BeginsFill now.exponent (machine_state now) i task.base task.rows (machine_state begun_store)
-  step = began.step (told_in_memory device now)
+  -- what a store tells at first it tells now
+  told_now : TellsRows device old → TellsRows device now
+  told_now = told_alike device old now f.sealed
 
-  same : begun_store ≡ record now { fills = begun_store.fills }
-  same = begun_same device now begun_store task began
+  -- rows were read, and a fill began
+  same : begun_store ≡ record now { disk = begun_store.disk; fills = begun_store.fills }
+  same = ap (λ (s : StoreView D). record s { fills = begun_store.fills }) (reads_but_disk device now (record begun_store { fills = now.fills }) began.reads)
+
+  calm : NoFault device now.disk begun_store.disk
+  calm = reads_calm device now (record begun_store { fills = now.fills }) began.reads
+
+  only_read : OnlyReads device now.disk begun_store.disk
+  only_read = reads_disk device now (record begun_store { fills = now.fills }) began.reads
+
+  not_read : now.sealed ≡ 0 → begun_store.disk ≡ now.disk
+  not_read plain = ap (λ (s : StoreView D). s.disk) ((reads_on device now (record begun_store { fills = now.fills }) began.reads).plain plain)
 
   late : IsLate now.exponent i now.history now.fills
-  late = step.next.0.late
-
-  same_disk : begun_store.disk ≡ now.disk
-  same_disk = ap (λ (x : StoreView D). x.disk) same
+  late = began.next.0.late
 
   same_records : begun_store.records ≡ now.records
   same_records = ap (λ (x : StoreView D). x.records) same
@@ -302,24 +323,33 @@ module _ {D : Type 0} (device : Device D) (old now begun_store : StoreView D) (f
   same_opened : begun_store.opened ≡ now.opened
   same_opened = ap (λ (x : StoreView D). x.opened) same
 
+  same_sealed : begun_store.sealed ≡ now.sealed
+  same_sealed = ap (λ (x : StoreView D). x.sealed) same
+
+  same_history : begun_store.history ≡ now.history
+  same_history = ap (λ (x : StoreView D). x.history) same
+
+  told_begun : TellsRows device old → TellsRows device begun_store
+  told_begun told = told_alike device now begun_store same_sealed (told_now told)
+
   begun_history : begun_store.history ≡ old.history
-  begun_history = step.history ∙ f.history
+  begun_history = same_history ∙ f.history
 
   -- by the database in force
   by_database : arc_value task.mdb ≡ database_in begun_store.head.mdb begun_store.history
-  by_database = began.mdb ∙ ap (λ (h : Head). database_in h.mdb now.history) (sym same_head) ∙ ap (database_in begun_store.head.mdb) (sym step.history)
+  by_database = began.mdb ∙ ap (λ (h : Head). database_in h.mdb now.history) (sym same_head) ∙ ap (database_in begun_store.head.mdb) (sym same_history)
 
   -- of the task that begins
-  pub begun_task : IsTaskRows task.exponent i task.rows → IsBegunTask begun_store task
+  pub begun_task : IsTaskRows task.exponent i task.rows → IsBegunTask device begun_store task
   begun_task in_order = record {
-    base = step.base_is ∙ ap length (sym step.history);
+    base = began.base ∙ ap length (sym same_history);
     exponent = began.exponent ∙ sym same_exponent;
     late =
         subst (λ (e : ℕ). IsLate e i begun_store.history begun_store.fills) (sym same_exponent)
-        (subst (λ (l : List Fill). IsLate now.exponent i begun_store.history l) (sym step.fills)
-        (subst (λ (h : List Item). IsLate now.exponent i h (begun now.fills i task.base)) (sym step.history) (is_late_begun now.exponent now.history now.fills i i task.base late)));
-    rows =
-        step.rows_are ∙ ap (rows_of_interval now.exponent i) (sym step.history)
+        (subst (λ (l : List Fill). IsLate now.exponent i begun_store.history l) (sym began.fills)
+        (subst (λ (h : List Item). IsLate now.exponent i h (begun now.fills i task.base)) (sym same_history) (is_late_begun now.exponent now.history now.fills i i task.base late)));
+    rows = λ told.
+        (began.step (told_alike device begun_store now (sym same_sealed) told)).rows_are ∙ ap (rows_of_interval now.exponent i) (sym same_history)
         ∙ ap (λ (e : ℕ). rows_of_interval e i begun_store.history) (sym same_exponent);
     in_order = in_order;
     mdb = by_database;
@@ -327,9 +357,9 @@ module _ {D : Type 0} (device : Device D) (old now begun_store : StoreView D) (f
 
   begun_unfailed : IsUnfailed device old begun_store
   begun_unfailed = record {
-    same_faults = ap faults_in step.fills ∙ faults_begun now.fills i task.base ∙ f.unfailed.same_faults;
-    no_failed_write = ap device.failed_writes same_disk ∙ f.unfailed.no_failed_write;
-    no_fault = ap device.fault_count same_disk ∙ f.unfailed.no_fault;
+    same_faults = ap faults_in began.fills ∙ faults_begun now.fills i task.base ∙ f.unfailed.same_faults;
+    no_failed_write = only_read.no_write ∙ f.unfailed.no_failed_write;
+    no_fault = calm ∙ f.unfailed.no_fault;
   }
 
   -- the same failed write is pending
@@ -338,15 +368,15 @@ module _ {D : Type 0} (device : Device D) (old now begun_store : StoreView D) (f
 
   -- one late interval at least is left
   some_left : length (late_intervals now.exponent now.history (begun_and_done now.fills i task.base)) + 1 ≡ length (late_intervals now.exponent now.history now.fills)
-  some_left = one_less now.exponent now.history now.fills i task.base step.base_is late
+  some_left = one_less now.exponent now.history now.fills i task.base began.base late
 
   module _ (new : StoreView D) where
     module _ (done : IsTaskFilled device begun_store new task) where
       new_fills : new.fills ≡ begun_and_done now.fills i task.base
-      new_fills = ap (λ m. m.fills) done.appended.step.1 ∙ ap (λ (l : List Fill). l ++ Done i task.base ∷ []) step.fills
+      new_fills = ap (λ m. m.fills) done.appended.step.1 ∙ ap (λ (l : List Fill). l ++ Done i task.base ∷ []) began.fills
 
       new_history : new.history ≡ now.history
-      new_history = ap (λ m. m.history) done.appended.step.1 ∙ step.history
+      new_history = ap (λ m. m.history) done.appended.step.1 ∙ same_history
 
       pub less_left : new.exponent ≡ begun_store.exponent → length (late_intervals new.exponent new.history new.fills) + 1 ≡ length (late_intervals now.exponent now.history now.fills)
       less_left same =
@@ -355,7 +385,7 @@ module _ {D : Type 0} (device : Device D) (old now begun_store : StoreView D) (f
           ∙ ap (λ (h : List Item). length (late_intervals now.exponent h (begun_and_done now.fills i task.base)) + 1) new_history ∙ some_left
 
       -- one more was filled
-      pub filling_next : ((j : Interval) → base_in j now.fills ≡ base_of_filling (fillings_in now.filled) j) → (new.head ≡ begun_store.head) × (new.exponent ≡ begun_store.exponent) × (new.opened ≡ begun_store.opened) → IsFilling device old new (filled + 1)
+      pub filling_next : ((j : Interval) → base_in j now.fills ≡ base_of_filling (fillings_in now.filled) j) → (new.head ≡ begun_store.head) × (new.exponent ≡ begun_store.exponent) × (new.opened ≡ begun_store.opened) × (new.sealed ≡ begun_store.sealed) → IsFilling device old new (filled + 1)
       filling_next bases same = record {
         idle = subst (λ (l : List Fill). (j : Interval) → in_flight j l ≡ None) (sym new_fills) (idle_again now.fills i task.base f.idle);
         history = new_history ∙ f.history;
@@ -368,12 +398,13 @@ module _ {D : Type 0} (device : Device D) (old now begun_store : StoreView D) (f
           no_failed_write = done.appended.no_failed_write ∙ begun_unfailed.no_failed_write;
           no_fault = done.appended.no_fault ∙ begun_unfailed.no_fault;
         };
-        sets =
+        sets = λ told.
             subst (AddsRightFills old.head old.exponent old.history (fillings_in old.filled)) (sym (done.appended.filled ∙ ap (λ (x : PlacedFills). with_filling (fillings_in x) i (fill_over task.base done.set)) same_filled))
-            (one_whole old.head old.exponent old.history (fillings_in old.filled) (fillings_in now.filled) f.sets i task.base done.set (step.base_is ∙ ap length f.history) may late_now held);
+            (one_whole old.head old.exponent old.history (fillings_in old.filled) (fillings_in now.filled) (f.sets told) i task.base done.set (began.base ∙ ap length f.history) may late_now (held told));
         head = same.0 ∙ same_head ∙ f.head;
         exponent = same.1 ∙ same_exponent ∙ f.exponent;
         opened = same.2 ∙ same_opened ∙ f.opened;
+        sealed = same.3 ∙ same_sealed ∙ f.sealed;
         unchanged = λ none. absurd (omega (arith, none));
       }
         where
@@ -388,25 +419,33 @@ module _ {D : Type 0} (device : Device D) (old now begun_store : StoreView D) (f
               ∙ ap (λ (e : ℕ). is_late_in_archive (filled_archive old.head e now.history (fillings_in now.filled)) i) (sym f.exponent)
               ∙ late_by_fill now.exponent now.history now.fills now.filled i bases late
 
-          held : HoldsRows (database_in old.head.mdb old.history) done.set (rows_of_interval old.exponent i old.history)
-          held =
+          held : TellsRows device old → HoldsRows (database_in old.head.mdb old.history) done.set (rows_of_interval old.exponent i old.history)
+          held told =
               subst (λ (h : List Item). HoldsRows (database_in old.head.mdb h) done.set (rows_of_interval old.exponent i h)) begun_history
               (subst (λ (e : ℕ). HoldsRows (database_in old.head.mdb begun_store.history) done.set (rows_of_interval e i begun_store.history)) (same_exponent ∙ f.exponent)
-              (subst (λ (h : Head). HoldsRows (database_in h.mdb begun_store.history) done.set (rows_of_interval begun_store.exponent i begun_store.history)) (same_head ∙ f.head) done.holds))
+              (subst (λ (h : Head). HoldsRows (database_in h.mdb begun_store.history) done.set (rows_of_interval begun_store.exponent i begun_store.history)) (same_head ∙ f.head) (done.holds (told_begun told))))
+
+    -- while a failed write is pending nothing was filled
+    was : pending_fault_of old.fills ≢ None → now ≡ old
+    was unhealed = f.unchanged (nothing_filled filled (pending_fault_of old.fills ≡ None) f.healed unhealed)
 
     -- it was refused
-    pub given_up : (e : Refusal) → IsTaskRefusal device begun_store new task e → (new.head ≡ begun_store.head) × (new.exponent ≡ begun_store.exponent) × (new.opened ≡ begun_store.opened) → IsFilledOn old new
+    pub given_up : (e : Refusal) → IsTaskRefusal device begun_store new task e → (new.head ≡ begun_store.head) × (new.exponent ≡ begun_store.exponent) × (new.opened ≡ begun_store.opened) × (new.sealed ≡ begun_store.sealed) → IsFilledOn device old new
     given_up e refused same = record {
       rows = refused_history device begun_store new task e refused ∙ begun_history;
       head = same.0 ∙ same_head ∙ f.head;
       exponent = same.1 ∙ same_exponent ∙ f.exponent;
       opened = same.2 ∙ same_opened ∙ f.opened;
+      sealed = same.3 ∙ same_sealed ∙ f.sealed;
       records = omega (arith, refused_records device begun_store new task e refused, same_records, f.records);
-      sets = subst (λ (x : PlacedFills). AddsRightFills old.head old.exponent old.history (fillings_in old.filled) (fillings_in x)) (sym (refused_filled device begun_store new task e refused ∙ same_filled)) f.sets;
+      sets = λ told. subst (λ (x : PlacedFills). AddsRightFills old.head old.exponent old.history (fillings_in old.filled) (fillings_in x)) (sym (refused_filled device begun_store new task e refused ∙ same_filled)) (f.sets told);
       unchanged = λ none. absurd (omega (arith, f.count, ap length none, some_left));
-      no_call = λ unhealed.
-          refused_disk device begun_store new task e (λ healed. unhealed (sym same_pending ∙ healed)) refused ∙ same_disk
-          ∙ ap (λ (x : StoreView D). x.disk) (f.unchanged (nothing_filled filled (pending_fault_of old.fills ≡ None) f.healed unhealed));
+      no_write = λ unhealed.
+          subst (λ (d : D). OnlyReads device d new.disk) (ap (λ (x : StoreView D). x.disk) (was unhealed))
+          (subst (OnlyReads device now.disk) (sym (refused_disk device begun_store new task e (λ healed. unhealed (sym same_pending ∙ healed)) refused)) only_read);
+      no_call = λ unhealed plain.
+          refused_disk device begun_store new task e (λ healed. unhealed (sym same_pending ∙ healed)) refused ∙ not_read (f.sealed ∙ plain)
+          ∙ ap (λ (x : StoreView D). x.disk) (was unhealed);
     }
 
     unfailed_still : IsAbandoned begun_store new i → IsUnfailed device old new
@@ -438,18 +477,81 @@ module _ {D : Type 0} (device : Device D) (old now begun_store : StoreView D) (f
           omega (arith, r.2, ap (λ (x : StoreView D). x.records) r.3),
           unfailed_still r.3,
         )
-    filling_refused DiskFault r = failed_then r.1.0 r.0 r.1.1 r.1.2
+    filling_refused DiskFault r = inl (failed_then r.1.0 r.0 r.1.1 r.1.2)
     filling_refused _ r = absurd r
 
 -- what is left where filling goes no further
-pub filled_so_far : {D : Type 0} (device : Device D) (old now : StoreView D) (filled : ℕ) → IsFilling device old now filled → IsFilledOn old now
+pub filled_so_far : {D : Type 0} (device : Device D) (old now : StoreView D) (filled : ℕ) → IsFilling device old now filled → IsFilledOn device old now
 filled_so_far {D = D} device old now filled f = record {
   rows = f.history;
   head = f.head;
   exponent = f.exponent;
   opened = f.opened;
+  sealed = f.sealed;
   records = omega (arith, f.records);
   sets = f.sets;
   unchanged = λ none. f.unchanged (omega (arith, f.count, ap length none));
-  no_call = λ unhealed. ap (λ (x : StoreView D). x.disk) (f.unchanged (nothing_filled filled (pending_fault_of old.fills ≡ None) f.healed unhealed));
+  no_write = λ unhealed. subst (λ (x : StoreView D). OnlyReads device old.disk x.disk) (sym (was unhealed)) (looked_none device old.disk);
+  no_call = λ unhealed plain. ap (λ (x : StoreView D). x.disk) (was unhealed);
 }
+  where
+    was : pending_fault_of old.fills ≢ None → now ≡ old
+    was unhealed = f.unchanged (nothing_filled filled (pending_fault_of old.fills ≡ None) f.healed unhealed)
+
+-- ---- rows of the next interval aren't read
+
+module _ {D : Type 0} (device : Device D) (old now new : StoreView D) (filled : ℕ) (f : IsFilling device old now filled) (interval : Interval) (next : IsNextToFill now.exponent (machine_state now) (Some interval)) where
+  one_late : 0 < length (late_intervals now.exponent now.history now.fills)
+  one_late = let one = one_less now.exponent now.history now.fills interval (length now.history) refl next.0.late in omega (arith, one)
+
+  at_first : pending_fault_of old.fills ≢ None → now ≡ old
+  at_first unhealed = f.unchanged (nothing_filled filled (pending_fault_of old.fills ≡ None) f.healed unhealed)
+
+  -- all is as it was, but for what was read, and its fault
+  pub unread_so_far : IsReadOn device now new → IsFilledOn device old new
+  unread_so_far on = record {
+    rows = ap (λ (s : StoreView D). s.history) on.same ∙ f.history;
+    head = ap (λ (s : StoreView D). s.head) on.same ∙ f.head;
+    exponent = ap (λ (s : StoreView D). s.exponent) on.same ∙ f.exponent;
+    opened = ap (λ (s : StoreView D). s.opened) on.same ∙ f.opened;
+    sealed = ap (λ (s : StoreView D). s.sealed) on.same ∙ f.sealed;
+    records = omega (arith, ap (λ (s : StoreView D). s.records) on.same, f.records);
+    sets = λ told. subst (λ (x : PlacedFills). AddsRightFills old.head old.exponent old.history (fillings_in old.filled) (fillings_in x)) (sym (ap (λ (s : StoreView D). s.filled) on.same)) (f.sets told);
+    unchanged = λ none. absurd (omega (arith, f.count, ap length none, one_late));
+    no_write = λ unhealed. subst (λ (s : StoreView D). OnlyReads device s.disk new.disk) (at_first unhealed) on.disk;
+    no_call = λ unhealed plain. ap (λ (s : StoreView D). s.disk) (on.plain (f.sealed ∙ plain) ∙ at_first unhealed);
+  }
+
+  -- no fault came
+  read_unfailed : ReadsRows device now new → IsUnfailed device old new
+  read_unfailed reads = record {
+    same_faults = ap (λ (s : StoreView D). faults_in s.fills) (reads_but_disk device now new reads) ∙ f.unfailed.same_faults;
+    no_failed_write = (reads_disk device now new reads).no_write ∙ f.unfailed.no_failed_write;
+    no_fault = reads_calm device now new reads ∙ f.unfailed.no_fault;
+  }
+
+  some_late : late_intervals old.exponent old.history old.fills ≢ []
+  some_late none = omega (arith, f.count, ap length none, one_late)
+
+  of_fault : (fault : RowFault) → IsReadFault device now new fault → IsLeftByRefusal device now new (refusal_of_rows fault) → IsFillingRefusal device old new (refusal_of_rows fault)
+  of_fault unread.DiskFault is left = inr (record {
+    paged = omega (arith, is.0, f.sealed);
+    late = some_late;
+    count = is.1.count;
+    fault = ap faults_in is.1.fills ∙ faults_in-append now.fills (Fault is.1.count false additions.Nothing ∷ [])
+        ∙ ap (λ (l : List Fill). l ++ Fault is.1.count false additions.Nothing ∷ []) f.unfailed.same_faults;
+    rose = subst (λ (n : ℕ). raised n ≤ device.fault_count new.disk) f.unfailed.no_fault is.1.rose;
+    no_failed_write = is.1.writes ∙ f.unfailed.no_failed_write;
+  })
+  of_fault (unread.Damaged file at) is left = (
+    omega (arith, is.0, f.sealed),
+    λ told.
+        (let no : ◌≡◌ {A = Bool} true false = subst (λ (t : Bool). IsNone (told_if t (rows_below now.history))) (told_is device now (told_alike device old now f.sealed told)) is.1 in
+        cc (no)),
+    read_unfailed left,
+    some_late,
+  )
+  of_fault unread.OutOfMemory is left = read_unfailed left
+
+  pub filling_unread : (refusal : Refusal) → IsReadRefusal device now new refusal → IsLeftByRefusal device now new refusal → IsFillingRefusal device old new refusal
+  filling_unread refusal (fault, is, of) left = subst (IsFillingRefusal device old new) (sym of) (of_fault fault is (subst (IsLeftByRefusal device now new) of left))

@@ -12,11 +12,11 @@ use std::alloc::Global;
 
 /// Fills the interval of a task that just began. Refused, it has given the task up.
 fn fill_task<D: Disk>(alloc: Global, store: &mut Store<D>, task: FillTask) -> Result<(), Refusal>
-    requires { IsBegunTask store.old task }
+    requires { IsBegunTask D.device store.old task }
     ensures filled { OnOk result (IsTaskFilled D.device store.old store.new task) }
     ensures refused { IfErr result (IsTaskRefusal D.device store.old store.new task) }
     ensures same { (store.new.head ≡ store.old.head) × (store.new.exponent ≡ store.old.exponent)
-        × (store.new.opened ≡ store.old.opened) }
+        × (store.new.opened ≡ store.old.opened) × (store.new.sealed ≡ store.old.sealed) }
 {
     let filled = match Filled::of(alloc, task, store.mdb()) {
         Ok(filled) => filled,
@@ -30,21 +30,22 @@ fn fill_task<D: Disk>(alloc: Global, store: &mut Store<D>, task: FillTask) -> Re
     Ok(())
 }
 
-/// Fills each late interval, and tells how many there were. Refuses by `NeedsReopen`, `Limit` Records, `OutOfMemory` or
-/// `DiskFault` at the first that can't be filled; those before it stay filled. A write that failed stays pending: what comes
-/// behind the fills takes it back.
+/// Fills each late interval, and tells how many there were. Refuses by `NeedsReopen`, `Limit` Records, `OutOfMemory`,
+/// `DiskFault` or `Damaged` at the first that can't be filled; those before it stay filled. A write that failed stays
+/// pending: what comes behind the fills takes it back.
 pub fn fill_late<D: Disk>(alloc: Global, store: &mut Store<D>) -> Result<u64, Refusal>
     requires { (i : AnInterval) → in_flight i store.old.fills ≡ None }
 
     // Ok: no interval is late.
     ensures filled { IfOk result (AllLateFilled D.device store.old store.new) }
 
-    // Refused: a failed write is pending, there's no place for a record for each late interval, no memory, or the disk failed.
+    // Refused: a failed write is pending, there's no place for a record for each late interval, no memory, the disk
+    // failed, or rows aren't read.
     ensures refused { IfErr result (IsFillingRefusal D.device store.old store.new) }
 
     // The rows stay, and each fill that came is that of a late interval, whatever it answers; where none was late all is as it
     // was.
-    ensures left { IsFilledOn store.old store.new }
+    ensures left { IsFilledOn D.device store.old store.new }
 {
     let mut filled = 0;
     'fills: loop {

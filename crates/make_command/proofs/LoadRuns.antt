@@ -1,5 +1,5 @@
 -- How the jobs of a load into an archive that was made went, what was filled behind them, and what was summed up.
-use Rattle.std.proofs.Common.{◌≡◌, ◌∙◌, ℕ, ℤ, false, List, [], length, Option, Some, None, refl, sym, ap, subst}
+use Rattle.std.proofs.Common.{◌≡◌, ◌∙◌, ℕ, ℤ, List, [], length, Option, Some, None, refl, sym, ap, subst, arith}
 use Rattle.std.specs.Prelude.{IfErr, IfOk, IsTrue, Result}
 use Rattle.arch_disk.specs.Disk.{Device}
 use Rattle.intervals.specs.Interval.{format_1_exponent}
@@ -16,6 +16,7 @@ use Rattle.archive_store.specs.Calls.{IsStoreCreated}
 use Rattle.archive_store.specs.Entries.{FilledArchive, filled_archive}
 use Rattle.archive_store.specs.Keeping.{IsKept}
 use Rattle.archive_store.specs.LateFills.{late_in_archive}
+use Rattle.archive_store.specs.Pages.{HasPages}
 use Rattle.archive_store.specs.StoreView.{StoreView, filled_of}
 use Rattle.command_plans.specs.Plan.{CommandPlan}
 use Rattle.command_runs.specs.declared.report.LoadCounts.{LoadCounts}
@@ -25,9 +26,10 @@ use Rattle.command_runs.specs.Extension.{filled_at}
 use Rattle.command_runs.specs.Healing.{TriesToHeal}
 use Rattle.command_runs.specs.Moment.{IsMomentOf}
 use Rattle.command_runs.specs.Opened.{IsOpenedOn}
+use Rattle.command_runs.specs.Reading.{InMemory}
 use Rattle.command_runs.specs.Report.{loaded}
 use Rattle.command_runs.proofs.FilledDisks.{late_as_filled}
-use Rattle.live_asks.specs.LiveAsks.{disk_facts}
+use Rattle.live_asks.specs.LiveAsks.{DiskFacts, disk_facts}
 use Rattle.retrieval.specs.declared.found_asks.FoundAsk.{FoundAsk}
 use Rattle.live_session.specs.declared.loading.LoadJob.{LoadJob}
 use Rattle.live_session.specs.declared.loading.Loaded.{Loaded}
@@ -44,7 +46,7 @@ use Rattle.make_command.specs.Made.{IsFilledBy, IsMadeOutcome, dumps_of_seed, ma
 use Rattle.make_command.specs.Make.{made_load_plan, summary_plan}
 use Rattle.make_command.specs.Summing.{IsSummaryReply, counts_behind, summary_report}
 use Rattle.make_command.proofs.Created.{archive_is, opened_on}
-use Rattle.make_command.proofs.MadeLoads.{made_outcome, none_unread}
+use Rattle.make_command.proofs.MadeLoads.{calm_reads, made_outcome, none_unread}
 use Rattle.make_command.proofs.SummaryRuns.{ran_summary}
 
 -- An archive was made, jobs ran over its store, what was late still was filled behind them, and a failed write was taken
@@ -52,7 +54,7 @@ use Rattle.make_command.proofs.SummaryRuns.{ran_summary}
 module _ {D : Type 0} (device : Device D) (disk : D) (s mid new : StoreView D) (created : IsStoreCreated device disk made_head s) (kept_first : IsKept device s) (seed : ℕ) (next : Option ℤ) (moment : ℤ)
     (is_moment : IsMomentOf next moment) (job : LoadJob (List ℕ)) (linked : job.link ≡ 1) (dumps : job.sources.items ≡ dumps_of_seed seed) (asks : List FoundAsk) (setting_is : load_setting s job asks ≡ job_setting made_head every_packet_route moment [])
     (left : Loaded D (List ℕ)) (came : IsLoadOutcome device octets_state s job asks left)
-    (filling : Result ℕ Refusal) (filled : IfOk filling (AllLateFilled device left.store mid)) (unfilled : IfErr filling (IsFillingRefusal device left.store mid)) (filled_on : IsFilledOn left.store mid)
+    (filling : Result ℕ Refusal) (filled : IfOk filling (AllLateFilled device left.store mid)) (unfilled : IfErr filling (IsFillingRefusal device left.store mid)) (filled_on : IsFilledOn device left.store mid)
     (healed : TriesToHeal device mid new) (kept : IsKept device new) (output output' : OutputState) (report : Report) where
   abbrev c : JobsOutcome
   c = came.outcome
@@ -83,32 +85,42 @@ module _ {D : Type 0} (device : Device D) (disk : D) (s mid new : StoreView D) (
   lefts : lefts_of octets_state job.sources.items ≡ made_contents seed
   lefts = ap (lefts_of octets_state) dumps
 
-  possible : IsJobsOutcome (disk_facts device s.disk) (filled_of s) setting 1 (made_contents seed) c
+  abbrev facts : DiskFacts
+  facts = disk_facts device s.disk s.sealed
+
+  possible : IsJobsOutcome facts (filled_of s) setting 1 (made_contents seed) c
   possible =
-      subst (λ (n : ℕ). IsJobsOutcome (disk_facts device s.disk) (filled_of s) setting n (made_contents seed) c) linked
-      (session_outcome device s.disk s mid new on octets_state 0 (made_contents seed) behind job asks left came lefts filling filled unfilled filled_on healed kept_first kept output output' report)
+      subst (λ (n : ℕ). IsJobsOutcome facts (filled_of s) setting n (made_contents seed) c) linked
+      (session_outcome device s.disk s mid new on octets_state 0 (made_contents seed) behind job asks left came lefts filling filled unfilled filled_on healed kept_first kept InMemory created.sealed output output' report)
 
   came_to : IsMadeOutcome seed moment c
   came_to =
-      made_outcome (disk_facts device s.disk) seed moment c
-      (subst (λ (f : FilledArchive). IsJobsOutcome (disk_facts device s.disk) f (job_setting made_head every_packet_route moment []) 1 (made_contents seed) c) first_is
-      (subst (λ (f : JobSetting). IsJobsOutcome (disk_facts device s.disk) (filled_of s) f 1 (made_contents seed) c) setting_is possible))
-      (none_unread octets_state c.ends job.sources.items left.sources.items (λ source. tt) (λ source. refl) came.sources)
+      made_outcome facts created.sealed seed moment c
+      (subst (λ (f : FilledArchive). IsJobsOutcome facts f (job_setting made_head every_packet_route moment []) 1 (made_contents seed) c) first_is
+      (subst (λ (f : JobSetting). IsJobsOutcome facts (filled_of s) f 1 (made_contents seed) c) setting_is possible))
+      (none_unread octets_state c.ends job.sources.items left.sources.items (λ source. tt) (λ source. refl) came.sources, calm_reads device s between created.sealed c.failed c.unread came.loaded.failed)
 
-  chosen : Ran device (after_session 0 (filled_of s) c behind (reported_of job.link c.ends c.others) c.failed) went → RanSo
+  chosen : Ran device (after_session InMemory 0 (filled_of s) c behind (reported_of job.link c.ends c.others) c.failed) went → RanSo
   chosen given =
-      let ran = subst (λ (n : ℕ). Ran device (after_session 0 (filled_of s) c behind (reported_of n c.ends c.others) c.failed) went) linked given in
-      let made = subst (λ (f : FilledArchive). Ran device (after_session 0 f c behind (reported_of 1 c.ends c.others) c.failed) went) first_is ran in
+      let ran = subst (λ (n : ℕ). Ran device (after_session InMemory 0 (filled_of s) c behind (reported_of n c.ends c.others) c.failed) went) linked given in
+      let made = subst (λ (f : FilledArchive). Ran device (after_session InMemory 0 f c behind (reported_of 1 c.ends c.others) c.failed) went) first_is ran in
       record { way = made.way; allows = (moment, is_moment, (c, came_to, made.allows)); did = made.did }
 
   -- the jobs were refused, or else the filling behind them
   pub ran_refused : (reported : ReportedRefusal) → IsReported left.reported filling reported → output' ≡ output → report ≡ loaded (Some reported.refusal) reported.link 0 (length c.reached) 0 0 0 → RanSo
   ran_refused reported is silent report_is =
-      chosen (session_reported device s.disk s mid new on octets_state 0 (made_contents seed) behind job asks left came lefts filling filled unfilled filled_on healed kept_first kept
+      chosen (session_reported device s.disk s mid new on octets_state 0 (made_contents seed) behind job asks left came lefts filling filled unfilled filled_on healed kept_first kept InMemory created.sealed
       output output' report reported is silent
       (subst (λ (h : List Item). report ≡ loaded (Some reported.refusal) reported.link (length h) (length c.reached) 0 0 0) (sym created.history) report_is))
 
   -- ---- all was filled
+
+  -- no row stands in a run
+  pub plain : mid.sealed ≡ 0
+  plain = filled_on.sealed ∙ came.loaded.goes.appends.sealed ∙ created.sealed
+
+  no_pages : HasPages mid → ⊥
+  no_pages paged = omega (arith, paged, plain)
 
   rows : mid.history ≡ c.reached
   rows = filled_on.rows ∙ came.loaded.history
@@ -133,7 +145,7 @@ module _ {D : Type 0} (device : Device D) (disk : D) (s mid new : StoreView D) (
       (subst (λ (l : List Item). AddsRightFills s.head s.exponent l no_fillings (fillings_in mid.filled)) same_rows
       (subst (λ (f : Fillings (List SetRow)). AddsRightFills s.head s.exponent new.history f (fillings_in mid.filled)) created.filled
       (subst (λ (f : PlacedFills). AddsRightFills s.head s.exponent new.history (fillings_in s.filled) (fillings_in f)) same_fills
-      (right_fills device s.disk s mid new on octets_state 0 (made_contents seed) behind job asks left came lefts filling filled unfilled filled_on healed kept_first kept output output' report known)))))
+      (right_fills device s.disk s mid new on octets_state 0 (made_contents seed) behind job asks left came lefts filling filled unfilled filled_on healed kept_first kept InMemory created.sealed output output' report known)))))
 
   each_filled : (o : Option ReportedRefusal) → IsNothingReported o filling → (count : ℕ) × AllLateFilled device between mid count
   each_filled (Some reported) nothing = absurd nothing
@@ -147,18 +159,19 @@ module _ {D : Type 0} (device : Device D) (disk : D) (s mid new : StoreView D) (
   }
 
   -- nothing was refused, and what there is was compared and printed, or not
-  pub ran_summed : IsNothingReported left.reported filling → IsKept device mid → (refusal : Option Refusal) → IsSummaryReply seed (counts_behind left.counts (length mid.history)) (filled_of mid) refusal output output'
+  pub ran_summed : IsNothingReported left.reported filling → IsKept device mid → (refusal : Option Refusal) → IsSummaryReply (HasPages mid) seed (counts_behind left.counts (length mid.history)) (filled_of mid) refusal output output'
       → report ≡ summary_report refusal (length mid.history) (counts_behind left.counts (length mid.history)) → RanSo
   ran_summed nothing kept_mid refusal reply report_is =
       let same : counts_behind left.counts (length mid.history) ≡ counts_behind (counts_of c.ends) (length c.reached) =
       ap (λ (d : DumpCounts). counts_behind d (length mid.history)) (came.counts (nothing_reported left.reported filling nothing)) ∙ ap (λ (l : List Item). counts_behind (counts_of c.ends) (length l)) rows in
       let replied =
-      subst (λ (f : FilledArchive). IsSummaryReply seed (counts_behind (counts_of c.ends) (length c.reached)) f refusal output output') filled_is
-      (subst (λ (n : LoadCounts). IsSummaryReply seed n (filled_of mid) refusal output output') same reply) in
+      subst (λ (f : FilledArchive). IsSummaryReply (HasPages mid) seed (counts_behind (counts_of c.ends) (length c.reached)) f refusal output output') filled_is
+      (subst (λ (n : LoadCounts). IsSummaryReply (HasPages mid) seed n (filled_of mid) refusal output output') same reply) in
       let reports =
       subst (λ (l : List Item). report ≡ summary_report refusal (length l) (counts_behind (counts_of c.ends) (length c.reached))) rows
       (subst (λ (n : LoadCounts). report ≡ summary_report refusal (length mid.history) n) same report_is) in
-      chosen (session_whole device s.disk s mid new on octets_state 0 (made_contents seed) behind job asks left came lefts filling filled unfilled filled_on healed kept_first kept
+      chosen (session_whole device s.disk s mid new on octets_state 0 (made_contents seed) behind job asks left came lefts filling filled unfilled filled_on healed kept_first kept InMemory created.sealed
       output output' report nothing
       (λ disk_is. ran_summary device s.disk new.disk output output' report seed c (fillings_in mid.filled) (is_filled nothing kept_mid)
-      (subst (λ (f : FilledArchive). HasDiskOutcome device s.disk new.disk false (AllFilled f c.reached)) first_is disk_is) refusal replied reports))
+      (subst (λ (f : FilledArchive). HasDiskOutcome device s.disk new.disk c.unread (AllFilled f c.reached)) first_is disk_is)
+      (HasPages mid) no_pages refusal replied reports))

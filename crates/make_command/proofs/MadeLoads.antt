@@ -1,6 +1,8 @@
 -- The load of made packets: what it is given, and what its jobs came to.
-use Rattle.std.proofs.Common.{◌≡◌, ℕ, ℤ, false, List, [], ◌∷◌, codes, length, None, refl, arith}
+use Rattle.std.proofs.Common.{◌≡◌, ◌∙◌, ℕ, ℤ, Bool, true, false, List, [], ◌∷◌, ◌++◌, codes, length, Option, Some, None, refl, ap, arith}
+use Rattle.std.specs.Prelude.{IfSome, drop, min, take}
 use Rattle.std.specs.List.{list_any}
+use Rattle.arch_disk.specs.Disk.{Device}
 use Rattle.outer_traits.specs.States.{SourceState}
 use Rattle.field_codec.specs.Entries.{AreTables}
 use Rattle.mdb_items.specs.CalibrationRows.{calibration_fault_at}
@@ -8,12 +10,15 @@ use Rattle.mdb_items.specs.Checks.{first_at}
 use Rattle.mdb_items.specs.ContainerRows.{container_fault_at}
 use Rattle.mdb_items.specs.ParameterRows.{parameter_fault_at}
 use Rattle.mdb_items.specs.Paths.{paths_of}
+use Rattle.history_items.specs.declared.fills.Addition.{Addition}
+use Rattle.history_items.specs.declared.fills.Fill.{Fill}
 use Rattle.history_items.specs.declared.items.Item.{Item}
 use Rattle.archive_store.specs.Entries.{FilledArchive}
+use Rattle.archive_store.specs.StoreView.{StoreView}
 use Rattle.live_asks.specs.declared.answered.AskAnswer.{AskAnswer}
 use Rattle.live_asks.specs.LiveAsks.{AreAnswered, DiskFacts}
 use Rattle.live_session.specs.Jobs.{IsSourceRead, job_setting}
-use Rattle.live_session.specs.Outcome.{AreSourcesRead, IsJobsOutcome, JobsOutcome}
+use Rattle.live_session.specs.Outcome.{AreSourcesRead, HasFailed, IsFailedAddition, IsJobsOutcome, JobsOutcome, extension_by}
 use Rattle.load_jobs.specs.declared.ending.LinkEnd.{LinkEnd}
 use Rattle.load_jobs.specs.declared.ending.LinkEnd.TheVariants.{Unread}
 use Rattle.load_session.specs.Receiving.{IsRouteOver}
@@ -21,6 +26,7 @@ use Rattle.stream_graph.specs.Routes.{every_packet_route}
 use Rattle.load_command.specs.Loading.{is_unread}
 use Rattle.make_command.specs.Made.{IsMadeOutcome, made_archive, made_contents, made_head, no_facts, two_dumps}
 use Rattle.make_command.specs.Summing.{KnowsParameters}
+use Rattle.make_command.proofs.PlainFacts.{failed_addition, fillers, links, readers}
 
 -- ---- what it is given
 
@@ -65,19 +71,33 @@ module _ {S : Type 0} (state : S → SourceState) where
       rw (read_on end (state old) (state new) (never old) read.0 (none old)) (none_unread ends olds news never none read.1)
   none_unread ends olds news never none read = absurd read
 
-pub made_outcome : (facts : DiskFacts) (seed : ℕ) (moment : ℤ) (c : JobsOutcome) → IsJobsOutcome facts made_archive (job_setting made_head every_packet_route moment []) 1 (made_contents seed) c
-    → list_any is_unread c.ends ≡ false → IsMadeOutcome seed moment c
-made_outcome facts seed moment c is read = record {
+-- no read of a disk failed where no row stands in a run
+pub calm_reads : {D : Type 0} (device : Device D) (first closed : StoreView D) → first.sealed ≡ 0 → (failed : Option Addition) (unread : Bool) → HasFailed device first closed failed unread → unread ≡ false
+calm_reads device first closed plain failed false has = refl
+calm_reads device first closed plain None true has = absurd (has.2 refl (has.0.plain plain))
+calm_reads device first closed plain (Some addition) true has =
+    let none = has.0.plain plain in
+    absurd (has.2 refl (ap (λ (l : List Fill). l ++ has.0.behind) none.0 ∙ none.1))
+
+pub made_outcome : (facts : DiskFacts) → facts.sealed ≡ 0 → (seed : ℕ) (moment : ℤ) (c : JobsOutcome) → IsJobsOutcome facts made_archive (job_setting made_head every_packet_route moment []) 1 (made_contents seed) c
+    → (list_any is_unread c.ends ≡ false) × (c.unread ≡ false) → IsMadeOutcome seed moment c
+made_outcome facts plain seed moment c is read = record {
   came = record {
     more = is.more;
     grown = is.grown;
     of_links = is.of_links;
-    links = is.links;
+    links = links facts no_facts plain (extension_by made_archive c) (job_setting made_head every_packet_route moment []) 1 (made_contents seed) c.ends is.links;
     answered = λ none before few. no_ask facts no_facts made_archive [] c.reached _ (is.answered none before few);
-    readers = is.readers;
-    fillers = is.fillers;
+    readers = readers facts no_facts plain (take (min 4 (length (job_setting made_head every_packet_route moment []).asks)) c.others) is.readers;
+    fillers = fillers facts no_facts plain c.failed (drop (min 4 (length (job_setting made_head every_packet_route moment []).asks)) c.others) is.fillers;
     reported_so = is.reported_so;
-    failed = is.failed;
+    faulted = is.faulted;
+    failed = failed_so c.failed is.failed;
   };
   read = read;
 }
+  where
+    failed_so : (failed : Option Addition) → IfSome failed (IsFailedAddition facts [] c.reached (job_setting made_head every_packet_route moment []) 1 (made_contents seed) c.ends)
+        → IfSome failed (IsFailedAddition no_facts [] c.reached (job_setting made_head every_packet_route moment []) 1 (made_contents seed) c.ends)
+    failed_so None has = tt
+    failed_so (Some addition) has = failed_addition facts no_facts plain [] c.reached (job_setting made_head every_packet_route moment []) 1 (made_contents seed) c.ends addition has

@@ -4,7 +4,6 @@ use Rattle.std.specs.Prelude.{IsTrue}
 use Rattle.std.specs.List.{list_any}
 use Rattle.arch_disk.specs.Disk.{Device}
 use Rattle.refusals.specs.declared.refusal.Refusal.{Refusal}
-use Rattle.refusals.specs.declared.refusal.Refusal.TheVariants as refused
 use Rattle.history_items.specs.declared.fills.Addition.{Addition}
 use Rattle.history_items.specs.declared.fills.Addition.TheVariants.{Rows}
 use Rattle.history_items.specs.declared.items.Item.{Item}
@@ -16,7 +15,8 @@ use Rattle.command_plans.specs.Plan.{EachEnd, IsDetermined, Stopped}
 use Rattle.command_plans.proofs.Plans.{determined_map_done}
 use Rattle.command_runs.specs.Command.{AllFilled, Extended, FillingFailed, NotAsked, behind_making}
 use Rattle.command_runs.specs.Extension.{filled_at}
-use Rattle.command_runs.specs.FillingPlan.{after_filling, filled_to}
+use Rattle.command_runs.specs.FillingPlan.{FillingEnd, Refused, Unread, Unwritten, Whole, after_filling, filled_to}
+use Rattle.command_runs.specs.Reading.{InMemory}
 use Rattle.command_runs.proofs.Making.{AsksDisk, reads_behind}
 use Rattle.command_runs.proofs.OverInputs.{HasRead}
 use Rattle.live_session.specs.declared.reported.ReportedRefusal.{ReportedRefusal}
@@ -31,7 +31,7 @@ use Rattle.make_command.specs.Make.{summary_or_mismatch, behind_plan, made_load_
 
 module _ {D : Type 0} (device : Device D) (seed : ℕ) (c : JobsOutcome) where
   summary_determined : IsDetermined (summary_plan device seed c)
-  summary_determined = λ fillings is. (compared_once (filled_at made_archive c.reached fillings), λ found was. each (filled_at made_archive c.reached fillings) found)
+  summary_determined = λ fillings is. (compared_once (Unit {0}) tt (filled_at made_archive c.reached fillings), λ found was. each (filled_at made_archive c.reached fillings) found)
     where
       each : (filled : FilledArchive) (found : Option Refusal) → IsDetermined (summary_or_mismatch seed c filled found)
       each filled None = tt
@@ -45,7 +45,7 @@ make_determined device disk next seed known = (λ a b h k. holds_once (device.re
     each true = tt
     each false =
         determined_map_done (behind_making made_head) (made_load_plan device next seed)
-        (λ moment is c came. session_determined 0 made_archive c (summary_plan device seed c) (summary_determined device seed c) (reported_of 1 c.ends c.others) c.failed)
+        (λ moment is c came. session_determined InMemory tt 0 made_archive c (summary_plan device seed c) (summary_determined device seed c) (reported_of 1 c.ends c.others) c.failed)
 
 -- ---- nothing is asked of the inputs
 
@@ -65,8 +65,8 @@ make_reads device disk next seed = ((refl, refl), ((refl, refl), λ there h. eac
     each true = (refl, refl)
     each false =
         reads_behind made_head 0 (made_load_plan device next seed)
-        (λ moment is c came. subst (λ (b : Bool). EachEnd (HasUsed 0 b) (after_session 0 made_archive c (summary_plan device seed c) (reported_of 1 c.ends c.others) c.failed)) came.read
-        (session_used 0 made_archive c (summary_plan device seed c) (summary_used device seed c) (reported_of 1 c.ends c.others) c.failed))
+        (λ moment is c came. subst (λ (b : Bool). EachEnd (HasUsed 0 b) (after_session InMemory 0 made_archive c (summary_plan device seed c) (reported_of 1 c.ends c.others) c.failed)) came.read.0
+        (session_used 0 made_archive c InMemory (summary_plan device seed c) (summary_used device seed c) (reported_of 1 c.ends c.others) c.failed))
 
 -- ---- behind the making the disk is asked
 
@@ -94,7 +94,7 @@ module _ {D : Type 0} (device : Device D) (seed : ℕ) (c : JobsOutcome) where
       each filled None = (filled_to_end, (filled_to_end, filled_to_end))
       each filled (Some refusal) = filled_to_end
 
-  session_asks : (said : Option ReportedRefusal) (failed : Option Addition) → EachEnd AsksDisk (after_session 0 made_archive c (summary_plan device seed c) said failed)
+  session_asks : (said : Option ReportedRefusal) (failed : Option Addition) → EachEnd AsksDisk (after_session InMemory 0 made_archive c (summary_plan device seed c) said failed)
   session_asks None failed = (extended_asked made_archive c.reached, (fill_asked made_archive c.reached, λ full is. each full))
     where
       each : (full : Bool) → EachEnd AsksDisk (after_filling (history_extended 0 made_archive None c) (summary_plan device seed c) full)
@@ -102,10 +102,11 @@ module _ {D : Type 0} (device : Device D) (seed : ℕ) (c : JobsOutcome) where
       each false = summary_asks
   session_asks (Some reported) None = λ end is. each end
     where
-      each : (end : Option Refusal) → AsksDisk (Stopped (filled_to made_archive c.reached (job_refused 0 made_archive c reported) end) (Some reported.refusal))
-      each None = filled_to_end
-      each (Some refused.DiskFault) = fill_asked made_archive c.reached
-      each (Some other) = extended_asked made_archive c.reached
+      each : (end : FillingEnd) → AsksDisk (Stopped (filled_to made_archive c.reached (job_refused 0 made_archive c reported) end) (Some reported.refusal))
+      each Whole = filled_to_end
+      each Unwritten = fill_asked made_archive c.reached
+      each Unread = extended_asked made_archive c.reached
+      each Refused = extended_asked made_archive c.reached
   session_asks (Some reported) (Some addition) = write_asked made_archive c.reached addition
 
 pub load_asks : {D : Type 0} (device : Device D) (next : Option ℤ) (seed : ℕ) → EachEnd AsksDisk (made_load_plan device next seed)

@@ -2,7 +2,7 @@
 use Rattle.std.proofs.Common.{◌≡◌, inl, inr, ℕ, false, List, length, Option, Some, None, refl, ap}
 use Rattle.arch_disk.specs.Disk.{Device}
 use Rattle.refusals.specs.declared.refusal.Refusal.{Refusal}
-use Rattle.refusals.specs.declared.refusal.Refusal.TheVariants.{OutOfMemory, WriteFault}
+use Rattle.refusals.specs.declared.refusal.Refusal.TheVariants.{DiskFault, Mismatch, OutOfMemory, WriteFault}
 use Rattle.outer_traits.specs.States.{OutputState}
 use Rattle.param_segments.specs.Rows.{SetRow}
 use Rattle.store_fills.specs.Sound.{Fillings}
@@ -22,7 +22,7 @@ use Rattle.make_command.specs.Summing.{IsSummaryReply, counts_behind, summary_re
 
 -- All was loaded and filled, with these fills.
 module _ {D : Type 0} (device : Device D) (disk disk' : D) (output output' : OutputState) (report : Report) (seed : ℕ) (c : JobsOutcome) (fillings : Fillings (List SetRow)) (is_filled : IsFilledBy device c.reached fillings)
-    (disk_is : HasDiskOutcome device disk disk' false (AllFilled made_archive c.reached)) where
+    (disk_is : HasDiskOutcome device disk disk' c.unread (AllFilled made_archive c.reached)) (OnPages : Type 0) (no_pages : OnPages → ⊥) where
   abbrev went : Effects D
   went = effects_of disk disk' output output' report
 
@@ -42,15 +42,15 @@ module _ {D : Type 0} (device : Device D) (disk disk' : D) (output output' : Out
   Summed = Ran device (summary_plan device seed c) went
 
   -- all was printed, or not to its end; or nothing was, since memory was wanting, or a mismatch was found
-  pub ran_summary : (refusal : Option Refusal) → IsSummaryReply seed counts filled refusal output output' → report ≡ summary_report refusal (length c.reached) counts → Summed
+  pub ran_summary : (refusal : Option Refusal) → IsSummaryReply OnPages seed counts filled refusal output output' → report ≡ summary_report refusal (length c.reached) counts → Summed
   ran_summary None reply is = record {
     way = Stopped (record (made_and_filled c) { text = text; report = made_report c }) None;
-    allows = (fillings, is_filled, inr (None, reply.0, inr (inr refl)));
+    allows = (fillings, is_filled, inr (None, (λ told. reply.0), inr (inr refl)));
     did = record { report = is; printed = reply.1.all; output = record { counted = reply.1.no_fault }; disk = disk_is; log = tt; pending = tt };
   }
   ran_summary (Some WriteFault) reply is = record {
     way = Interrupted printing OfOutput;
-    allows = (fillings, is_filled, inr (None, reply.0, inr (inl refl)));
+    allows = (fillings, is_filled, inr (None, (λ told. reply.0), inr (inl refl)));
     did = record { report = is; printed = reply.1.some; output = record { counted = risen_counted output.faults output'.faults reply.1.later reply.1.failed }; disk = disk_is; log = tt; pending = tt };
   }
   ran_summary (Some OutOfMemory) (inl silent) is = record {
@@ -60,11 +60,13 @@ module _ {D : Type 0} (device : Device D) (disk disk' : D) (output output' : Out
   }
   ran_summary (Some OutOfMemory) (inr part) is = record {
     way = Interrupted printing OfMemory;
-    allows = (fillings, is_filled, inr (None, part.0, inl refl));
+    allows = (fillings, is_filled, inr (None, (λ told. part.0), inl refl));
     did = record { report = is; printed = part.1.some; output = record { counted = part.1.no_fault }; disk = disk_is; log = tt; pending = tt };
   }
-  ran_summary (Some refusal) reply is = record {
-    way = Stopped (made_and_filled c) (Some refusal);
-    allows = (fillings, is_filled, inr (Some refusal, reply.0, refl));
+  ran_summary (Some DiskFault) reply is = absurd (no_pages reply.0)
+  ran_summary (Some (Mismatch i n k s r)) reply is = record {
+    way = Stopped (made_and_filled c) (Some (Mismatch i n k s r));
+    allows = (fillings, is_filled, inr (Some (Mismatch i n k s r), (λ told. reply.0), refl));
     did = record { report = is; printed = rw reply.1 (no_text output.written); output = record { counted = ap (λ (o : OutputState). o.faults) reply.1 }; disk = disk_is; log = tt; pending = tt };
   }
+  ran_summary (Some other) reply is = absurd reply.0

@@ -1,7 +1,8 @@
 -- What is counted of an archive of made packets, how that is printed, and what is reported of it.
-use Rattle.std.proofs.Common.{◌≡◌, ◌∙◌, ◌<◌, inl, inr, pos, ℕ, List, [], ◌∷◌, ◌++◌, length, Option, Some, None, append_assoc, append-nil, codes, decimal, refl, sym, ap, subst, arith}
-use Rattle.std.specs.Prelude.{Err, IsSome, flat_map, slice_get, unwrap_or}
+use Rattle.std.proofs.Common.{◌≡◌, ◌∙◌, ◌<◌, ◌⊎◌, inl, inr, pos, ℕ, List, [], ◌∷◌, ◌++◌, length, Option, Some, None, append_assoc, append-nil, codes, decimal, refl, sym, ap, subst, arith}
+use Rattle.std.specs.Prelude.{Err, IsErrAnd, IsSome, Ok, Result, flat_map, slice_get, unwrap_or}
 use Rattle.std.specs.Option.{option_map_or}
+use Rattle.arch_disk.specs.Disk.{Device}
 use Rattle.intervals.specs.declared.interval.Interval.{Interval}
 use Rattle.asks.specs.declared.ask.Answer.{Answer}
 use Rattle.asks.specs.declared.ask.Request.{Request}
@@ -9,7 +10,7 @@ use Rattle.asks.specs.declared.refusal.AskRefusal.TheVariants.{UnknownParameter}
 use Rattle.asks.specs.Names.{parameter_number}
 use Rattle.asks.specs.Refusals.{range_refusal, request_refusal}
 use Rattle.refusals.specs.declared.refusal.Refusal.{Refusal}
-use Rattle.refusals.specs.declared.refusal.Refusal.TheVariants.{Mismatch, OutOfMemory, WriteFault}
+use Rattle.refusals.specs.declared.refusal.Refusal.TheVariants.{Damaged, DiskFault, Mismatch, OutOfMemory, WriteFault}
 use Rattle.refusals.specs.Refusal.{refusal_of_print}
 use Rattle.outer_traits.specs.States.{OutputState}
 use Rattle.outer_traits.specs.declared.print_fault.PrintFault.{PrintFault}
@@ -25,14 +26,18 @@ use Rattle.line_buffer.specs.Printed.{IsPrinted, PrintsText}
 use Rattle.line_buffer.proofs.PrintedTexts.{left_cut, left_written, printed_then}
 use Rattle.archive_store.specs.Entries.{FilledArchive}
 use Rattle.archive_store.specs.Finding.{IsNotFound}
+use Rattle.archive_store.specs.Pages.{HasPages, TellsRows}
 use Rattle.archive_store.specs.StoreView.{StoreView, filled_of}
+use Rattle.archive_store.specs.UnreadRows.{IsLeftByAnswer, IsLeftByRefusal, IsReadRefusal, ReadsRows}
+use Rattle.archive_store.proofs.ReadOn.{fault_after, left_after, reads_calm, reads_on}
 use Rattle.archive_verify.specs.declared.verified.Sound.{Sound}
-use Rattle.archive_verify.specs.Verified.{IsCounted}
+use Rattle.archive_verify.specs.Verified.{HoldCurrentFills, IsCounted, IsVerifyRefusal}
 use Rattle.archive_verify.proofs.Counting.{late_by_bases}
-use Rattle.archive_commands.specs.Verify.{IsCompared, sound_line, verify_line}
+use Rattle.archive_commands.specs.Verify.{sound_line, verify_line}
+use Rattle.archive_commands.proofs.Comparing.{read_refused, refused_so}
 use Rattle.retrieval.specs.FilledAnswer.{IsFilledAnswer, filled_answer}
-use Rattle.command_runs.specs.Checking.{IsCheckRefusal}
 use Rattle.command_runs.specs.Finishing.{IsFinished}
+use Rattle.command_runs.specs.Reading.{AreUnread, WasRead}
 use Rattle.command_runs.specs.declared.report.LoadCounts.{LoadCounts}
 use Rattle.command_runs.specs.declared.report.Report.{Report}
 use Rattle.live_session.specs.declared.reported.DumpCounts.{DumpCounts}
@@ -118,31 +123,65 @@ printed_then_failed e = printed_then {X = Unit {0}} (Err e)
 
 -- ---- the reply
 
-module _ (seed : ℕ) (counts : LoadCounts) (filled : FilledArchive) where
+module _ {D : Type 0} (device : Device D) (store : StoreView D) (told : TellsRows device store) (seed : ℕ) (counts : LoadCounts) where
+  abbrev NotSummed : Refusal → OutputState → Type 0
+  NotSummed refusal output = IsSummaryReply (HasPages store) seed counts (filled_of store) (Some refusal) output output
+
+  -- rows weren't read
+  pub unread_so : (refusal : Refusal) (output : OutputState) → (refusal ≡ OutOfMemory) ⊎ AreUnread device store refusal → NotSummed refusal output
+  unread_so refusal output (inl memory) = subst (λ (r : Refusal). NotSummed r output) (sym memory) (inl refl)
+  unread_so DiskFault output (inr paged) = (paged, refl)
+  unread_so (Damaged file at) output (inr unread) = absurd (unread.1 told)
+  unread_so other output (inr none) = absurd none
+
+  -- comparing was refused
+  pub unsummed : (new : StoreView D) (refusal : Refusal) (output : OutputState) → IsVerifyRefusal device store new refusal → NotSummed refusal output
+  unsummed new (Mismatch i n k s r) output (inl reported) = (reported.1 told, refl)
+  unsummed new other output (inl reported) = absurd reported.0
+  unsummed new refusal output (inr is) = unread_so refusal output (refused_so device store new refusal is)
+
+module _ (OnPages : Type 0) (seed : ℕ) (counts : LoadCounts) (filled : FilledArchive) where
   abbrev text : List ℕ
   text = summary_text seed counts.packets counts.duplicates filled
 
   abbrev Reply : Option Refusal → OutputState → OutputState → Type 0
-  Reply = IsSummaryReply seed counts filled
-
-  -- comparing was refused
-  pub unsummed : (refusal : Refusal) (output : OutputState) → IsCheckRefusal (IsCompared filled) refusal → Reply (Some refusal) output output
-  unsummed refusal output (inl memory) = subst (λ (r : Refusal). Reply (Some r) output output) (sym memory) (inl refl)
-  unsummed (Mismatch i n k s r) output (inr found) = (found, refl)
-  unsummed other output (inr none) = absurd none
+  Reply = IsSummaryReply OnPages seed counts filled
 
   -- nothing was found, and the lines were printed but for what is left, and then that, or not to its end
-  pub summed_to_end : (refusal : Option Refusal) (first now new : OutputState) (left : List ℕ) → IsCompared filled None → IsPrinted first now text left → IsFinished refusal now new left → Reply refusal first new
+  pub summed_to_end : (refusal : Option Refusal) (first now new : OutputState) (left : List ℕ) → HoldCurrentFills filled → IsPrinted first now text left → IsFinished refusal now new left → Reply refusal first new
   summed_to_end None first now new left compared printed done = (compared, left_written first now new text left printed done)
   summed_to_end (Some WriteFault) first now new left compared printed done = (compared, left_cut first now new text left printed done)
   summed_to_end (Some other) first now new left compared printed done = absurd done
 
   -- or they weren't printed to their end
-  pub summed_part : (fault : PrintFault) (first new : OutputState) (left : List ℕ) → IsCompared filled None → PrintsText {X = Unit {0}} (Err fault) first new text left → Reply (Some (refusal_of_print fault)) first new
+  pub summed_part : (fault : PrintFault) (first new : OutputState) (left : List ℕ) → HoldCurrentFills filled → PrintsText {X = Unit {0}} (Err fault) first new text left → Reply (Some (refusal_of_print fault)) first new
   summed_part unprinted.Write first new left compared printed = (compared, printed)
   summed_part unprinted.DiskFault first new left compared printed = absurd printed
   summed_part (unprinted.Damaged file at) first new left compared printed = absurd printed
   summed_part unprinted.OutOfMemory first new left compared printed = inr (compared, printed)
+
+-- ---- what was read for it
+
+-- lines that are in memory were printed, or not to their end
+pub lines_read : {D : Type 0} (device : Device D) (old new : StoreView D) (fault : PrintFault) (first last : OutputState) (shown left : List ℕ) → ReadsRows device old new → PrintsText {X = Unit {0}} (Err fault) first last shown left
+    → WasRead device old new (Some (refusal_of_print fault))
+lines_read device old new unprinted.Write first last shown left reads printed = record { same = reads_on device old new reads; failed = reads_calm device old new reads }
+lines_read device old new unprinted.DiskFault first last shown left reads printed = absurd printed
+lines_read device old new (unprinted.Damaged file at) first last shown left reads printed = absurd printed
+lines_read device old new unprinted.OutOfMemory first last shown left reads printed = record { same = reads_on device old new reads; failed = reads_calm device old new reads }
+
+-- what is left where rows aren't read, of the refusal that is handed on
+pub left_handed : {D X : Type 0} (device : Device D) (old new : StoreView D) (r : Result X Refusal) (refusal : Refusal) → IsErrAnd r (λ e. e ≡ refusal) → IsLeftByRefusal device old new refusal → IsLeftByAnswer device old new r
+left_handed device old new (Ok x) refusal is left = absurd is
+left_handed device old new (Err e) refusal is left = subst (IsLeftByRefusal device old new) (sym is) left
+
+-- behind rows that were read, others weren't
+module _ {D : Type 0} (device : Device D) (old mid new : StoreView D) (reads : ReadsRows device old mid) (refusal : Refusal) where
+  pub refused_behind : IsReadRefusal device mid new refusal → IsReadRefusal device old new refusal
+  refused_behind (fault, is, of) = (fault, fault_after device old mid new reads fault is, of)
+
+  pub unread_behind : IsReadRefusal device mid new refusal → IsLeftByRefusal device mid new refusal → WasRead device old new (Some refusal)
+  unread_behind is left = read_refused device old new refusal (refused_behind is) (left_after device old mid new reads refusal left)
 
 -- ---- what is reported
 
@@ -151,11 +190,24 @@ refusal_is None rows counts = refl
 refusal_is (Some refusal) rows counts = refl
 
 -- by how many rows came
-pub summed_up : (seed : ℕ) (dumps : DumpCounts) (filled : FilledArchive) (rows front : ℕ) → front ≡ rows → (refusal : Option Refusal) (report : Report) (before after : OutputState)
-    → IsSummaryReply seed (counts_behind dumps front) filled refusal before after → report ≡ summary_report refusal front (counts_behind dumps front)
-    → IsSummaryReply seed (counts_behind dumps rows) filled report.refusal before after × (report ≡ summary_report report.refusal rows (counts_behind dumps rows))
-summed_up seed dumps filled rows front same refusal report before after reply is =
-    let reported = subst (λ (n : ℕ). report ≡ summary_report refusal n (counts_behind dumps n)) same is in
-    let replied = subst (λ (n : ℕ). IsSummaryReply seed (counts_behind dumps n) filled refusal before after) same reply in
-    let one : refusal ≡ report.refusal = sym (ap (λ (r : Report). r.refusal) reported ∙ refusal_is refusal rows (counts_behind dumps rows)) in
-    (subst (λ (o : Option Refusal). IsSummaryReply seed (counts_behind dumps rows) filled o before after) one replied, subst (λ (o : Option Refusal). report ≡ summary_report o rows (counts_behind dumps rows)) one reported)
+module _ {D : Type 0} (device : Device D) (old new : StoreView D) (seed : ℕ) (dumps : DumpCounts) (rows front : ℕ) (same : front ≡ rows) (refusal : Option Refusal) (report : Report) (before after : OutputState)
+    (is : report ≡ summary_report refusal front (counts_behind dumps front)) where
+  abbrev Summed : ℕ → Option Refusal → Type 0
+  Summed n o = TellsRows device old → IsSummaryReply (HasPages old) seed (counts_behind dumps n) (filled_of old) o before after
+
+  reported : report ≡ summary_report refusal rows (counts_behind dumps rows)
+  reported = subst (λ (n : ℕ). report ≡ summary_report refusal n (counts_behind dumps n)) same is
+
+  one : refusal ≡ report.refusal
+  one = sym (ap (λ (r : Report). r.refusal) reported ∙ refusal_is refusal rows (counts_behind dumps rows))
+
+  pub summed_up : Summed front refusal → Summed rows report.refusal
+  summed_up reply told =
+      subst (λ (o : Option Refusal). IsSummaryReply (HasPages old) seed (counts_behind dumps rows) (filled_of old) o before after) one
+      (subst (λ (n : ℕ). IsSummaryReply (HasPages old) seed (counts_behind dumps n) (filled_of old) refusal before after) same (reply told))
+
+  pub reported_up : report ≡ summary_report report.refusal rows (counts_behind dumps rows)
+  reported_up = subst (λ (o : Option Refusal). report ≡ summary_report o rows (counts_behind dumps rows)) one reported
+
+  pub read_up : WasRead device old new refusal → WasRead device old new report.refusal
+  read_up = subst (WasRead device old new) one

@@ -51,16 +51,16 @@ octets_state left = record { left = Some left; faults = 0; never_fails = Unit {0
 
 -- ---- what becomes of them
 
--- nothing is known of a disk
+-- nothing is known of a disk; no row of its archive stands in a run
 abbrev pub no_facts : DiskFacts
-no_facts = record { known = ⊥; sound = ⊥ }
+no_facts = record { known = ⊥; sound = ⊥; sealed = 0 }
 
 -- The jobs that load them, from link 1 on and at a moment, came to this. No ask is answered, and no read failed: octets
--- in memory are read to their end.
+-- in memory are read to their end, and no row stands in a run.
 pub record IsMadeOutcome (seed : ℕ) (moment : ℤ) (c : JobsOutcome) : Type 0 where
   pub came : IsJobsOutcome no_facts made_archive (job_setting made_head every_packet_route moment []) 1
       (made_contents seed) c
-  pub read : list_any is_unread c.ends ≡ false
+  pub read : (list_any is_unread c.ends ≡ false) × (c.unread ≡ false)
 
 -- Once all is filled no interval is late; where the disk is known, each fill holds what its interval's rows give.
 pub record IsFilledBy {D : Type 0} (device : Device D) (reached : List Item) (fillings : Fillings (List SetRow))

@@ -10,6 +10,7 @@ use Rattle.command_runs.specs.Command.{Progress, behind_making}
 use Rattle.command_runs.specs.Extension.{filled_at}
 use Rattle.command_runs.specs.FillingPlan.{all_filled}
 use Rattle.command_runs.specs.Moment.{IsMomentOf}
+use Rattle.command_runs.specs.Reading.{InMemory}
 use Rattle.command_runs.specs.declared.report.Report.{Report}
 use Rattle.command_runs.specs.Report.{loaded}
 use Rattle.live_session.specs.Outcome.{JobsOutcome, counts_of, reported_of}
@@ -46,7 +47,7 @@ summary_or_mismatch seed c filled (Some refusal) = Stop (made_and_filled c) (Som
 -- compares what is stored of the intervals with what their rows give
 abbrev pub comparing_plan : ℕ → JobsOutcome → FilledArchive → CommandPlan Progress ⊥
 comparing_plan seed c filled =
-    May OfMemory (made_and_filled c) (Question (IsCompared filled) (summary_or_mismatch seed c filled))
+    May OfMemory (made_and_filled c) (Question (IsCompared (Unit {0}) filled) (summary_or_mismatch seed c filled))
 
 -- what follows where nothing was refused: the fills that the archive has got are compared, and all is printed
 abbrev pub summary_plan : {D : Type 0} → Device D → ℕ → JobsOutcome → CommandPlan Progress ⊥
@@ -61,7 +62,7 @@ abbrev pub made_load_plan : {D : Type 0} → Device D → Option ℤ → ℕ →
 made_load_plan device next seed =
     Choose (IsMomentOf next) (λ moment.
     Choose (IsMadeOutcome seed moment) (λ c.
-    after_session 0 made_archive c (summary_plan device seed c) (reported_of 1 c.ends c.others) c.failed))
+    after_session InMemory 0 made_archive c (summary_plan device seed c) (reported_of 1 c.ends c.others) c.failed))
 
 -- ---- the whole
 

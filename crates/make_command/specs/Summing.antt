@@ -7,12 +7,12 @@ use Rattle.interval_walks.specs.Counts.{intervals_in}
 use Rattle.mdb_items.specs.Database.{Database}
 use Rattle.outer_traits.specs.States.{OutputState}
 use Rattle.refusals.specs.declared.refusal.Refusal.{Refusal}
-use Rattle.refusals.specs.declared.refusal.Refusal.TheVariants.{OutOfMemory, WriteFault}
+use Rattle.refusals.specs.declared.refusal.Refusal.TheVariants.{DiskFault, OutOfMemory, WriteFault}
 use Rattle.line_buffer.specs.Printed.{IsCutOff, IsPartPrinted, IsWritten}
 use Rattle.archive_store.specs.Entries.{FilledArchive}
 use Rattle.archive_store.specs.LateFills.{late_in_archive}
 use Rattle.archive_verify.specs.declared.verified.Sound.{Sound}
-use Rattle.archive_commands.specs.Verify.{IsCompared}
+use Rattle.archive_verify.specs.Verified.{HoldCurrentFills, ReportsMismatch}
 use Rattle.command_runs.specs.declared.report.LoadCounts.{LoadCounts}
 use Rattle.command_runs.specs.declared.report.Report.{Report}
 use Rattle.command_runs.specs.Report.{loaded}
@@ -57,17 +57,21 @@ count_lines counts =
     codes "cells apid " ++ decimal counts.apid ++ codes "\ncells temp " ++ decimal counts.temp
     ++ codes "\ncells level " ++ decimal counts.level ++ codes "\n"
 
--- How a summary is answered: nothing was found, and all was printed, or not to its end; or a mismatch was found, and
--- nothing was. Memory may be wanting at any place.
-abbrev pub IsSummaryReply : ℕ → LoadCounts → FilledArchive → Option Refusal → OutputState → OutputState → Type 0
-IsSummaryReply seed counts filled None before after =
-    IsCompared filled None × IsWritten before after (summary_text seed counts.packets counts.duplicates filled)
-IsSummaryReply seed counts filled (Some WriteFault) before after =
-    IsCompared filled None × IsCutOff before after (summary_text seed counts.packets counts.duplicates filled)
-IsSummaryReply seed counts filled (Some OutOfMemory) before after =
+-- How a summary is answered of rows that are told: nothing was found, and all was printed, or not to its end; or a
+-- mismatch was found, or, where rows stand on pages, the read of one failed, and nothing was. Memory may be wanting at
+-- any place.
+abbrev pub IsSummaryReply : Type 0 → ℕ → LoadCounts → FilledArchive → Option Refusal → OutputState → OutputState
+    → Type 0
+IsSummaryReply OnPages seed counts filled None before after =
+    HoldCurrentFills filled × IsWritten before after (summary_text seed counts.packets counts.duplicates filled)
+IsSummaryReply OnPages seed counts filled (Some WriteFault) before after =
+    HoldCurrentFills filled × IsCutOff before after (summary_text seed counts.packets counts.duplicates filled)
+IsSummaryReply OnPages seed counts filled (Some OutOfMemory) before after =
     (after ≡ before)
-    ⊎ (IsCompared filled None × IsPartPrinted before after (summary_text seed counts.packets counts.duplicates filled))
-IsSummaryReply seed counts filled (Some refusal) before after = IsCompared filled (Some refusal) × (after ≡ before)
+    ⊎ (HoldCurrentFills filled × IsPartPrinted before after (summary_text seed counts.packets counts.duplicates filled))
+IsSummaryReply OnPages seed counts filled (Some DiskFault) before after = OnPages × (after ≡ before)
+IsSummaryReply OnPages seed counts filled (Some refusal) before after =
+    ReportsMismatch filled refusal × (after ≡ before)
 
 -- the counts of a load into an archive that was empty, by what its dumps had together and how many rows came
 abbrev pub counts_behind : DumpCounts → ℕ → LoadCounts

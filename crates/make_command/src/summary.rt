@@ -1,11 +1,13 @@
 //! What an archive of made packets holds.
 
-ghost use Rattle.std.specs.Prelude.{◌≡◌, ◌++◌, ◌<◌, ◌≤◌, [], length, true, IfErr, IfOk, IsSome};
+ghost use Rattle.std.specs.Prelude.{◌≡◌, ℕ, ◌++◌, ◌<◌, ◌≤◌, List, [], length, true, IfErr, IfOk, IsSome};
 ghost use Rattle.text_forms.specs.Names.{is_name};
 ghost use Rattle.asks.specs.Names.{parameter_number};
-ghost use Rattle.refusals.specs.declared.refusal.Refusal.TheVariants.{OutOfMemory};
 ghost use Rattle.history_items.specs.Databases.{database_in};
+ghost use Rattle.archive_store.specs.Pages.{HasPages, TellsRows};
 ghost use Rattle.archive_store.specs.StoreView.{filled_of};
+ghost use Rattle.archive_store.specs.UnreadRows.{IsLeftByAnswer, IsReadRefusal};
+ghost use Rattle.command_runs.specs.Reading.{WasRead};
 ghost use Rattle.line_buffer.specs.LineRoom.{HasLineRoom};
 ghost use Rattle.line_buffer.specs.Printed.{PrintsText};
 ghost use Rattle.make_command.specs.Summary.{cell_count, make_line, summary_text, whole_request};
@@ -46,11 +48,12 @@ pub(crate) fn sum_up<D: Disk, K: Sink>(
     requires empty { line_buffer ≡ [] }
     requires counts { length store.old.history ≤ dumps.routed }
     requires known { KnowsParameters (database_in store.old.head.mdb store.old.history) }
-    ensures reply { IsSummaryReply seed (counts_behind dumps (length store.old.history)) (filled_of store.old)
-        result.refusal (K.state sink.old) (K.state sink.new) }
+    ensures reply { TellsRows D.device store.old → IsSummaryReply (HasPages store.old) seed
+        (counts_behind dumps (length store.old.history)) (filled_of store.old) result.refusal (K.state sink.old)
+        (K.state sink.new) }
     ensures report { result ≡ summary_report result.refusal (length store.old.history)
         (counts_behind dumps (length store.old.history)) }
-    ensures same { store.new ≡ store.old }
+    ensures read { WasRead D.device store.old store.new result.refusal }
 {
     let rows = store.front();
     let counts = LoadCounts {
@@ -75,8 +78,9 @@ fn print_summary<D: Disk, K: Sink>(
 ) -> Option<Refusal>
     requires empty { line_buffer ≡ [] }
     requires known { KnowsParameters (database_in store.old.head.mdb store.old.history) }
-    ensures reply { IsSummaryReply seed counts (filled_of store.old) result (K.state sink.old) (K.state sink.new) }
-    ensures same { store.new ≡ store.old }
+    ensures reply { TellsRows D.device store.old → IsSummaryReply (HasPages store.old) seed counts
+        (filled_of store.old) result (K.state sink.old) (K.state sink.new) }
+    ensures read { WasRead D.device store.old store.new result }
 {
     store.is_kept();
     let sound = match verify(alloc, store) {
@@ -125,9 +129,10 @@ fn cell_counts<D: Disk, L: Ledger>(
 ) -> Result<CellCounts, Refusal>
     requires known { KnowsParameters (database_in store.old.head.mdb store.old.history) }
     requires blank { (blank.name ≡ L.name) × (blank.parts ≡ L.parts) × (0 < blank.parts) }
-    ensures counts { IfOk result (λ counts. AreCellCounts (filled_of store.old) counts) }
-    ensures memory { IfErr result (λ refusal. refusal ≡ OutOfMemory) }
-    ensures same { store.new ≡ store.old }
+    ensures counts { TellsRows D.device store.old →
+        IfOk result (λ counts. AreCellCounts (filled_of store.old) counts) }
+    ensures refused { IfErr result (IsReadRefusal D.device store.old store.new) }
+    ensures same { IsLeftByAnswer D.device store.old store.new result }
 {
     let (book, share) = blank.open::<L>();
     let mut steps = Steps::new(book, share);
@@ -147,9 +152,10 @@ fn cell_count<D: Disk, L: Ledger>(
 ) -> Result<u64, Refusal>
     requires name { is_name name.now ≡ true }
     requires known { IsSome (parameter_number (database_in store.old.head.mdb store.old.history) name.now) }
-    ensures count { IfOk result (λ count. count ≡ cell_count (filled_of store.old) name.now) }
-    ensures memory { IfErr result (λ refusal. refusal ≡ OutOfMemory) }
-    ensures same { store.new ≡ store.old }
+    ensures count { TellsRows D.device store.old →
+        IfOk result (λ count. count ≡ cell_count (filled_of store.old) name.now) }
+    ensures refused { IfErr result (IsReadRefusal D.device store.old store.new) }
+    ensures same { IsLeftByAnswer D.device store.old store.new result }
 {
     let request = whole_request(alloc, name)?;
     let found = store.find(request)?;
@@ -180,10 +186,11 @@ fn print_lines<D: Disk, K: Sink>(
     sink: &mut K,
 ) -> Result<(), PrintFault>
     requires empty { line_buffer.old ≡ [] }
-    requires summed { IsSummedUp (filled_of store.now) summed.sound summed.cells }
-    ensures { PrintsText result (K.state sink.old) (K.state sink.new)
-        (summary_text summed.seed summed.counts.packets summed.counts.duplicates (filled_of store.now))
-        line_buffer.new }
+    // The text is the summary of an archive of which this was counted.
+    ensures { (text : List ℕ) ×
+        (IsSummedUp (filled_of store.now) summed.sound summed.cells →
+        text ≡ summary_text summed.seed summed.counts.packets summed.counts.duplicates (filled_of store.now))
+        × PrintsText result (K.state sink.old) (K.state sink.new) text line_buffer.new }
 {
     store.is_kept();
     let Ok(names) = store.names(alloc) else {

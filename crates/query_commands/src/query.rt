@@ -4,8 +4,9 @@ ghost use Rattle.std.specs.Prelude.{◌≡◌, ◌<◌, [], IsSome, IsTrue, None
 ghost use Rattle.archive_store.specs.StoreView.{filled_of};
 ghost use Rattle.retrieval.specs.FoundAsks.{AreFound, asks_found};
 ghost use Rattle.command_plans.specs.Plan.{IsDue};
-ghost use Rattle.ask_answers.specs.Asks.{ArePrinted, archive_asks_text};
+ghost use Rattle.ask_answers.specs.Asks.{archive_asks_text};
 ghost use Rattle.command_runs.specs.Command.{RanOver, effects_of};
+ghost use Rattle.command_runs.specs.Reading.{IsRowsText, WasRead};
 ghost use Rattle.query_commands.specs.Query.{query_plan};
 ghost use Rattle.query_commands.specs.QueryReplying.{IsSheetReply};
 ghost use Rattle.command_runs.specs.Report.{disk_of_work, report_of_work, status_at};
@@ -30,8 +31,10 @@ use std::sync::ledger::{Blank, Ledger};
 
 /// Answers the asks of a sheet over the whole history of a disk's archive.
 ///
-/// Refuses, in this order: by `Missing`, `ReadFault` or `Limit` SheetOctets; by `DiskFault`, `NoArchive` or `Damaged`; by `BadSheet`; by `Limit` Asks;
-/// each ask in turn by `UnknownParameter` or `UnknownTable`, then by `BadRange`; by `WriteFault`. `OutOfMemory` may come anywhere, also after some answers.
+/// Refuses, in this order: by `Missing`, `ReadFault` or `Limit` SheetOctets; by `DiskFault`, `NoArchive` or `Damaged`;
+/// by `BadSheet`; by `Limit` Asks; each ask in turn by `UnknownParameter` or `UnknownTable`, then by `BadRange`; by
+/// `DiskFault` where rows aren't read, or by `WriteFault`, also after some answers. `OutOfMemory` may come anywhere,
+/// also after some answers.
 pub fn query<D: Disk, I: Inputs, K: Sink>(
     alloc: Global,
     name: &str,
@@ -83,7 +86,7 @@ struct SheetAnswering {
 impl ArchiveWork for SheetAnswering {
     ghost use Rattle.query_commands.specs.Query.{answering_plan};
 
-    ghost plan = { λ work records found. answering_plan work.sheet found };
+    ghost plan = { λ work known found. answering_plan known.Tells work.sheet found };
 
     fn work<D: Disk, K: Sink>(
         self,
@@ -108,8 +111,7 @@ fn answer_sheet<D: Disk, K: Sink>(
     sink: &mut K,
 ) -> Option<Refusal>
     requires { line_buffer ≡ [] }
-    ensures reply { IsSheetReply (filled_of store.old) sheet result (K.state sink.old) (K.state sink.new) }
-    ensures same { store.new ≡ store.old }
+    ensures { IsSheetReply D.device store.old store.new sheet result (K.state sink.old) (K.state sink.new) }
 {
     match check_asks(alloc, store, sheet) {
         Ok(asks) => {
@@ -132,9 +134,9 @@ fn answer_asks<D: Disk, K: Sink, L: Ledger>(
     requires found { AreFound store.old.head store.old.history asks.now }
     requires empty { line_buffer ≡ [] }
     requires blank { (blank.name ≡ L.name) × (blank.parts ≡ L.parts) × (0 < blank.parts) }
-    ensures printed { ArePrinted (asks_found asks.now) result (K.state sink.old) (K.state sink.new)
+    ensures printed { IsRowsText D.device store.old result (K.state sink.old) (K.state sink.new)
         (archive_asks_text (filled_of store.old) 1 (asks_found asks.now)) }
-    ensures same { store.new ≡ store.old }
+    ensures read { WasRead D.device store.old store.new result }
 {
     let mut line_buffer = line_buffer;
     let (book, share) = blank.open::<L>();

@@ -6,8 +6,9 @@ ghost use Rattle.archive_store.specs.StoreView.{archive_of};
 ghost use Rattle.command_plans.specs.Plan.{IsDue};
 ghost use Rattle.ssql_types.specs.Laws.{NamesTables};
 ghost use Rattle.command_runs.specs.Command.{RanOver, effects_of};
+ghost use Rattle.command_runs.specs.Reading.{IsRowsText, WasRead};
 ghost use Rattle.command_runs.specs.Report.{disk_of_work, report_of_work, status_at};
-ghost use Rattle.query_commands.specs.SqlReplying.{IsTextPrinted, IsTextReply};
+ghost use Rattle.query_commands.specs.SqlReplying.{IsTextReply};
 ghost use Rattle.query_commands.specs.Sql.{sql_plan};
 ghost use Rattle.script_answers.specs.Statements.{packet_names, statements_text};
 
@@ -33,9 +34,10 @@ use std::sync::ledger::{Blank, Ledger};
 
 /// Answers the statements of a script over the whole history of a disk's archive.
 ///
-/// Refuses, in this order: by `Missing`, `ReadFault` or `Limit` ScriptOctets; by `DiskFault`, `NoArchive` or `Damaged`; by `BadSql` of rule 1 or 2,
-/// `Limit` Statements or SqlDepth; at the first token with which something is wrong by `BadSql` of another rule or `UnknownTable`; by `WriteFault`.
-/// `OutOfMemory` may come anywhere, also after some answers.
+/// Refuses, in this order: by `Missing`, `ReadFault` or `Limit` ScriptOctets; by `DiskFault`, `NoArchive` or `Damaged`;
+/// by `BadSql` of rule 1 or 2, `Limit` Statements or SqlDepth; at the first token with which something is wrong by
+/// `BadSql` of another rule or `UnknownTable`; by `DiskFault` where rows aren't read, or by `WriteFault`, also after
+/// some answers. `OutOfMemory` may come anywhere, also after some answers.
 pub fn query_sql<D: Disk, I: Inputs, K: Sink>(
     alloc: Global,
     name: &str,
@@ -90,7 +92,7 @@ struct TextAnswering<'a> {
 impl<'a> ArchiveWork for TextAnswering<'a> {
     ghost use Rattle.query_commands.specs.Sql.{text_plan};
 
-    ghost plan = { λ work records found. text_plan work.text.now found };
+    ghost plan = { λ work known found. text_plan known.Tells work.text.now found };
 
     fn work<D: Disk, K: Sink>(
         self,
@@ -99,8 +101,9 @@ impl<'a> ArchiveWork for TextAnswering<'a> {
         line_buffer: LineBuffer,
         sink: &mut K,
     ) -> (Store<D>, Report) {
+        let mut store = store;
         let front = store.front();
-        let refusal = answer_text(alloc, self.text, &store, line_buffer, sink);
+        let refusal = answer_text(alloc, self.text, &mut store, line_buffer, sink);
         (store, Report::read_only(refusal, front))
     }
 }
@@ -109,12 +112,12 @@ impl<'a> ArchiveWork for TextAnswering<'a> {
 fn answer_text<D: Disk, K: Sink>(
     alloc: Global,
     text: &[u8],
-    store: &Store<D>,
+    store: &mut Store<D>,
     line_buffer: LineBuffer,
     sink: &mut K,
 ) -> Option<Refusal>
     requires { line_buffer ≡ [] }
-    ensures { IsTextReply (archive_of store.now) text.now result (K.state sink.old) (K.state sink.new) }
+    ensures { IsTextReply D.device store.old store.new text.now result (K.state sink.old) (K.state sink.new) }
 {
     match store.names(alloc) {
         Ok(names) => answer_over(alloc, text, &names, store, line_buffer, sink),
@@ -127,13 +130,13 @@ fn answer_over<D: Disk, K: Sink>(
     alloc: Global,
     text: &[u8],
     names: &Names,
-    store: &Store<D>,
+    store: &mut Store<D>,
     line_buffer: LineBuffer,
     sink: &mut K,
 ) -> Option<Refusal>
-    requires names { names.now ≡ packet_names store.now.head store.now.history }
+    requires names { names.now ≡ packet_names store.old.head store.old.history }
     requires empty { line_buffer ≡ [] }
-    ensures { IsTextReply (archive_of store.now) text.now result (K.state sink.old) (K.state sink.new) }
+    ensures { IsTextReply D.device store.old store.new text.now result (K.state sink.old) (K.state sink.new) }
 {
     store.is_kept();
     let head = store.head();
@@ -153,16 +156,17 @@ fn print_answers<D: Disk, K: Sink, L: Ledger>(
     blank: Blank,
     statements: &[TypedStatement],
     names: &Names,
-    store: &Store<D>,
+    store: &mut Store<D>,
     line_buffer: LineBuffer,
     sink: &mut K,
 ) -> Option<Refusal>
-    requires names { names.now ≡ packet_names store.now.head store.now.history }
-    requires tables { AllByRecursion (NamesTables (length store.now.head.tables)) statements.now }
+    requires names { names.now ≡ packet_names store.old.head store.old.history }
+    requires tables { AllByRecursion (NamesTables (length store.old.head.tables)) statements.now }
     requires empty { line_buffer ≡ [] }
     requires blank { (blank.name ≡ L.name) × (blank.parts ≡ L.parts) × (0 < blank.parts) }
-    ensures { IsTextPrinted result (K.state sink.old) (K.state sink.new)
-        (statements_text (archive_of store.now) statements.now) }
+    ensures printed { IsRowsText D.device store.old result (K.state sink.old) (K.state sink.new)
+        (statements_text (archive_of store.old) statements.now) }
+    ensures read { WasRead D.device store.old store.new result }
 {
     let mut line_buffer = line_buffer;
     let (book, share) = blank.open::<L>();

@@ -1,16 +1,18 @@
--- Rows that aren't read where they are printed, and what reading them leaves, where all stand in memory.
-use Rattle.std.proofs.Common.{◌≡◌, ◌∙◌, Result, Ok, Err, refl, ap}
-use Rattle.arch_disk.specs.Disk.{Device}
+-- Rows that aren't read where they are printed, and what reading them leaves.
+use Rattle.std.proofs.Common.{◌≡◌, ◌∙◌, List, Result, Err, refl, sym, ap, subst}
+use Rattle.std.specs.Prelude.{ℕ}
+use Rattle.arch_disk.specs.Disk.{Device, NoFault}
 use Rattle.arch_types.specs.declared.row_fault.RowFault.{RowFault}
 use Rattle.arch_types.specs.declared.row_fault.RowFault.TheVariants as unread
+use Rattle.outer_traits.specs.States.{OutputState}
 use Rattle.outer_traits.specs.declared.print_fault.PrintFault.{PrintFault}
 use Rattle.outer_traits.specs.declared.print_fault.PrintFault.TheVariants.{Write, DiskFault, Damaged, OutOfMemory}
-use Rattle.refusals.specs.declared.refusal.Refusal.TheVariants as refused
 use Rattle.refusals.specs.Refusal.{refusal_of_print, refusal_of_rows}
-use Rattle.archive_store.specs.UnreadRows.{IsReadFault}
+use Rattle.line_buffer.specs.Printed.{IsPartPrinted, PrintsRead}
+use Rattle.archive_store.specs.PrintFaults.{IsPrintFault, IsUnprinted, print_fault_of}
 use Rattle.archive_store.specs.StoreView.{StoreView}
-use Rattle.archive_store.proofs.UnreadRows.{read_same, refusal_is_memory, refusal_same, unread_is_memory}
-use Rattle.retrieval.specs.PrintFaults.{IsLeftByPrint, IsUnprinted, print_fault_of}
+use Rattle.archive_store.specs.UnreadRows.{IsLeftByRefusal, IsReadFault, IsReadOn}
+use Rattle.archive_store.proofs.ReadOn.{left_on, reads_calm, source_fault_after}
 
 -- the fault of printing is answered by the refusal of the one of reading
 refused_alike : (fault : RowFault) → refusal_of_print (print_fault_of fault) ≡ refusal_of_rows fault
@@ -21,22 +23,50 @@ refused_alike unread.OutOfMemory = refl
 pub as_refused : (fault : RowFault) (printing : PrintFault) → printing ≡ print_fault_of fault → refusal_of_print printing ≡ refusal_of_rows fault
 as_refused fault printing of = ap refusal_of_print of ∙ refused_alike fault
 
--- a fault that is answered by want of memory is want of memory
-of_memory : (printing : PrintFault) → refusal_of_print printing ≡ refused.OutOfMemory → printing ≡ OutOfMemory
-of_memory Write is = absurd cc
-of_memory DiskFault is = absurd cc
-of_memory (Damaged file at) is = absurd cc
-of_memory OutOfMemory is = refl
+-- and is the one of that
+pub print_is : (printing : PrintFault) (fault : RowFault) → refusal_of_print printing ≡ refusal_of_rows fault → printing ≡ print_fault_of fault
+print_is Write unread.DiskFault of = absurd cc
+print_is Write (unread.Damaged file at) of = absurd cc
+print_is Write unread.OutOfMemory of = absurd cc
+print_is DiskFault unread.DiskFault of = refl
+print_is DiskFault (unread.Damaged file at) of = absurd cc
+print_is DiskFault unread.OutOfMemory of = absurd cc
+print_is (Damaged f a) unread.DiskFault of = absurd cc
+print_is (Damaged f a) (unread.Damaged file at) of = cc
+print_is (Damaged f a) unread.OutOfMemory of = absurd cc
+print_is OutOfMemory unread.DiskFault of = absurd cc
+print_is OutOfMemory (unread.Damaged file at) of = absurd cc
+print_is OutOfMemory unread.OutOfMemory of = refl
 
-module _ {D : Type 0} (device : Device D) (old new : StoreView D) where
-  -- rows in memory aren't printed for want of memory alone
-  pub unread_is_unprinted : (fault : RowFault) (printing : PrintFault) → IsReadFault device old new fault → printing ≡ print_fault_of fault → printing ≡ OutOfMemory
-  unread_is_unprinted fault printing is of = of ∙ ap print_fault_of (unread_is_memory device old new fault is)
+-- a prefix of a text went on that isn't printed since its rows aren't read
+pub unread_part : {X : Type 0} (r : Result X PrintFault) (fault : RowFault) (before after : OutputState) (text left : List ℕ) → r ≡ Err (print_fault_of fault) → IsPartPrinted before after text → PrintsRead r before after text left
+unread_part r unread.DiskFault before after text left is part = rw is part
+unread_part r (unread.Damaged file at) before after text left is part = rw is part
+unread_part r unread.OutOfMemory before after text left is part = rw is part
 
-  pub unprinted_is_memory : (printing : PrintFault) → IsUnprinted device old new printing → printing ≡ OutOfMemory
-  unprinted_is_memory printing is = of_memory printing (refusal_is_memory device old new (refusal_of_print printing) is)
+module _ {D : Type 0} (device : Device D) where
+  -- ---- one read
 
-  -- and all is as it was
-  pub print_same : {X : Type 0} (result : Result X PrintFault) → IsLeftByPrint device old new result → new ≡ old
-  print_same (Ok x) left = read_same device old new left
-  print_same (Err fault) left = refusal_same device old new (refusal_of_print fault) left
+  -- a fault of reading, as one of printing
+  pub unread_print : (a b : StoreView D) (fault : RowFault) → IsReadFault device a b fault → IsLeftByRefusal device a b (refusal_of_rows fault) → IsPrintFault device a b (print_fault_of fault)
+  unread_print a b unread.DiskFault is left = (is.0, is.1.rose)
+  unread_print a b (unread.Damaged file at) is left = (is.0, is.1, reads_calm device a b left)
+  unread_print a b unread.OutOfMemory is left = reads_calm device a b left
+
+  -- and what it leaves
+  pub unread_on : (a b : StoreView D) (fault : RowFault) → IsReadFault device a b fault → IsLeftByRefusal device a b (refusal_of_rows fault) → IsReadOn device a b
+  unread_on a b fault is left = left_on device a b (refusal_of_rows fault) (fault, is, refl) left
+
+  -- the same of a fault that was met where rows were to be printed
+  pub unprinted_print : (a b : StoreView D) (printing : PrintFault) → IsUnprinted device a b printing → IsLeftByRefusal device a b (refusal_of_print printing) → IsPrintFault device a b printing
+  unprinted_print a b printing (fault, is, of) left =
+      subst (IsPrintFault device a b) (sym (print_is printing fault of)) (unread_print a b fault is (subst (IsLeftByRefusal device a b) of left))
+
+  -- ---- reads behind each other
+
+  -- a fault of printing behind reads that met none is one of all of them
+  pub print_fault_then : (a b c : StoreView D) (fault : PrintFault) → IsReadOn device a b → NoFault device a.disk b.disk → IsPrintFault device b c fault → IsPrintFault device a c fault
+  print_fault_then a b c Write on calm is = is ∙ calm
+  print_fault_then a b c DiskFault on calm is = source_fault_after device a b c on calm unread.DiskFault is
+  print_fault_then a b c (Damaged file at) on calm is = source_fault_after device a b c on calm (unread.Damaged file at) is
+  print_fault_then a b c OutOfMemory on calm is = is ∙ calm

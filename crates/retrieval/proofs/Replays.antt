@@ -20,7 +20,9 @@ use Rattle.archive_store.specs.Replays.{IsReplayOpened, rows_below}
 use Rattle.mdb_items.specs.Texts.{Text}
 use Rattle.replay_merge.specs.Cursor.{CursorView, rest_of}
 use Rattle.replay_merge.specs.Replay.{has_listed_name, replay_of}
-use Rattle.line_buffer.specs.Output.{IsBuffered}
+use Rattle.line_buffer.specs.Printed.{IsCutOff, IsPartPrinted, IsPrinted}
+use Rattle.line_buffer.proofs.PrintedTexts.{cut_front, part_printed, printed_cut, printed_on}
+use Rattle.outer_traits.specs.States.{OutputState}
 use Rattle.retrieval.specs.ReplayText.{packet_line, packet_lines}
 
 -- ---- there are at most as many rows as in the history
@@ -93,28 +95,57 @@ nothing_left rows rest left step none end =
     let here = nil_from_length rows none in
     sym step ∙ ap (λ (rs : List Row). rs ++ rest) here ∙ end here
 
--- so all is printed
-pub all_printed : (names : List Text) (table : List ℕ) (first now : Option (List ℕ)) (all held : List ℕ) (left : List Row) → left ≡ [] →
-    IsBuffered first now all (held ++ packet_lines names table left) → IsBuffered first now all held
-all_printed names table first now all held left none h =
-    subst (IsBuffered first now all) (ap (λ (rows : List Row). held ++ packet_lines names table rows) none ∙ append-nil held) h
-
--- and counted
+-- and it is counted
 pub all_counted : (count total : ℕ) (left : List Row) → left ≡ [] → count + length left ≡ total → count ≡ total
 all_counted count total left none e =
     let zero : length left ≡ 0 = ap (λ (rows : List Row). length rows) none in
     omega (arith, zero, e)
 
--- the lines of a step's rows are the first of those that are left
-pub step_printed : (names : List Text) (table : List ℕ) (first now : Option (List ℕ)) (all held : List ℕ) (rows rest left : List Row) → rows ++ rest ≡ left →
-    IsBuffered first now all (held ++ packet_lines names table left) → IsBuffered first now all ((held ++ packet_lines names table rows) ++ packet_lines names table rest)
-step_printed names table first now all held rows rest left step h =
-    let lines : packet_lines names table left ≡ packet_lines names table rows ++ packet_lines names table rest =
-    ap (packet_lines names table) (sym step) ∙ flat_map-append (packet_line names table) rows rest in
-    subst (IsBuffered first now all) (ap (λ (text : List ℕ). held ++ text) lines ∙ sym (append_assoc held (packet_lines names table rows) (packet_lines names table rest))) h
-
--- and its rows are counted
+-- the rows of a step are
 pub step_counted : (count total : ℕ) (rows rest left : List Row) → rows ++ rest ≡ left → count + length left ≡ total → (count + length rows) + length rest ≡ total
 step_counted count total rows rest left step e =
     let parts : length left ≡ length rows + length rest = ap (λ (rs : List Row). length rs) (sym step) ∙ length-append rows rest in
     omega (arith, parts, e)
+
+-- A text was printed, and where rows are told the lines of those that are left stand behind it.
+module _ (Told : Type 0) (names : List Text) (table : List ℕ) (first now : OutputState) (buffered printed held : List ℕ) (left all : List Row)
+    (tells : Told → printed ++ packet_lines names table left ≡ packet_lines names table all) (is : IsPrinted first now (buffered ++ printed) held) where
+  abbrev lines : List Row → List ℕ
+  lines = packet_lines names table
+
+  -- none is left, so it is all of it
+  pub rows_ended : (Told → left ≡ []) → Told → printed ≡ lines all
+  rows_ended none told = sym (append-nil printed) ∙ sym (ap (λ (rows : List Row). printed ++ lines rows) (none told)) ∙ tells told
+
+  -- no more were read
+  pub rows_part : (text : List ℕ) × (Told → text ≡ lines all) × IsPartPrinted first now (buffered ++ text)
+  rows_part = (
+    printed ++ lines left,
+    tells,
+    subst (IsPartPrinted first now) (append_assoc buffered printed (lines left)) (part_printed first now (buffered ++ printed) (lines left) held is),
+  )
+
+  module _ (rows rest : List Row) (step : Told → rows ++ rest ≡ left) (new : OutputState) where
+    told_more : Told → (printed ++ lines rows) ++ lines rest ≡ lines all
+    told_more told =
+        append_assoc printed (lines rows) (lines rest) ∙ ap (λ (l : List ℕ). printed ++ l) (sym (flat_map-append (packet_line names table) rows rest))
+        ∙ ap (λ (rs : List Row). printed ++ lines rs) (step told) ∙ tells told
+
+    -- the lines of a step's rows were printed,
+    pub rows_on : (last : List ℕ) → IsPrinted now new (held ++ lines rows) last → (more : List ℕ) × (Told → more ++ lines rest ≡ lines all) × IsPrinted first new (buffered ++ more) last
+    rows_on last put = (
+      printed ++ lines rows,
+      told_more,
+      subst (λ (t : List ℕ). IsPrinted first new t last) (append_assoc buffered printed (lines rows)) (printed_on first now new (buffered ++ printed) (lines rows) held last is put),
+    )
+
+    in_three : ((buffered ++ printed) ++ lines rows) ++ lines rest ≡ buffered ++ ((printed ++ lines rows) ++ lines rest)
+    in_three = ap (λ (t : List ℕ). t ++ lines rest) (append_assoc buffered printed (lines rows)) ∙ append_assoc buffered (printed ++ lines rows) (lines rest)
+
+    -- or cut off
+    pub rows_cut : IsCutOff now new (held ++ lines rows) → (text : List ℕ) × (Told → text ≡ lines all) × IsCutOff first new (buffered ++ text)
+    rows_cut cut = (
+      (printed ++ lines rows) ++ lines rest,
+      told_more,
+      subst (IsCutOff first new) in_three (cut_front first new ((buffered ++ printed) ++ lines rows) (lines rest) (printed_cut first now new (buffered ++ printed) (lines rows) held is cut)),
+    )

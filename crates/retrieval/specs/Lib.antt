@@ -5,6 +5,6 @@ pub mod AnswerText
 pub mod ReplayText
 pub mod AskText
 pub mod FoundAsks
-pub mod PrintFaults
 pub mod FilledAnswer
 pub mod Laws
+pub use Rattle.archive_store.specs.PrintFaults

@@ -6,6 +6,7 @@ ghost use Rattle.history_items.specs.Databases.{database_in};
 ghost use Rattle.history_items.specs.Items.{rows_in};
 ghost use Rattle.store_fills.specs.LastFills.{fillings_in};
 ghost use Rattle.archive_store.specs.Finding.{IsRequestFound};
+ghost use Rattle.archive_store.specs.Pages.{TellsRows};
 ghost use Rattle.archive_store.specs.Plans.{late_rows_of_range};
 ghost use Rattle.archive_store.specs.UnreadRows.{IsLeftByRead, IsReadFault};
 ghost use Rattle.archive_store.specs.Stands.{IsSoundImage};
@@ -30,8 +31,9 @@ pub fn answer_request<D: Disk, L: Ledger>(
     steps: &mut Steps<L>,
 ) -> Result<Answer, RowFault>
     requires found { IsRequestFound (database_in store.old.head.mdb store.old.history) found.now }
-    ensures filled { IfOk result (IsFilledAnswer (database_in store.old.head.mdb store.old.history)
-        store.old.exponent store.old.history (fillings_in store.old.filled) found.now.request) }
+    ensures filled { TellsRows D.device store.old → IfOk result (IsFilledAnswer
+        (database_in store.old.head.mdb store.old.history) store.old.exponent store.old.history
+        (fillings_in store.old.filled) found.now.request) }
 
     // Where the fills of the disk were sound when it was opened, the cells are those that the range's rows give.
     ensures answered { IfOk result (λ answer.
@@ -42,7 +44,7 @@ pub fn answer_request<D: Disk, L: Ledger>(
     ensures same { IsLeftByRead D.device store.old store.new result }
 
     // No row of a filled interval takes one.
-    ensures steps { steps.new ≤ steps.old + length (filter
+    ensures steps { TellsRows D.device store.old → steps.new ≤ steps.old + length (filter
         (is_in_time_range found.now.request.from found.now.request.to) (late_rows_of_range store.old.exponent
         store.old.history store.old.fills found.now.request.from found.now.request.to)) }
 {

@@ -31,5 +31,4 @@ pub mod found_asks;
 pub mod laws;
 mod packet_text;
 pub mod parameter;
-pub mod print_faults;
 pub mod replay;

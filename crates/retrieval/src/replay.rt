@@ -1,21 +1,24 @@
 //! The lines of a replay.
 
-ghost use Rattle.std.specs.Prelude.{◌≡◌, ◌<◌, ◌^◌, ◌++◌, [], IfErr, IfOk, length};
+ghost use Rattle.std.specs.Prelude.{◌≡◌, ◌<◌, ◌^◌, ◌++◌, [], IfErr, IfOk, OnOk, length};
+ghost use Rattle.arch_disk.specs.Disk.{NoFault};
 ghost use Rattle.history_items.specs.Databases.{names_in};
 ghost use Rattle.archive_store.specs.Finding.{IsReplayFound};
+ghost use Rattle.archive_store.specs.Pages.{TellsRows};
+ghost use Rattle.archive_store.specs.PrintFaults.{IsLeftByPrint, IsPrintFault, IsUnprinted};
 ghost use Rattle.archive_store.specs.Replays.{rows_below};
-ghost use Rattle.line_buffer.specs.Printed.{BuffersText, PrintsText};
+ghost use Rattle.archive_store.specs.UnreadRows.{IsReadOn};
+ghost use Rattle.line_buffer.specs.Printed.{BuffersText, PrintsRows};
 ghost use Rattle.replay_merge.specs.Cursor.{steps_at_most, rest_of};
-ghost use Rattle.retrieval.specs.PrintFaults.{IsLeftByPrint, IsUnprinted};
 ghost use Rattle.retrieval.specs.ReplayText.{packet_lines, replay_lines, replay_text};
 ghost use Rattle.line_buffer.specs.LineRoom.{HasLineRoom};
 
 use crate::answer_text::{put_end, put_front};
 use crate::packet_text::put_packet;
-use crate::print_faults::print_fault_of;
 use arch_disk::Disk;
 use arch_types::name::{Name, Names};
 use arch_types::row::{Row, Rows};
+use archive_store::print_faults::print_fault_of;
 use archive_store::{FoundReplay, Store};
 use line_buffer::LineBuffer;
 use outer_traits::fault::Failed;
@@ -36,9 +39,11 @@ pub fn print_replay<D: Disk, K: Sink>(
 ) -> Result<(), PrintFault>
     requires known { IsReplayFound store.old.head.tables found.now }
     requires room { HasLineRoom line_buffer.old }
-    ensures printed { PrintsText result (K.state sink.old) (K.state sink.new)
-        (line_buffer.old ++ replay_text store.old.head store.old.history k found.now.request) line_buffer.new }
-    ensures same { store.new ≡ store.old }
+    ensures printed { PrintsRows (TellsRows D.device store.old) result (K.state sink.old) (K.state sink.new)
+        line_buffer.old (replay_text store.old.head store.old.history k found.now.request) line_buffer.new }
+    ensures refused { IfErr result (IsPrintFault D.device store.old store.new) }
+    ensures no_fault { OnOk result (NoFault D.device store.old.disk store.new.disk) }
+    ensures same { IsReadOn D.device store.old store.new }
 {
     let cursor = store.replay_open(alloc, found)?;
     let names = packet_names(alloc, store)?;
@@ -80,21 +85,25 @@ fn print_rest<D: Disk, K: Sink>(
 ) -> Result<usize, PrintFault>
     requires room { HasLineRoom line_buffer.old }
     requires few { length (rest_of cursor (rows_below store.old.history)) < 2 ^ 64 }
-    ensures printed { PrintsText result (K.state sink.old) (K.state sink.new)
-        (line_buffer.old ++ packet_lines names.now table.now (rest_of cursor (rows_below store.old.history)))
+    ensures printed { PrintsRows (TellsRows D.device store.old) result (K.state sink.old) (K.state sink.new)
+        line_buffer.old (packet_lines names.now table.now (rest_of cursor (rows_below store.old.history)))
         line_buffer.new }
-    ensures count { IfOk result (λ count. count ≡ length (rest_of cursor (rows_below store.old.history))) }
-    ensures same { store.new ≡ store.old }
+    ensures count { TellsRows D.device store.old → IfOk result (λ count.
+        count ≡ length (rest_of cursor (rows_below store.old.history))) }
+    ensures refused { IfErr result (IsPrintFault D.device store.old store.new) }
+    ensures no_fault { OnOk result (NoFault D.device store.old.disk store.new.disk) }
+    ensures same { IsReadOn D.device store.old store.new }
 {
     let mut cursor = cursor;
-    let mut count = 0;
+    // A disk that doesn't tell what it holds may give any number of rows.
+    let mut count = 0_usize;
     'steps: loop {
         let rows = next_rows(alloc, &mut cursor, store)?;
         if rows.len() == 0 {
             return Ok(count);
         }
         print_rows(names, table, rows.as_slice(), line_buffer, sink)?;
-        count += rows.len();
+        count = count.saturating_add(rows.len());
     }
 }
 
@@ -104,7 +113,7 @@ fn next_rows<D: Disk>(
     cursor: &mut Cursor,
     store: &mut Store<D>,
 ) -> Result<Rows, PrintFault>
-    ensures rows { IfOk result (λ rows.
+    ensures rows { TellsRows D.device store.old → IfOk result (λ rows.
         rows ++ rest_of cursor.new (rows_below store.old.history) ≡ rest_of cursor.old (rows_below store.old.history)) }
     ensures end { IfOk result (λ rows. rows ≡ [] → rest_of cursor.new (rows_below store.old.history) ≡ []) }
     ensures nearer { IfOk result (λ rows. (rows ≡ [] → ⊥) → steps_at_most cursor.new < steps_at_most cursor.old) }

@@ -1,6 +1,6 @@
 -- Marks that are taken from the publication before, and marks that are made anew.
 use Rattle.std.proofs.Common.{◌≡◌, ◌⊎◌, inl, inr, ℕ, zero, suc, ◌≤◌, ℤ, ◌<ℤ◌, Bool, true, false, true≢false, List, [], ◌∷◌, ◌++◌, length, drop, Option, Some, None, refl, sym, ◌∙◌, ap, subst, arith}
-use Rattle.std.specs.Prelude.{◌||◌, ◌&&◌, ◌==◌, slice_get, fold, map, IsSomeAnd, if◌then◌else◌, Result, Ok, Err, OnOk}
+use Rattle.std.specs.Prelude.{Contains, ◌||◌, ◌&&◌, ◌==◌, slice_get, fold, map, IsSomeAnd, if◌then◌else◌, Result, Ok, Err, OnOk}
 use Rattle.std.specs.List.{list_any, flat_map, AllByRecursion}
 use Rattle.std.specs.Ordering.{int_eq}
 use Rattle.std.proofs.Math.Seq.{drop-append_seam}
@@ -20,11 +20,9 @@ use Rattle.history_items.specs.declared.fills.Fill.TheVariants.{Begun, Done, Fre
 use Rattle.history_items.specs.declared.items.Item.{Item}
 use Rattle.history_items.specs.declared.items.Item.TheVariants as items
 use Rattle.history_items.specs.Fills.{base_after, base_in, is_same}
-use Rattle.history_items.specs.Items.{after_rows, changes_interval, has_key_of, items_of, row_item, row_of_item}
+use Rattle.history_items.specs.Items.{changes_interval, items_of, row_item, row_of_item}
 use Rattle.history_items.specs.Late.{HasRow, IsLastIn, StandsIn, last_in}
-use Rattle.history_items.specs.Outcomes.{fresh_of}
 use Rattle.history_items.proofs.Late.{last_is_greatest}
-use Rattle.history_items.proofs.Outcomes.{fresh_added, fresh_of_cons}
 use Rattle.interval_walks.specs.Turns.{IntervalsRise}
 use Rattle.archive_store.specs.declared.batch.Arrival.{Arrival}
 use Rattle.archive_store.specs.Batches.{arrival_rows, in_table}
@@ -361,17 +359,15 @@ rows_among e (a ∷ arrivals) =
     here [] = tt
     here (table ∷ tables) = (among_first (interval_at e a.row.key.time) (interval_at e a.row.key.time) (arrived_intervals e arrivals) refl, here tables)
 
--- so are those that are new to a history
-fresh_come : (P : Row → Type 0) (history : List Item) (rows : List Row) → AllByRecursion P rows → AllByRecursion (λ (item : Item). IsSomeAnd (row_of_item item) P) (items_of (fresh_of history rows))
-fresh_come P history [] all = tt
-fresh_come P history (row ∷ rows) all =
-    subst (λ (l : List Row). AllByRecursion (λ (item : Item). IsSomeAnd (row_of_item item) P) (items_of l)) (sym (fresh_of_cons history row rows))
-    (go (list_any (has_key_of row) history) (λ h. fresh_come P h rows all.1))
-  where
-    go : (b : Bool) → ((h : List Item) → AllByRecursion (λ (item : Item). IsSomeAnd (row_of_item item) P) (items_of (fresh_of h rows)))
-        → AllByRecursion (λ (item : Item). IsSomeAnd (row_of_item item) P) (items_of (if b then fresh_of history rows else row ∷ fresh_of (history ++ row_item row ∷ []) rows))
-    go true rest = rest history
-    go false rest = (all.0, rest (history ++ row_item row ∷ []))
+-- so are some of them
+member : {X : Type 0} (P : X → Type 0) (xs : List X) (x : X) → AllByRecursion P xs → Contains xs x → P x
+member P [] x all (i, low, is) = absurd (omega (arith, low))
+member P (y ∷ ys) x all (zero, low, is) = subst P is all.0
+member P (y ∷ ys) x all (suc i, low, is) = member P ys x all.1 (i, omega (arith, low), is)
+
+some_come : (P : Row → Type 0) (rows some : List Row) → AllByRecursion P rows → AllByRecursion (Contains rows) some → AllByRecursion (λ (item : Item). IsSomeAnd (row_of_item item) P) (items_of some)
+some_come P rows [] all are = tt
+some_come P rows (row ∷ some) all are = (member P rows row all are.0, some_come P rows some all are.1)
 
 module _ {D : Type 0} where
   -- nothing came
@@ -382,14 +378,12 @@ module _ {D : Type 0} where
   pub came_same : (old new : StoreView D) (arrivals : List Arrival) → new.history ≡ old.history → CameBy new (length old.history) arrivals
   came_same old new arrivals same = let lengths = ap length same in let all : length new.history ≤ length old.history = omega (arith, lengths) in came_none new (length old.history) arrivals all
 
-  -- the rows of packets came
-  pub came_rows : (old new : StoreView D) (arrivals : List Arrival) → new.history ≡ after_rows old.history (flat_map arrival_rows arrivals) → CameBy new (length old.history) arrivals
-  came_rows old new arrivals after =
-      let rows = flat_map arrival_rows arrivals in
-      let came = items_of (fresh_of old.history rows) in
-      let behind : drop (length old.history) new.history ≡ came = ap (drop (length old.history)) (after ∙ fresh_added old.history rows) ∙ drop-append_seam old.history came in
+  -- some of the rows of packets came
+  pub came_rows : (old new : StoreView D) (arrivals : List Arrival) (some : List Row) → AllByRecursion (Contains (flat_map arrival_rows arrivals)) some → new.history ≡ old.history ++ items_of some → CameBy new (length old.history) arrivals
+  came_rows old new arrivals some are after =
+      let behind : drop (length old.history) new.history ≡ items_of some = ap (drop (length old.history)) after ∙ drop-append_seam old.history (items_of some) in
       subst (ComeTo new.exponent (arrived_intervals new.exponent arrivals)) (sym behind)
-      (fresh_come (λ (row : Row). IsAmong (arrived_intervals new.exponent arrivals) (interval_at new.exponent row.key.time)) old.history rows (rows_among new.exponent arrivals))
+      (some_come (λ (row : Row). IsAmong (arrived_intervals new.exponent arrivals) (interval_at new.exponent row.key.time)) (flat_map arrival_rows arrivals) some (rows_among new.exponent arrivals) are)
 
 -- ---- what is said where a call isn't refused
 

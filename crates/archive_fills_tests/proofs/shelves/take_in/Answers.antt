@@ -8,4 +8,4 @@ pub ingest-requires : goal.ingest-requires
 ingest-requires g c = subst (λ (h : Head). IsBatch h c.args.store.now.history c.in-Some.batch) c.head.ensures.head (c.in-Some.ensures c.args.store.now.history)
 
 pub returns-in_default : goal.returns-in_default
-returns-in_default g c = let s = c.args.store.now in goes_same s s refl refl refl refl refl
+returns-in_default g c = let s = c.args.store.now in goes_same s s refl refl refl refl refl refl

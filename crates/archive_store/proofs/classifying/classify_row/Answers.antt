@@ -6,8 +6,10 @@ use Rattle.octet_fields.specs.Exact.{IsOctets}
 use Rattle.arch_types.specs.declared.inserted.Inserted.{Inserted}
 use Rattle.arch_types.specs.declared.inserted.Inserted.TheVariants.{New, Duplicate}
 use Rattle.arch_types.specs.declared.row.Row.{Row}
+use Rattle.arch_types.specs.declared.row_fault.RowFault.TheVariants.{OutOfMemory}
 use Rattle.history_items.specs.Items.{items_of}
 use Rattle.history_items.specs.Outcomes.{Says, fresh_of}
+use Rattle.replay_merge.proofs.Giving.{fault_passed}
 use Rattle.archive_store.specs.Batches.{in_table}
 use Rattle.archive_store.proofs.Outcomes.{outcomes_more, fresh_more}
 use Rattle.archive_store.proofs.Positions.{told_history}
@@ -45,3 +47,17 @@ returns-in_ok-keep-in-New-clause-classified g c items rows tells s =
       octets = subst (AllByRecursion (λ r. IsOctets r.packet)) (sym (is ∙ ap (λ (r : Row). old.fresh ++ r ∷ []) c.in_ok-fresh-in-New.ensures))
           (all_append (λ r. IsOctets r.packet) old.fresh (row ∷ []) s.octets (c.is_octets.ensures, tt));
     }
+
+-- ---- there was no memory, once its place was told
+
+pub returns-in_err-push-clause-refused : goal.returns-in_err-push-clause-refused
+returns-in_err-push-clause-refused g c =
+    fault_passed c.from_residual-in_err-push.result OutOfMemory (g.R.RowSource.state c.args.source.now) (g.R.RowSource.state c.outcome.new.source) c.from_residual-in_err-push.ensures.1 c.in_ok-outcome.ensures.no_fault
+
+pub returns-in_err-fresh-in-New-clause-refused : goal.returns-in_err-fresh-in-New-clause-refused
+returns-in_err-fresh-in-New-clause-refused g c =
+    fault_passed c.from_residual-in_err-fresh-in-New.result OutOfMemory (g.R.RowSource.state c.args.source.now) (g.R.RowSource.state c.outcome.new.source) c.from_residual-in_err-fresh-in-New.ensures.1 c.in_ok-outcome.ensures.no_fault
+
+pub returns-in_err-keep-in-New-clause-refused : goal.returns-in_err-keep-in-New-clause-refused
+returns-in_err-keep-in-New-clause-refused g c =
+    fault_passed c.from_residual-in_err-keep-in-New.result OutOfMemory (g.R.RowSource.state c.args.source.now) (g.R.RowSource.state c.outcome.new.source) c.from_residual-in_err-keep-in-New.ensures.1 c.in_ok-outcome.ensures.no_fault

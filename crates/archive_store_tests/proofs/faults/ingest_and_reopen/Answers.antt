@@ -9,7 +9,8 @@ use Rattle.archive_store.specs.Batches.{batch_rows}
 use Rattle.archive_store.specs.Calls.{IsIngestRefusal, IsStoreReopened, IsStoreReopenRefusal}
 use Rattle.archive_store.specs.Stands.{StandsFilled}
 use Rattle.archive_store.specs.StoreView.{StoreView, filled_of}
-use Rattle.archive_store.proofs.Calls.{ingest_fault, ingest_untouched, reopen_failed}
+use Rattle.archive_store.proofs.Calls.{ingest_left, reopen_failed}
+use Rattle.archive_store.proofs.ReadOn.{pending_after}
 use Rattle.archive_store_tests.proofs.faults.ingest_and_reopen.Goals as goal
 
 -- a reopen that fails after a refused ingest is the second fault
@@ -17,10 +18,10 @@ healed_or_two : {D : Type 0} (device : Device D) (old mid new : StoreView D) (ro
     → IsIngestRefusal device old mid rows e → OnOk result (IsStoreReopened device mid new) → IfErr result (IsStoreReopenRefusal device mid new) → IsTrue device.is_transparent
     → device.fault_count new.disk < raised (raised (device.fault_count old.disk)) → (c : Image) → device.images new.disk c → StandsFilled c (filled_of new)
 healed_or_two device old mid new rows e (Ok x) none refused ok err transparent few c left = ok.images transparent c left
-healed_or_two {D = D} device old mid new rows e (Err r) none refused ok err transparent few c left =
+healed_or_two device old mid new rows e (Err r) none refused ok err transparent few c left =
     let failed = subst (IsStoreReopenRefusal device mid new) (reopen_failed device mid new r err) err in
-    ⊎_elim (λ is. absurd (omega (arith, few, failed.rose, (ingest_fault device old mid rows e refused is).1.rose))) (λ same. absurd (failed.unhealed (ap (λ (s : StoreView D). pending_fault_of s.fills) same ∙ none)))
-    (ingest_untouched device old mid rows e refused)
+    ⊎_elim (λ wrote. absurd (omega (arith, few, failed.rose, wrote.1.fault.rose))) (λ on. absurd (failed.unhealed (pending_after device old mid on ∙ none)))
+    (ingest_left device old mid rows e refused)
 
 -- no failed write is pending after it
 pub returns-in-Ok : goal.returns-in-Ok

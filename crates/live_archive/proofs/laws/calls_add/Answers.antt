@@ -1,4 +1,4 @@
-use Rattle.live_archive.proofs.Added.{abandons_add, asks_add_nothing, begins_add, closes_add, ingests_add, installs_add}
+use Rattle.live_archive.proofs.Added.{abandons_add, asks_add, asks_add_nothing, begins_add, closes_add, ingests_add, installs_add}
 use Rattle.live_archive.proofs.laws.calls_add.Goals as goal
 
 pub returns : goal.returns
@@ -11,4 +11,5 @@ returns g c =
       abandons = abandons_add _ device;
       closes = closes_add _ device;
       asks = asks_add_nothing _ device;
+      unread = asks_add _ device;
     }

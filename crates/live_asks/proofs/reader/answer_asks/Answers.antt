@@ -1,4 +1,4 @@
-use Rattle.std.proofs.Common.{◌≡◌, ◌∙◌, ◌+◌, ◌<◌, ◌∷◌, length, drop, ap, arith, subst, sym}
+use Rattle.std.proofs.Common.{◌≡◌, ◌∙◌, ◌+◌, ◌<◌, ◌∷◌, length, drop, refl, ap, arith, subst, sym}
 use Rattle.std.proofs.lemmas.List.{drop_all, drop_more}
 use Rattle.std.proofs.lemmas.Result.{err_from_is_err_and}
 use Rattle.refusals.specs.declared.refusal.Refusal.TheVariants.{OutOfMemory}
@@ -7,13 +7,14 @@ use Rattle.retrieval.specs.FoundAsks.{AreFound}
 use Rattle.live_asks.specs.LiveAsks.{every_fourth, reader_view}
 use Rattle.live_asks.proofs.Each.{ended_all, ended_at, lists_seen, none_so_far, not_kept, one_more, passed_by}
 use Rattle.live_asks.proofs.Looking.{glances_stay, looks_same, looks_trans}
-use Rattle.live_asks.proofs.Sees.{sees_on, sees_same}
+use Rattle.live_asks.proofs.Sees.{noted_since, sees_on, sees_same}
 use Rattle.live_asks.proofs.reader.answer_asks.Goals as goal
 
 pub loop-ask-init : goal.loop-ask-init
 loop-ask-init g c = record {
   free = c.requires.free;
   sees = sees_same c.args.pass.now;
+  silent = refl;
   looks = looks_same c.args.glance.now;
   found = c.requires.found;
   asked = none_so_far g.D.Disk.device c.args.live.now.cell.first.store c.args.glance.now (reader_view c.args.pass.now c.args.steps.now) c.args.asks.now c.args.before c.args.answers.now c.requires.none;
@@ -44,6 +45,7 @@ loop-ask-preserved-then-skip-gt0 g c =
     record {
       free = inv.free;
       sees = inv.sees;
+      silent = inv.silent;
       looks = inv.looks;
       found = (subst (AreFound first.head first.history) step inv.found).1;
       asked = passed_by g.D.Disk.device first c.loop-ask.glance (reader_view c.args.pass.now c.args.steps.now) (reader_view c.loop-ask.pass c.loop-ask.steps) (every_fourth c.args.before asks) (drop i asks) (drop (i + 1) asks) ask step
@@ -62,6 +64,7 @@ loop-ask-preserved g c =
     record {
       free = c.answer_ask.ensures.free;
       sees = sees_on c.args.pass.now c.loop-ask.pass c.answer_ask.new.pass inv.sees c.answer_ask.ensures.sees;
+      silent = c.in_ok-answer.ensures.silent ∙ inv.silent;
       looks = looks_trans c.args.glance.now c.loop-ask.glance c.answer_ask.new.glance inv.looks c.answer_ask.ensures.later;
       found = (subst (AreFound first.head first.history) step inv.found).1;
       asked = one_more g.D.Disk.device first c.loop-ask.glance (reader_view c.args.pass.now c.args.steps.now) (reader_view c.loop-ask.pass c.loop-ask.steps) (every_fourth c.args.before asks) (drop i asks) (drop (i + 1) asks) ask step c.answer_ask.new.glance c.answer_ask.ensures.later
@@ -120,3 +123,26 @@ returns-clause-asked g c =
     let i = c.loop-ask.ask-index in
     ended_all g.D.Disk.device c.args.live.now.cell.first.store c.loop-ask.glance (reader_view c.args.pass.now c.args.steps.now) (reader_view c.loop-ask.pass c.loop-ask.steps) (every_fourth c.args.before asks) (drop i asks) c.loop-ask.skip c.loop-ask.answers
     (drop_all i asks (omega (arith, c.loop-ask-test.false))) c.loop-ask.invariant.asked
+
+pub returns-in_err-answer-clause-noted : goal.returns-in_err-answer-clause-noted
+returns-in_err-answer-clause-noted g c =
+    let p = err_from_is_err_and c.from_residual.result c.from_residual.ensures.1 in
+    rw p.1 (λ failed. noted_since c.args.pass.now c.loop-ask.pass c.answer_ask.new.pass c.loop-ask.invariant.sees (c.in_err-answer.ensures.noted (sym p.2 ∙ failed)))
+
+pub returns-in_err-push-clause-noted : goal.returns-in_err-push-clause-noted
+returns-in_err-push-clause-noted g c =
+    let p = err_from_is_err_and c.from_residual-in_err-push.result c.from_residual-in_err-push.ensures.1 in
+    rw p.1 (λ failed. absurd (cc (p.2, failed)))
+
+pub returns-in_err-answer-clause-silent : goal.returns-in_err-answer-clause-silent
+returns-in_err-answer-clause-silent g c =
+    let p = err_from_is_err_and c.from_residual.result c.from_residual.ensures.1 in
+    rw p.1 tt
+
+pub returns-in_err-push-clause-silent : goal.returns-in_err-push-clause-silent
+returns-in_err-push-clause-silent g c =
+    let p = err_from_is_err_and c.from_residual-in_err-push.result c.from_residual-in_err-push.ensures.1 in
+    rw p.1 tt
+
+pub returns-clause-silent : goal.returns-clause-silent
+returns-clause-silent g c = c.loop-ask.invariant.silent

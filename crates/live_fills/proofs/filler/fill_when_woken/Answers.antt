@@ -84,5 +84,5 @@ returns-clause-refused g c =
     (ap (λ t. t.pass) c.new-patient.ensures ∙ c.new.ensures.1)
     (c.into_pass-pass.ensures.pass ∙ ap (λ t. t.pass) c.into_target.ensures)
     woken.ensures.done woken.ensures.refused in
-    subst (λ o. IfSome o (IsRefusalOf first c.into_pass-pass.result)) (sym c.err.ensures.value)
-    (some_of_err (IsRefusalOf first c.into_pass-pass.result) woken.result (run_cause device first c.args.filler.pass c.into_pass-pass.result woken.result run.2))
+    subst (λ o. IfSome o (IsRefusalOf device first c.into_pass-pass.result)) (sym c.err.ensures.value)
+    (some_of_err (IsRefusalOf device first c.into_pass-pass.result) woken.result (run_cause device first c.args.filler.pass c.into_pass-pass.result woken.result run.2))

@@ -5,5 +5,5 @@ use Rattle.live_fills.proofs.laws.notes_stay.Goals as goal
 pub returns : goal.returns
 returns g c = record {
   notes = note_stays;
-  causes = λ first places front history noted fills refusal more on cause. cause_stays first places front history noted fills more on refusal cause;
+  causes = λ first places front history noted fills refusal more on cause. cause_stays g.D.Disk.device first places front history noted fills more on refusal cause;
 }

@@ -1,4 +1,4 @@
-use Rattle.std.proofs.Common.{Bor, List, ℕ, Option, w64, to_z, of_z, refl, sym}
+use Rattle.std.proofs.Common.{Bor, List, ℕ, Option, None, w64, to_z, of_z, refl, sym}
 use Rattle.std.proofs.lemmas.Int.{to_z-of_z}
 use Rattle.command_runs.specs.Moment.{IsMomentOf}
 use Rattle.std.specs.Prelude.{option_map}
@@ -6,7 +6,7 @@ use Rattle.archive_store.specs.StoreView.{filled_of}
 use Rattle.command_words.specs.JobView.{load_words_of}
 use Rattle.retrieval.specs.FoundAsks.{asks_found}
 use Rattle.command_runs.specs.Command.{effects_of}
-use Rattle.command_runs.proofs.ReadOnly.{left_opened}
+use Rattle.command_runs.proofs.ReadOnly.{left_opened, not_read}
 use Rattle.live_asks.specs.LiveAsks.{disk_facts}
 use Rattle.load_command.proofs.LoadPlan.{load_run, load_unready}
 use Rattle.load_command.proofs.opened.load_into.Goals as goal
@@ -35,4 +35,4 @@ returns-in-Err g c = λ disk healed files next on heals kept left told.
     let output = g.K.Sink.state c.args.sink.now in
     let went = effects_of disk healed.disk output output c.read_only-report.result in
     load_unready device went (disk_facts device disk) files next (load_words_of asked.words.now) (named asked.text) asked.sheet (filled_of s) g.S.Source.state c.args.sources.items (sym c.requires.dumps)
-    refl (left_opened device disk s s healed on refl heals kept) c.in-Err.refusal c.in-Err.ensures.unready (rw c.front.ensures at c.read_only-report.ensures)
+    refl (left_opened device disk s s healed on None (not_read device s s refl) heals kept) c.in-Err.refusal c.in-Err.ensures.unready (rw c.front.ensures at c.read_only-report.ensures)

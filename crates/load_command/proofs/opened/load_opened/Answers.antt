@@ -23,7 +23,7 @@ returns-in_default g c = λ files next left told.
     let sources = c.args.sources.items in
     let asked = c.args.asked in
     work_without_memory device c.args.disk (g.K.Sink.state c.args.sink.now) (length sources) sources (λ news way. HaveUsedSources g.S.Source.state sources news way)
-    (λ records. loading_plan (disk_facts device c.args.disk) files next (load_asked (load_words_of asked.words.now) (named asked.text) asked.sheet))
+    (λ known. loading_plan (disk_facts device c.args.disk) files next (load_asked (load_words_of asked.words.now) (named asked.text) asked.sheet))
 
 pub returns-in-Err : goal.returns-in-Err
 returns-in-Err g c = λ files next left told.
@@ -32,7 +32,7 @@ returns-in-Err g c = λ files next left told.
     let asked = c.args.asked in
     let e = c.in-Err.ensures in
     work_unopened device c.args.disk (g.K.Sink.state c.args.sink.now) (length sources) sources (λ news way. HaveUsedSources g.S.Source.state sources news way)
-    (λ records. loading_plan (disk_facts device c.args.disk) files next (load_asked (load_words_of asked.words.now) (named asked.text) asked.sheet)) c.in-Err.refused e.refused e.reads e.crash
+    (λ known. loading_plan (disk_facts device c.args.disk) files next (load_asked (load_words_of asked.words.now) (named asked.text) asked.sheet)) c.in-Err.refused e.refused e.reads e.crash
 
 -- ---- the archive was opened
 
@@ -59,9 +59,9 @@ returns g c = λ files next left told.
     let moment : IsMomentOf next (to_z w64 (of_z w64 c.args.moment)) = rw (to_z-of_z w64 c.args.moment c.ranges.moment) told in
     subst
     (λ (d : g.row.D.Denot).
-    RanWith device (opened_plan (length sources) device disk (λ records. loading_plan (disk_facts device disk) files next (load_asked words (named asked.text) asked.sheet))) (effects_of disk d output output' loaded.2)
+    RanWith device (opened_plan (length sources) device disk (λ known. loading_plan (disk_facts device disk) files next (load_asked words (named asked.text) asked.sheet))) (effects_of disk d output output' loaded.2)
     (UsedByWork (length sources) sources loaded.1.items (HaveUsedSources g.S.Source.state sources loaded.1.items)))
     (sym c.into_disk.ensures.disk)
     (work_done device disk output (length sources) sources (λ news way. HaveUsedSources g.S.Source.state sources news way)
-    (λ records. loading_plan (disk_facts device disk) files next (load_asked words (named asked.text) asked.sheet)) (effects_of disk healed.disk output output' loaded.2) loaded.1.items (filled_of s) (λ known. e.opened.filled known)
+    (λ known. loading_plan (disk_facts device disk) files next (load_asked words (named asked.text) asked.sheet)) (effects_of disk healed.disk output output' loaded.2) loaded.1.items (filled_of s) (λ known. e.opened.filled known)
     (c.load_into-store.ensures disk healed files next (opened_on e.opened e.reads e.crash e.counts) c.heal.ensures c.is_kept.ensures left moment))

@@ -30,9 +30,9 @@ print-report-requires-clause-answered g c =
     let loaded = c.load-store.result in
     let came = rw c.as_slice.ensures at c.load-store.ensures.outcome in
     let none = sym came.reported ∙ nothing_reported loaded.reported c.fill_late-filled.result c.in-None.ensures.nothing in
-    let each = each_answered (disk_facts device store.opened) (filled_of store) store.history came.outcome.reached c.args.asks came.outcome.answers (came.possible.answered none) in
+    let each = each_answered (disk_facts device store.opened store.sealed) (filled_of store) store.history came.outcome.reached c.args.asks came.outcome.answers (came.possible.answered none) in
     rw (c.as_slice-in-None.ensures, c.as_slice-in-None-2.ensures, came.answers)
-    (are_answers (disk_facts device store.opened) (filled_of store) store.history came.outcome.reached c.args.asks came.outcome.answers each)
+    (are_answers (disk_facts device store.opened store.sealed) (filled_of store) store.history came.outcome.reached c.args.asks came.outcome.answers each)
 
 -- the asks that were found are found behind the jobs, which added no database
 pub print-report-requires-clause-found : goal.print-report-requires-clause-found

@@ -52,5 +52,5 @@ returns-in-Err-clause-run g c =
 
 pub returns-in_default-clause-run : goal.returns-in_default-clause-run
 returns-in_default-clause-run g c =
-    let sent = nothing_sent _ _ c.args.pass.now c.requires.can.fresh in
+    let sent = nothing_sent g.D.Disk.device _ _ c.args.pass.now c.requires.can.fresh in
     record { put = sent.0; added = sent.1; read = []; read_to = nothing_read (g.S.Source.state c.args.source.now).left; all_taken = tt; short = omega arith; answer = Err refused.OutOfMemory; sent = sent.2; ended = refl }

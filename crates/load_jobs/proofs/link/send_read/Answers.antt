@@ -3,6 +3,7 @@ use Rattle.std.proofs.lemmas.Result.{err_from_is_err_and}
 use Rattle.outer_traits.proofs.Taken.{taken_end, taken_none}
 use Rattle.space_packet.specs.Rest.{why_of}
 use Rattle.space_packet.specs.Waiting.{Waiting}
+use Rattle.archive_store.specs.Pages.{TellsRows}
 use Rattle.load_session.specs.Receiving.{Receiving, receiving}
 use Rattle.load_jobs.specs.Underway.{IsBetweenReads, IsUnderway}
 use Rattle.dump_pieces.proofs.Pieces.{no_octets, read_fewer, taken_then}
@@ -20,7 +21,7 @@ pieces-init g c =
     let waits = ap (λ w. w.at) begun.waiting in
     let octets = ap (λ w. length w.octets) begun.waiting in
     let octets_are = ap (λ (w : Waiting). w.octets) begun.waiting in
-    let sent : IsBetweenReads r [] c.args.pass.now c.args.pass.now c.args.progress.now = record {
+    let sent : IsBetweenReads (TellsRows g.D.Disk.device c.args.live.now.cell.first.store) r [] c.args.pass.now c.args.pass.now c.args.progress.now = record {
       sent = [];
       in_hand = [];
       underway = underway_begun r c.args.pass.now c.args.progress.now can.alone can.fresh can.moment begun;
@@ -63,7 +64,7 @@ pieces-preserved g c =
     let piece = c.in-Ok.piece in
     let q = c.feed.new.self in
     let same = c.feed.ensures.counts in
-    let fed : IsUnderway r (was.0 ++ piece) b.sent [] b.in_hand c.args.pass.now c.pieces.pass q =
+    let fed : IsUnderway (TellsRows g.D.Disk.device c.args.live.now.cell.first.store) r (was.0 ++ piece) b.sent [] b.in_hand c.args.pass.now c.pieces.pass q =
     underway_fed r was.0 piece b.sent b.in_hand c.args.pass.now c.pieces.pass c.pieces.progress q b.underway c.in_ok-feed.ensures.fed c.feed.ensures.in_hand same.0 same.1 same.2 in
     let on = c.in_ok-send_waiting.ensures.sent c.args.pass.now (was.0 ++ piece) b.sent b.in_hand b.whole fed in
     let room = i.room in
@@ -146,7 +147,7 @@ returns-then-is_at_version-clause-sent g c =
     let piece = c.in-Ok.piece in
     let q = c.feed.new.self in
     let same = c.feed.ensures.counts in
-    let fed : IsUnderway r (was.0 ++ piece) b.sent [] b.in_hand c.args.pass.now c.pieces.pass q =
+    let fed : IsUnderway (TellsRows g.D.Disk.device c.args.live.now.cell.first.store) r (was.0 ++ piece) b.sent [] b.in_hand c.args.pass.now c.pieces.pass q =
     underway_fed r was.0 piece b.sent b.in_hand c.args.pass.now c.pieces.pass c.pieces.progress q b.underway c.in_ok-feed.ensures.fed c.feed.ensures.in_hand same.0 same.1 same.2 in
     let on = c.in_ok-send_waiting.ensures.sent c.args.pass.now (was.0 ++ piece) b.sent b.in_hand b.whole fed in
     let all = read_of_split (was.0 ++ piece) (on.sent ++ on.in_hand) c.send_waiting.new.progress.splitter on.underway.split in
@@ -170,7 +171,7 @@ returns-in_err-over-clause-refused g c =
     let begun = c.requires.begun in
     let left = (g.S.Source.state c.args.source.now).left in
     let p = err_from_is_err_and c.from_residual.result c.from_residual.ensures.1 in
-    rw (p.1, p.2) (no_memory_at c.args.live.now.cell.first.store r left left [] c.args.pass.now c.args.pass.now c.args.progress.now refl (taken_none left)
+    rw (p.1, p.2) (no_memory_at g.D.Disk.device c.args.live.now.cell.first.store r left left [] c.args.pass.now c.args.pass.now c.args.progress.now refl (taken_none left)
     (record {
       sent = [];
       in_hand = [];
@@ -185,7 +186,7 @@ returns-in-Err-OutOfMemory-clause-refused g c =
     let at = c.args.reception.now in
     let r : Receiving = receiving at.head.now c.args.pass.now.history.seen at.graph.now at.link at.moment in
     let was = c.pieces.invariant.read in
-    no_memory_at c.args.live.now.cell.first.store r (g.S.Source.state c.args.source.now).left (g.S.Source.state c.pieces.source).left was.0 c.args.pass.now c.pieces.pass c.pieces.progress refl was.1 was.2 c.pieces.invariant.within
+    no_memory_at g.D.Disk.device c.args.live.now.cell.first.store r (g.S.Source.state c.args.source.now).left (g.S.Source.state c.pieces.source).left was.0 c.args.pass.now c.pieces.pass c.pieces.progress refl was.1 was.2 c.pieces.invariant.within
 
 pub returns-in-Err-OutOfMemory-clause-reliable : goal.returns-in-Err-OutOfMemory-clause-reliable
 returns-in-Err-OutOfMemory-clause-reliable g c = λ never. (let before = c.pieces.invariant.reliable never in let now = c.read_piece.ensures.reliable before.0 in now.1 ∙ before.1)
@@ -204,7 +205,7 @@ returns-in_err-feed-clause-refused g c =
     let was = c.pieces.invariant.read in
     let p = err_from_is_err_and c.from_residual-in_err-feed.result c.from_residual-in_err-feed.ensures.1 in
     rw (p.1, p.2)
-    (no_memory_at c.args.live.now.cell.first.store r (g.S.Source.state c.args.source.now).left (g.S.Source.state c.pieces.source).left was.0 c.args.pass.now c.pieces.pass c.pieces.progress refl was.1 was.2 c.pieces.invariant.within)
+    (no_memory_at g.D.Disk.device c.args.live.now.cell.first.store r (g.S.Source.state c.args.source.now).left (g.S.Source.state c.pieces.source).left was.0 c.args.pass.now c.pieces.pass c.pieces.progress refl was.1 was.2 c.pieces.invariant.within)
 
 pub returns-in_err-send_waiting-clause-refused : goal.returns-in_err-send_waiting-clause-refused
 returns-in_err-send_waiting-clause-refused g c =
@@ -215,7 +216,7 @@ returns-in_err-send_waiting-clause-refused g c =
     let piece = c.in-Ok.piece in
     let q = c.feed.new.self in
     let same = c.feed.ensures.counts in
-    let fed : IsUnderway r (was.0 ++ piece) b.sent [] b.in_hand c.args.pass.now c.pieces.pass q =
+    let fed : IsUnderway (TellsRows g.D.Disk.device c.args.live.now.cell.first.store) r (was.0 ++ piece) b.sent [] b.in_hand c.args.pass.now c.pieces.pass q =
     underway_fed r was.0 piece b.sent b.in_hand c.args.pass.now c.pieces.pass c.pieces.progress q b.underway c.in_ok-feed.ensures.fed c.feed.ensures.in_hand same.0 same.1 same.2 in
     let all = read_of_split (was.0 ++ piece) (b.sent ++ b.in_hand) q.splitter fed.split in
     let room = c.pieces.invariant.room in

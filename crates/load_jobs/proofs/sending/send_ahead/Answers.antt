@@ -104,5 +104,5 @@ returns-in_err-send_batch-clause-refused g c =
     let step : rest ≡ c.in-Some.batch ∷ left = let s = c.in-Some.ensures.steps in cc in
     let p = err_from_is_err_and c.from_residual.result c.from_residual.ensures.1 in
     rw (p.1, p.2) (λ origin read sent groups in_hand whole t u.
-    one_refused (behind r origin) read rest (sent ++ packets_of groups) in_hand origin c.batches.pass c.batches.progress (c.batches.invariant.on origin read sent groups in_hand whole t u) c.in-Some.batch left step c.args.live.now.cell.first.store c.send_batch.new.pass
+    one_refused (behind r origin) read rest (sent ++ packets_of groups) in_hand origin c.batches.pass c.batches.progress (c.batches.invariant.on origin read sent groups in_hand whole t u) c.in-Some.batch left step g.D.Disk.device c.args.live.now.cell.first.store c.send_batch.new.pass
     (c.in_err-send_batch.ensures.refused origin read))

@@ -1,5 +1,6 @@
 use Rattle.std.proofs.Common.{◌++◌, [], ◌∙◌, refl, sym, subst, arith}
 use Rattle.std.proofs.lemmas.Result.{err_from_is_err_and}
+use Rattle.archive_store.specs.Pages.{TellsRows}
 use Rattle.load_session.specs.Batches.{IsTakenFor}
 use Rattle.load_session.specs.Receiving.{Receiving, receiving}
 use Rattle.load_session.proofs.Batching.{taken_for_none}
@@ -33,7 +34,7 @@ returns-clause-sent g c = λ origin read sent in_hand whole u.
     let empty : IsTakenFor (behind_none r) [] q.taken = taken_for_none (behind_none r) q.taken none.0 (none.2 ∙ u.taken.batch.received) none.1 c.requires.moment in
     let now = underway_batched (behind r origin) read sent in_hand origin c.args.pass.now c.args.progress.now q u waits empty same.0 same.1 same.2 in
     let all = c.in_ok-send_batch.ensures.sent origin read sent in_hand [] [] whole taken now in
-    rw c.summary-2.ensures (answered_all _ (behind r origin) read origin c.send_batch.new.pass c.send_batch.new.progress refl (sent ++ in_hand) all (rw (c.send_batch.ensures.waiting, waits) c.requires.none_waits))
+    rw c.summary-2.ensures (answered_all g.D.Disk.device c.args.live.now.cell.first.store (behind r origin) read origin c.send_batch.new.pass c.send_batch.new.progress refl (sent ++ in_hand) all (rw (c.send_batch.ensures.waiting, waits) c.requires.none_waits))
 
 pub returns-in_err-send_batch-clause-sent : goal.returns-in_err-send_batch-clause-sent
 returns-in_err-send_batch-clause-sent g c =
@@ -57,5 +58,5 @@ returns-then-progress-eq0-clause-sent g c = λ origin read sent in_hand whole u.
     let at = c.args.reception.now in
     let r : Receiving = receiving at.head.now [] at.graph.now at.link at.moment in
     let count = u.taken.count in
-    let none : IsUnderway (behind r origin) read sent [] [] origin c.args.pass.now c.args.progress.now = none_in_hand (behind r origin) read sent in_hand origin c.args.pass.now c.args.progress.now u (omega (arith, count, c.if-progress-eq0.true)) in
-    rw c.summary.ensures (answered_all _ (behind r origin) read origin c.args.pass.now c.args.progress.now refl sent none c.requires.none_waits)
+    let none : IsUnderway (TellsRows g.D.Disk.device c.args.live.now.cell.first.store) (behind r origin) read sent [] [] origin c.args.pass.now c.args.progress.now = none_in_hand (behind r origin) read sent in_hand origin c.args.pass.now c.args.progress.now u (omega (arith, count, c.if-progress-eq0.true)) in
+    rw c.summary.ensures (answered_all g.D.Disk.device c.args.live.now.cell.first.store (behind r origin) read origin c.args.pass.now c.args.progress.now refl sent none c.requires.none_waits)

@@ -113,7 +113,7 @@ returns-in_err-ahead-clause-refused g c =
     let r : Receiving = receiving at.head.now [] at.graph.now at.link at.moment in
     let p = err_from_is_err_and c.from_residual.result c.from_residual.ensures.1 in
     rw (p.1, p.2) (λ origin read sent in_hand whole u.
-    answered_no_memory c.args.live.now.cell.first.store (behind r origin) read origin c.rounds.pass c.rounds.progress refl (c.rounds.invariant.on origin read sent in_hand whole u))
+    answered_no_memory g.D.Disk.device c.args.live.now.cell.first.store (behind r origin) read origin c.rounds.pass c.rounds.progress refl (c.rounds.invariant.on origin read sent in_hand whole u))
 
 pub returns-in_err-send_ahead-clause-refused : goal.returns-in_err-send_ahead-clause-refused
 returns-in_err-send_ahead-clause-refused g c =

@@ -1,4 +1,5 @@
 use Rattle.std.proofs.Common.{◌≡◌, ◌+◌, [], length}
+use Rattle.archive_store.specs.Pages.{TellsRows}
 use Rattle.turn_cell.specs.Pass.{IsFree}
 use Rattle.load_session.specs.Receiving.{receiving}
 use Rattle.load_jobs.specs.Underway.{IsInHand, IsWithinLimit}
@@ -11,7 +12,7 @@ invariant-rounds g l = record {
   in_hand : IsInHand (receiving l.reception.head.now [] l.reception.graph.now l.reception.link l.reception.moment) l.progress.taken;
   within : IsWithinLimit l.progress;
   level : l.progress.splitter.at + length l.progress.splitter.octets ≡ l.fn.progress.splitter.at + length l.fn.progress.splitter.octets;
-  on : GoesOnTo (receiving l.reception.head.now [] l.reception.graph.now l.reception.link l.reception.moment) l.fn.pass l.pass l.fn.progress l.progress;
+  on : GoesOnTo (TellsRows g.D.Disk.device l.live.cell.first.store) (receiving l.reception.head.now [] l.reception.graph.now l.reception.link l.reception.moment) l.fn.pass l.pass l.fn.progress l.progress;
 }
 
 abbrev pub decreases-rounds : goal.decreases-rounds

@@ -4,9 +4,9 @@ use Rattle.store_fills.specs.Built.{IsTaskRows}
 use Rattle.store_fills.specs.declared.task.FillTask.{FillTask}
 use Rattle.archive_store.specs.Tasks.{BeginsTask, IsFillBegun}
 use Rattle.archive_store.proofs.Calls.{passed_on}
-use Rattle.archive_store.proofs.UnreadRows.{refusal_is_memory, refusal_same}
-use Rattle.load_session.specs.Filling.{IsFilledOn, IsFillingRefusal, IsUnfailed}
-use Rattle.load_session.proofs.FilledTasks.{begun_task, filling_done, filling_first, filling_next, filling_refused, filled_so_far, given_up, less_left}
+use Rattle.archive_store.proofs.ReadOn.{left_on}
+use Rattle.load_session.specs.Filling.{IsFilledOn, IsFillingRefusal}
+use Rattle.load_session.proofs.FilledTasks.{begun_task, filling_done, filling_first, filling_next, filling_refused, filled_so_far, filling_unread, given_up, less_left, unread_so_far}
 use Rattle.load_session.proofs.filling.fill_late.Goals as goal
 
 pub fills-init : goal.fills-init
@@ -70,15 +70,17 @@ pub returns-in_default-clause-left : goal.returns-in_default-clause-left
 returns-in_default-clause-left g c =
     let s = c.fills.store in
     let none = subst (IsFillBegun g.D.Disk.device s c.begin.new.self) c.in_default.is c.in_ok-task.ensures.begun in
-    subst (IsFilledOn c.args.store.now) (sym none.1) (filled_so_far g.D.Disk.device c.args.store.now s c.fills.filled c.fills.invariant)
+    subst (IsFilledOn g.D.Disk.device c.args.store.now) (sym none.1) (filled_so_far g.D.Disk.device c.args.store.now s c.fills.filled c.fills.invariant)
 
--- ---- there was no memory to begin
+-- ---- rows aren't read
 
 pub returns-in_err-task-clause-left : goal.returns-in_err-task-clause-left
 returns-in_err-task-clause-left g c =
+    let device = g.D.Disk.device in
     let s = c.fills.store in
-    let same = refusal_same g.D.Disk.device s c.begin.new.self c.in_err-task.field-0.0 c.in_err-task.ensures.same in
-    subst (IsFilledOn c.args.store.now) (sym same) (filled_so_far g.D.Disk.device c.args.store.now s c.fills.filled c.fills.invariant)
+    let n = c.begin.new.self in
+    let e = c.in_err-task.ensures in
+    unread_so_far device c.args.store.now s n c.fills.filled c.fills.invariant e.late.0 e.late.1 (left_on device s n c.in_err-task.field-0.0 e.refused e.same)
 
 pub returns-in_err-task-clause-refused : goal.returns-in_err-task-clause-refused
 returns-in_err-task-clause-refused g c =
@@ -86,7 +88,5 @@ returns-in_err-task-clause-refused g c =
     let s = c.fills.store in
     let n = c.begin.new.self in
     let e = c.in_err-task.ensures in
-    let memory = refusal_is_memory device s n c.in_err-task.field-0.0 e.refused in
-    let same = refusal_same device s n c.in_err-task.field-0.0 e.same in
     passed_on c.from_residual.result c.in_err-task.field-0.0 (IsFillingRefusal device c.args.store.now n) c.from_residual.ensures.1
-    (subst (IsFillingRefusal device c.args.store.now n) (sym memory) (subst (IsUnfailed device c.args.store.now) (sym same) c.fills.invariant.unfailed))
+    (filling_unread device c.args.store.now s n c.fills.filled c.fills.invariant e.late.0 e.late.1 c.in_err-task.field-0.0 e.refused e.same)

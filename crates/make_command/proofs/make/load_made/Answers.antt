@@ -7,6 +7,7 @@ use Rattle.retrieval.specs.FoundAsks.{AreFound}
 use Rattle.store_fills.specs.Faults.{IsDone}
 use Rattle.archive_store.specs.Head.{Head}
 use Rattle.archive_store.specs.StoreView.{StoreView}
+use Rattle.archive_store.proofs.UnreadRows.{told_in_memory}
 use Rattle.stream_graph.specs.declared.statement.RouteStatement.{RouteStatement}
 use Rattle.stream_graph.specs.Routes.{every_packet_route}
 use Rattle.command_runs.specs.Healing.{TriesToHeal}
@@ -89,10 +90,11 @@ returns-in-None g c = λ next healed told heals kept.
     let mid = c.fill_late-filled.new.store in
     let fill = c.fill_late-filled.ensures in
     let summed = c.sum_up-report.ensures in
-    let heals_mid : TriesToHeal device mid healed = subst (λ (s : StoreView g.row.D.Denot). TriesToHeal device s healed) summed.same heals in
+    let plain : mid.sealed ≡ 0 = fill.left.sealed ∙ came.loaded.goes.appends.sealed ∙ c.requires.created.1.sealed in
+    let heals_mid : TriesToHeal device mid healed = subst (λ (s : StoreView g.row.D.Denot). TriesToHeal device s healed) (summed.read.same.plain plain) heals in
     ran_summed device c.requires.created.0 store mid healed c.requires.created.1 c.is_kept.ensures packets.seed next packets.moment told job refl c.requires.dumps asks setting_is
     behind came c.fill_late-filled.result fill.filled fill.refused fill.left heals_mid kept (g.K.Sink.state c.args.sink.now) (g.K.Sink.state c.sum_up-report.new.sink) c.sum_up-report.result
-    c.in-None.ensures.nothing c.is_kept-in-None.ensures c.sum_up-report.result.refusal summed.reply summed.report
+    c.in-None.ensures.nothing c.is_kept-in-None.ensures c.sum_up-report.result.refusal (summed.reply (told_in_memory device mid plain)) summed.report
 
 -- a refusal is reported
 pub returns-in-Some : goal.returns-in-Some

@@ -14,7 +14,7 @@ print_answers-requires-clause-tables g c =
     rw c.as_slice-script.ensures (named_tables (archive_of c.args.store.now) c.args.text.now c.in-Ok.script (rw (c.requires.names, c.head-head.ensures.head) at c.in-Ok.ensures))
 
 pub returns-in-Ok : goal.returns-in-Ok
-returns-in-Ok g c = inr (c.in-Ok.script, rw (c.requires.names, c.head-head.ensures.head) at c.in-Ok.ensures, rw c.as_slice-script.ensures at c.print_answers.ensures)
+returns-in-Ok g c = inr (c.in-Ok.script, rw (c.requires.names, c.head-head.ensures.head) at c.in-Ok.ensures, rw c.as_slice-script.ensures at c.print_answers.ensures.printed, c.print_answers.ensures.read)
 
 pub returns-in-Err : goal.returns-in-Err
-returns-in-Err g c = inl (rw c.head-head.ensures.head at c.in-Err.ensures, refl)
+returns-in-Err g c = inl (rw c.head-head.ensures.head at c.in-Err.ensures, refl, refl)

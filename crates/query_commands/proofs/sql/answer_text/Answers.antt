@@ -6,4 +6,4 @@ answer_over-requires g c = record { names = c.in-Ok.ensures.names; empty = c.req
 
 -- no memory for the packet names
 pub returns-in-Err : goal.returns-in-Err
-returns-in-Err g c = inl (inl c.in-Err.ensures.only, refl)
+returns-in-Err g c = inl (inl c.in-Err.ensures.only, refl, refl)

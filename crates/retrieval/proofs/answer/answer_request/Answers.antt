@@ -2,11 +2,11 @@ use Rattle.std.proofs.Common.{◌∙◌, length, ap, arith, sym, subst}
 use Rattle.std.specs.List.{AllByRecursion}
 use Rattle.history_items.specs.Databases.{database_in}
 use Rattle.history_items.specs.Items.{rows_in}
+use Rattle.arch_types.specs.declared.row_fault.RowFault.TheVariants as unread
 use Rattle.archive_store.specs.UnreadRows.{IsReadFault}
 use Rattle.archive_store.proofs.Calls.{passed_on}
-use Rattle.archive_store.proofs.UnreadRows.{left_by_read, memory_unread, read_same, refusal_same, told_in_memory}
+use Rattle.archive_store.proofs.UnreadRows.{left_passed_on, memory_unread}
 use Rattle.mdb_items.specs.Database.{Database}
-use Rattle.refusals.specs.Refusal.{refusal_of_rows}
 use Rattle.param_segments.specs.Plans.{ArePartsOver, HasValuesOf}
 use Rattle.part_answers.specs.PartCells.{answer_over_parts, answer_over_rows}
 use Rattle.retrieval.proofs.FilledAnswers.{plan_filled}
@@ -20,13 +20,7 @@ returns-in_err-plan-clause-refused g c =
 
 pub returns-in_err-plan-clause-same : goal.returns-in_err-plan-clause-same
 returns-in_err-plan-clause-same g c =
-    let device = g.D.Disk.device in
-    let old = c.args.store.now in
-    let new = c.plan.new.self in
-    let fault = c.in_err-plan.field-0.0 in
-    left_by_read device old new c.from_residual.result
-    (passed_on c.from_residual.result fault (IsReadFault device old new) c.from_residual.ensures.1 c.in_err-plan.ensures.refused)
-    (refusal_same device old new (refusal_of_rows fault) c.in_err-plan.ensures.same)
+    left_passed_on g.D.Disk.device c.args.store.now c.plan.new.self c.from_residual.result c.in_err-plan.field-0.0 c.from_residual.ensures.1 c.in_err-plan.ensures.same
 
 pub answer-requires : goal.answer-requires
 answer-requires g c =
@@ -38,20 +32,16 @@ returns-in_err-answer-clause-refused g c =
 
 pub returns-in_err-answer-clause-same : goal.returns-in_err-answer-clause-same
 returns-in_err-answer-clause-same g c =
-    let device = g.D.Disk.device in
-    let old = c.args.store.now in
-    let new = c.plan.new.self in
-    let r = c.from_residual-in_err-answer.result in
-    left_by_read device old new r (memory_unread device old new r c.from_residual-in_err-answer.ensures.1) (read_same device old new c.in_ok-plan.ensures.same)
+    left_passed_on g.D.Disk.device c.args.store.now c.plan.new.self c.from_residual-in_err-answer.result unread.OutOfMemory c.from_residual-in_err-answer.ensures.1 c.in_ok-plan.ensures.same
 
 pub returns-in_err-answer-clause-steps : goal.returns-in_err-answer-clause-steps
-returns-in_err-answer-clause-steps g c =
+returns-in_err-answer-clause-steps g c = λ tells.
     let request = c.args.found.now.request in
-    let late = ap length (late_in_range g.D.Disk.device c.args.store.now request.from request.to (told_in_memory g.D.Disk.device c.args.store.now) c.in_ok-plan.plan c.in_ok-plan.ensures.planned) in
+    let late = ap length (late_in_range g.D.Disk.device c.args.store.now request.from request.to tells c.in_ok-plan.plan c.in_ok-plan.ensures.planned) in
     omega (arith, c.answer.ensures.steps, late)
 
 pub returns-clause-filled : goal.returns-clause-filled
-returns-clause-filled g c =
+returns-clause-filled g c = λ tells.
     let store = c.args.store.now in
     let found = c.args.found.now in
     let plan = c.in_ok-plan.plan in
@@ -63,7 +53,7 @@ returns-clause-filled g c =
       named = c.requires.found.number;
       cells = c.in_ok-answer.ensures.cells
           ∙ ap (λ (db : Database). answer_over_parts db found.number found.request plan.parts) planned.mdb
-          ∙ plan_filled g.D.Disk.device store in_force found.number found.request plan c.is_kept.ensures.bases (told_in_memory g.D.Disk.device store) planned;
+          ∙ plan_filled g.D.Disk.device store in_force found.number found.request plan c.is_kept.ensures.bases tells planned;
     }
 
 pub returns-clause-answered : goal.returns-clause-answered
@@ -80,9 +70,9 @@ returns-clause-answered g c = λ transparent image.
     ∙ answer_of_history in_force found.number request is.rows (rows_in store.history) is.in_range
 
 pub returns-clause-steps : goal.returns-clause-steps
-returns-clause-steps g c =
+returns-clause-steps g c = λ tells.
     let request = c.args.found.now.request in
-    let late = ap length (late_in_range g.D.Disk.device c.args.store.now request.from request.to (told_in_memory g.D.Disk.device c.args.store.now) c.in_ok-plan.plan c.in_ok-plan.ensures.planned) in
+    let late = ap length (late_in_range g.D.Disk.device c.args.store.now request.from request.to tells c.in_ok-plan.plan c.in_ok-plan.ensures.planned) in
     omega (arith, c.answer.ensures.steps, late)
 
 pub returns-clause-same : goal.returns-clause-same

@@ -1,13 +1,9 @@
 use Rattle.std.proofs.Common.{sym, subst, arith}
 use Rattle.archive_store.specs.Replays.{rows_below}
 use Rattle.archive_store.specs.UnreadRows.{IsLeftByRefusal}
-use Rattle.archive_store.proofs.UnreadRows.{told_in_memory}
 use Rattle.replay_merge.proofs.Opening.{end_no_rest}
 use Rattle.retrieval.proofs.PrintFaults.{as_refused}
 use Rattle.retrieval.proofs.replay.next_rows.Goals as goal
-
-pub returns-in-Ok-clause-rows : goal.returns-in-Ok-clause-rows
-returns-in-Ok-clause-rows g c = c.in-Ok.ensures.rows (told_in_memory g.D.Disk.device c.args.store.now)
 
 pub returns-in-Ok-clause-end : goal.returns-in-Ok-clause-end
 returns-in-Ok-clause-end g c = λ none. end_no_rest c.replay_step.new.cursor (rows_below c.args.store.now.history) (c.in-Ok.ensures.end.none_is_end none (omega arith))

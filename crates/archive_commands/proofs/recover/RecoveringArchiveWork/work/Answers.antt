@@ -1,4 +1,4 @@
-use Rattle.std.proofs.Common.{◌≡◌, ◌∙◌, inl, ℕ, ◌++◌, Some, length, refl, sym, ap, subst, arith}
+use Rattle.std.proofs.Common.{◌≡◌, ◌∙◌, inl, ℕ, false, ◌++◌, Some, length, refl, sym, ap, subst, arith}
 use Rattle.std.specs.Prelude.{IsTrue, codes, decimal}
 use Rattle.history_items.specs.Fills.{pending_fault_of}
 use Rattle.history_items.specs.Items.{rows_in}
@@ -9,10 +9,12 @@ use Rattle.archive_store.specs.LateFills.{late_in_archive}
 use Rattle.command_runs.specs.Finishing.{IsFinished}
 use Rattle.command_runs.specs.Command.{effects_of}
 use Rattle.load_session.specs.Filling.{AllLateFilled, IsFillingRefusal, filling_refusal}
-use Rattle.command_runs.specs.FillingPlan.{IsRecordCount}
+use Rattle.command_runs.specs.ArchiveWork.{known_of}
+use Rattle.command_runs.proofs.ReadFaults.{none_notes}
+use Rattle.command_runs.proofs.Reading.{tells_so}
 use Rattle.archive_commands.specs.Recover.{recover_line}
 use Rattle.command_runs.specs.Report.{read_only}
-use Rattle.command_runs.proofs.FilledDisks.{failed_disk, filled_disk, idle_done, late_as_filled, log_near, unfailed_disk}
+use Rattle.command_runs.proofs.FilledDisks.{failed_disk, filled_disk, idle_done, late_as_filled, log_near, unfailed_disk, unread_disk}
 use Rattle.command_runs.proofs.ReadOnly.{none_failed, still_opened, unchanged_by}
 use Rattle.archive_commands.proofs.Recovered.{ran_recovered, ran_unrecovered}
 use Rattle.command_runs.proofs.During.{IsOpened, opened_store}
@@ -48,10 +50,10 @@ returns-in-Ok g c = λ disk new on heals after.
     let opened : IsTrue device.is_transparent → IsOpened device disk s = λ known. opened_store device disk s (on.opened.filled known) on.reads on.opened.opening on.crash in
     let no_fault = faults_in-done s.fills on.opened.fills in
     let outcome =
-    filled_disk device disk s s mid new opened on.counts.faults refl refl refl (λ known i. inl refl) left heals after.images after.faults after.kept no_fault on.opened.no_fault on.opened.no_failed_write
+    filled_disk device disk s s mid new opened on.counts.faults refl refl refl (λ known i. inl refl) left heals after.images after.faults after.kept false (none_notes s.fills no_fault) on.opened.no_fault on.opened.no_failed_write
     filled done (λ known. after.bases) in
     let still = still_opened device disk s new on kept as_late (unchanged_by device s mid new no_fault left.unchanged heals) in
-    ran_recovered device went (IsRecordCount device disk) s mid on.opened.records as_late still refusal text is outcome (ap (filling_refusal s.records) (sym as_filled) ∙ done.fits)
+    ran_recovered device went (known_of device disk) s mid (tells_so device s) on.opened.records as_late still refusal text is outcome (ap (filling_refusal s.records) (sym as_filled) ∙ done.fits)
 
 -- not each was
 pub returns-in-Err : goal.returns-in-Err
@@ -71,10 +73,12 @@ returns-in-Err g c = λ disk new on heals after.
     let is : report ≡ read_only (Some refusal) (length s.history) = c.read_only-in-Err.ensures ∙ ap (read_only (Some refusal)) front in
     let opened : IsTrue device.is_transparent → IsOpened device disk s = λ known. opened_store device disk s (on.opened.filled known) on.reads on.opened.opening on.crash in
     let no_fault = faults_in-done s.fills on.opened.fills in
+    let notes = none_notes s.fills no_fault in
     let healed = pending_fault_of-in s.fills ∙ ap pending_fault_of no_fault in
     let still = still_opened device disk s new on kept as_late (unchanged_by device s mid new no_fault left.unchanged heals) in
-    ran_unrecovered device went (IsRecordCount device disk) s mid on.opened.records as_late still refl healed (none_failed device s mid on.opened.fills as_late left.unchanged)
-    (unfailed_disk device disk s s mid new opened on.counts.faults refl refl refl (λ known i. inl refl) left heals after.images after.faults after.kept no_fault on.opened.no_fault on.opened.no_failed_write)
-    (failed_disk device disk s s mid new opened on.counts.faults refl refl refl (λ known i. inl refl) left heals after.images after.faults after.kept no_fault on.opened.no_fault on.opened.no_failed_write)
+    ran_unrecovered device went (known_of device disk) s mid (tells_so device s) on.opened.records as_late still refl healed (none_failed device s mid on.opened.fills as_late left.unchanged)
+    (unfailed_disk device disk s s mid new opened on.counts.faults refl refl refl (λ known i. inl refl) left heals after.images after.faults after.kept false notes on.opened.no_fault on.opened.no_failed_write)
+    (failed_disk device disk s s mid new opened on.counts.faults refl refl refl (λ known i. inl refl) left heals after.images after.faults after.kept false notes on.opened.no_fault on.opened.no_failed_write)
+    (unread_disk device disk s s mid new opened on.counts.faults refl refl refl (λ known i. inl refl) left heals after.images after.faults after.kept false notes on.opened.no_fault on.opened.no_failed_write)
     (λ reaches. log_near device mid new heals after.records 0 (omega (arith, reaches)))
     refusal refused is

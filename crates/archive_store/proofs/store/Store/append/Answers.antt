@@ -149,7 +149,7 @@ returns-clause-grows g c =
     let prepared = c.prepare-prepared in
     let new : StoreView g.row.D.Denot = view_of c.append_entry.new.disk s.opened.value c.append_entry.new.journal s.head prepared.new.history.exponent prepared.new.history.items c.append_entry.new.tracker.fills s.sets.filled in
     subst (λ (x : StoreView g.row.D.Denot). OnlyAppends x new) c.self.view_is
-    (goes_fill (view_of s.disk s.opened.value s.journal s.head s.history.exponent s.history.items s.tracker.fills s.sets.filled) new (fault c.in-Err.count c.args.fresh) prepared.ensures.history.0 (fault_noted g at) refl prepared.ensures.history.2 refl)
+    (goes_fill (view_of s.disk s.opened.value s.journal s.head s.history.exponent s.history.items s.tracker.fills s.sets.filled) new (fault c.in-Err.count c.args.fresh) prepared.ensures.history.0 (fault_noted g at) refl prepared.ensures.history.2 refl refl)
 
 pub returns-in_default-clause-grows : goal.returns-in_default-clause-grows
 returns-in_default-clause-grows g c =
@@ -157,7 +157,7 @@ returns-in_default-clause-grows g c =
     let prepared = c.prepare-prepared in
     let new : StoreView g.row.D.Denot = view_of s.disk s.opened.value prepared.new.journal s.head prepared.new.history.exponent prepared.new.history.items prepared.new.tracker.fills s.sets.filled in
     subst (λ (x : StoreView g.row.D.Denot). OnlyAppends x new) c.self.view_is
-    (goes_same (view_of s.disk s.opened.value s.journal s.head s.history.exponent s.history.items s.tracker.fills s.sets.filled) new prepared.ensures.history.0 prepared.ensures.fills refl prepared.ensures.history.2 refl)
+    (goes_same (view_of s.disk s.opened.value s.journal s.head s.history.exponent s.history.items s.tracker.fills s.sets.filled) new prepared.ensures.history.0 prepared.ensures.fills refl prepared.ensures.history.2 refl refl)
 
 pub invariant_of-self-in-Err : goal.invariant_of-self-in-Err
 invariant_of-self-in-Err g c =

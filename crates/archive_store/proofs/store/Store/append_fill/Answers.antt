@@ -237,7 +237,7 @@ returns-in-Ok-append_entry-clause-grows g c =
     let s = c.self.inside in
     let new : StoreView g.row.D.Denot = view_of c.append_entry.new.disk s.opened.value c.append_entry.new.journal s.head s.history.exponent s.history.items c.finish.new.self.fills c.put.new.self.filled in
     subst (λ (x : StoreView g.row.D.Denot). OnlyAppends x new) c.self.view_is
-    (goes_fill (view_of s.disk s.opened.value s.journal s.head s.history.exponent s.history.items s.tracker.fills s.sets.filled) new (Done c.args.done.interval c.args.done.base) refl (fills g (goal.at.returns-in-Ok-append_entry-clause-grows g c).After-put) refl refl refl)
+    (goes_fill (view_of s.disk s.opened.value s.journal s.head s.history.exponent s.history.items s.tracker.fills s.sets.filled) new (Done c.args.done.interval c.args.done.base) refl (fills g (goal.at.returns-in-Ok-append_entry-clause-grows g c).After-put) refl refl refl refl)
 
 pub returns-in-Ok-append_entry-clause-crash : goal.returns-in-Ok-append_entry-clause-crash
 returns-in-Ok-append_entry-clause-crash g c = crash g (goal.at.returns-in-Ok-append_entry-clause-crash g c).After-append_entry
@@ -256,7 +256,7 @@ returns-in-Err-clause-grows g c =
     let s = c.self.inside in
     let new : StoreView g.row.D.Denot = view_of c.append_entry.new.disk s.opened.value c.append_entry.new.journal s.head s.history.exponent s.history.items c.append_entry.new.tracker.fills c.prepare_fill-prepared.new.sets.filled in
     subst (λ (x : StoreView g.row.D.Denot). OnlyAppends x new) c.self.view_is
-    (goes_fill (view_of s.disk s.opened.value s.journal s.head s.history.exponent s.history.items s.tracker.fills s.sets.filled) new (fill_fault c.in-Err.count c.args.done.interval c.args.done.base) refl (let at = goal.at.returns-in-Err-clause-grows g c in fault_noted g at.In-Err) refl refl refl)
+    (goes_fill (view_of s.disk s.opened.value s.journal s.head s.history.exponent s.history.items s.tracker.fills s.sets.filled) new (fill_fault c.in-Err.count c.args.done.interval c.args.done.base) refl (let at = goal.at.returns-in-Err-clause-grows g c in fault_noted g at.In-Err) refl refl refl refl)
 
 pub returns-in_default-clause-grows : goal.returns-in_default-clause-grows
 returns-in_default-clause-grows g c =
@@ -264,7 +264,7 @@ returns-in_default-clause-grows g c =
     let prepared = c.prepare_fill-prepared in
     let new : StoreView g.row.D.Denot = view_of s.disk s.opened.value prepared.new.journal s.head s.history.exponent s.history.items prepared.new.tracker.fills prepared.new.sets.filled in
     subst (λ (x : StoreView g.row.D.Denot). OnlyAppends x new) c.self.view_is
-    (goes_same (view_of s.disk s.opened.value s.journal s.head s.history.exponent s.history.items s.tracker.fills s.sets.filled) new refl prepared.ensures.tracker.0 refl refl refl)
+    (goes_same (view_of s.disk s.opened.value s.journal s.head s.history.exponent s.history.items s.tracker.fills s.sets.filled) new refl prepared.ensures.tracker.0 refl refl refl refl)
 
 -- ---- one that may not stand
 
@@ -274,4 +274,4 @@ returns-then-not-may_stand-clause-crash g c transparent =
     unharmed g.D.Disk.device s.disk s.opened.value s.journal s.head s.history.exponent s.history.items s.tracker.fills s.sets.filled s.pending_fault c.self.invariant.0 c.args.self.now c.self.view_is (λ x. filled_with x c.args.done) c.args.self.now.disk refl c.requires.healed transparent
 
 pub returns-then-not-may_stand-clause-grows : goal.returns-then-not-may_stand-clause-grows
-returns-then-not-may_stand-clause-grows g c = goes_same c.args.self.now c.args.self.now refl refl refl refl refl
+returns-then-not-may_stand-clause-grows g c = goes_same c.args.self.now c.args.self.now refl refl refl refl refl refl

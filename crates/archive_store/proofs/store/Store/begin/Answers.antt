@@ -1,5 +1,6 @@
 use Rattle.std.proofs.Common.{◌≡◌, inl, List, [], ◌∷◌, ◌++◌, length, true, Some, None, refl, sym, ◌∙◌, ap, subst}
 use Rattle.std.specs.Prelude.{IfSome}
+use Rattle.std.proofs.lemmas.Result.{err_from_is_err_and}
 use Rattle.refusals.specs.Refusal.{refusal_of_rows}
 use Rattle.intervals.specs.declared.interval.Interval.{Interval}
 use Rattle.history_items.specs.declared.fills.Fill.{Fill}
@@ -13,7 +14,7 @@ use Rattle.interval_fills.specs.Steps.{IsNextToFill, state_of}
 use Rattle.archive_reading.specs.PartialArchive.{HoldsFills}
 use Rattle.archive_store.specs.Inside.{StoreInvariant, view_of}
 use Rattle.archive_store.specs.StoreView.{StoreView, OnlyAppends}
-use Rattle.archive_store.specs.Tasks.{BeginsTask, IsFillBegun}
+use Rattle.archive_store.specs.Tasks.{BeginsTask, IsFillBegun, machine_state}
 use Rattle.archive_store.specs.UnreadRows.{IsLeftByRefusal, IsReadFault, IsReadRefusal}
 use Rattle.archive_store.proofs.Calls.{passed_on}
 use Rattle.archive_reading.proofs.Fillable.{holds_same}
@@ -82,9 +83,11 @@ returns-clause-begun g c =
     let begun : c.begin.new.self.fills ≡ s.tracker.fills ++ Begun task.interval task.base ∷ [] = fills ∙ ap (λ (j : Interval). s.tracker.fills ++ Begun j task.base ∷ []) (sym e.at.0) in
     let next : IsNextToFill s.history.exponent (state_of s.history.items s.tracker.fills) (Some i) = subst (IsNextToFill s.history.exponent (state_of s.history.items s.tracker.fills)) c.in-Some.is (c.next.ensures.next s.history.exponent s.history.items c.self.invariant.3) in
     let base : task.base ≡ length s.history.items = e.at.1 ∙ c.len.ensures.len in
+    let next_is = subst (λ (j : Interval). IsNextToFill s.history.exponent (state_of s.history.items s.tracker.fills) (Some j)) (sym e.at.0) next in
     subst (λ (x : StoreView g.row.D.Denot). BeginsTask device x (view_of s.disk s.opened.value s.journal s.head s.history.exponent s.history.items c.begin.new.self.fills s.sets.filled) task) c.self.view_is (record {
+      next = next_is;
       step = λ told. record {
-        next = subst (λ (j : Interval). IsNextToFill s.history.exponent (state_of s.history.items s.tracker.fills) (Some j)) (sym e.at.0) next;
+        next = next_is;
         base_is = base;
         rows_are =
             e.told ∙ whole_interval s.history.exponent c.exponent.result c.len.result i s.history.items c.of-source.result c.exponent.ensures c.of-source.ensures c.len.ensures.len
@@ -112,14 +115,14 @@ returns-clause-grows g c =
     let fills : c.begin.new.self.fills ≡ s.tracker.fills ++ Begun c.in-Some.interval c.in_ok-task.task.base ∷ [] = c.begin.ensures.fills ∙ ap (λ (l : List Fill). l ++ Begun c.in-Some.interval c.in_ok-task.task.base ∷ []) same.0 in
     let new : StoreView g.row.D.Denot = view_of s.disk s.opened.value s.journal s.head s.history.exponent s.history.items c.begin.new.self.fills s.sets.filled in
     subst (λ (x : StoreView g.row.D.Denot). OnlyAppends x new) c.self.view_is
-    (goes_fill (view_of s.disk s.opened.value s.journal s.head s.history.exponent s.history.items s.tracker.fills s.sets.filled) new (Begun c.in-Some.interval c.in_ok-task.task.base) refl fills refl refl refl)
+    (goes_fill (view_of s.disk s.opened.value s.journal s.head s.history.exponent s.history.items s.tracker.fills s.sets.filled) new (Begun c.in-Some.interval c.in_ok-task.task.base) refl fills refl refl refl refl)
 
 pub returns-in_err-task-clause-grows : goal.returns-in_err-task-clause-grows
 returns-in_err-task-clause-grows g c =
     let s = c.self.inside in
     let new : StoreView g.row.D.Denot = view_of s.disk s.opened.value s.journal s.head s.history.exponent s.history.items c.prepare_task.new.tracker.fills s.sets.filled in
     subst (λ (x : StoreView g.row.D.Denot). OnlyAppends x new) c.self.view_is
-    (goes_same (view_of s.disk s.opened.value s.journal s.head s.history.exponent s.history.items s.tracker.fills s.sets.filled) new refl c.prepare_task.ensures.same.0 refl refl refl)
+    (goes_same (view_of s.disk s.opened.value s.journal s.head s.history.exponent s.history.items s.tracker.fills s.sets.filled) new refl c.prepare_task.ensures.same.0 refl refl refl refl)
 
 pub returns-in_err-task-clause-refused : goal.returns-in_err-task-clause-refused
 returns-in_err-task-clause-refused g c =
@@ -139,3 +142,13 @@ returns-in_err-task-clause-same g c =
     let same : new ≡ c.args.self.now = ap (λ (l : List Fill). view_of s.disk s.opened.value s.journal s.head s.history.exponent s.history.items l s.sets.filled) c.prepare_task.ensures.same.0 ∙ c.self.view_is in
     passed_on c.from_residual.result (refusal_of_rows fault) (IsLeftByRefusal device c.args.self.now new) c.from_residual.ensures.1
     (memory_left device c.args.self.now new fault (fault_unread device c.args.self.now new fault c.of-source.result c.prepare_task.new.source c.in_err-task.ensures.refused) same)
+
+-- it was to begin
+pub returns-in_err-task-clause-late : goal.returns-in_err-task-clause-late
+returns-in_err-task-clause-late g c =
+    let s = c.self.inside in
+    let i = c.in-Some.interval in
+    let next : IsNextToFill s.history.exponent (state_of s.history.items s.tracker.fills) (Some i) = subst (IsNextToFill s.history.exponent (state_of s.history.items s.tracker.fills)) c.in-Some.is (c.next.ensures.next s.history.exponent s.history.items c.self.invariant.3) in
+    let late = subst (λ (x : StoreView g.row.D.Denot). (interval : Interval) × IsNextToFill x.exponent (machine_state x) (Some interval)) c.self.view_is (i, next) in
+    let p = err_from_is_err_and c.from_residual.result c.from_residual.ensures.1 in
+    rw p.1 late

@@ -81,6 +81,7 @@ returns-in-Ok-create-clause-created g c =
       head_is = e.1;
       exponent = e.3.1;
       records = created.count;
+      sealed = refl;
       opened = c.of-opened.ensures;
       no_failed_write = created.no_failed_write;
       no_fault = c.in-Ok-create.ensures.told.done;

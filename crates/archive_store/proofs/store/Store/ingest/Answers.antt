@@ -9,6 +9,7 @@ use Rattle.history_items.specs.Fills.{pending_fault_of}
 use Rattle.history_items.specs.declared.items.Item.{Item}
 use Rattle.history_items.specs.Items.{rows_in}
 use Rattle.history_items.specs.Outcomes.{fresh_of}
+use Rattle.history_items.proofs.Outcomes.{length-outcomes}
 use Rattle.archive_store.specs.Batches.{batch_rows}
 use Rattle.archive_store.specs.Calls.{IsIngestRefusal, archive_with}
 use Rattle.archive_store.specs.Classifying.{IsClassified, TellsItems}
@@ -21,7 +22,7 @@ use Rattle.archive_store.specs.StoreView.{StoreView, filled_of}
 use Rattle.archive_images.specs.Stands.{StandsFilled}
 use Rattle.archive_store.proofs.Batching.{admitted}
 use Rattle.archive_store.proofs.Calls.{batch_unread, passed_on, rows_refused}
-use Rattle.archive_store.proofs.Ingesting.{added, nothing_added, below_none, below_some, no_row}
+use Rattle.archive_store.proofs.Ingesting.{added, few_fresh, fresh_in, nothing_added, below_none, below_some, no_row}
 use Rattle.archive_store.proofs.KeptFills.{unharmed}
 use Rattle.archive_store.proofs.store.Store.ingest.Given.{Over}
 use Rattle.archive_store.proofs.store.Store.ingest.Goals.{In_ok-classified, Else-len-eq0}
@@ -112,7 +113,10 @@ returns-then-len-eq0-clause-ingested g c =
     record {
       healed = healed g at;
       fresh = fresh;
+      of_batch = fresh_in now.history rows fresh is.fresh;
+      few = few_fresh now.history rows fresh is.fresh;
       told = λ _. record { fresh_is = is.fresh; below = below_none now.exponent now.records now.history rows fresh is.fresh zero c.is_kept.ensures.history.1 };
+      each = ap length is.outcomes ∙ length-outcomes now.history rows;
       outcomes_are = λ _. is.outcomes;
       history = nothing_added now.history rows fresh is.fresh zero ∙ sym (added now.history rows fresh is.fresh);
       fills = refl;
@@ -165,7 +169,10 @@ returns-clause-ingested g c =
     record {
       healed = healed g there;
       fresh = c.in_ok-classified.classified.fresh;
+      of_batch = fresh_in now.history rows c.in_ok-classified.classified.fresh is.fresh;
+      few = few_fresh now.history rows c.in_ok-classified.classified.fresh is.fresh;
       told = λ _. record { fresh_is = is.fresh; below = below_some now.exponent now.records now.history rows c.as_slice.result.now (c.as_slice.ensures ∙ is.fresh) none.0 none.1 };
+      each = ap length is.outcomes ∙ length-outcomes now.history rows;
       outcomes_are = λ _. is.outcomes;
       history = appended.history;
       fills = appended.fills;

@@ -41,7 +41,7 @@ returns-in_err-reserve-clause-grows g c =
     let s = c.self.inside in
     let new : StoreView g.row.D.Denot = view_of s.disk s.opened.value s.journal s.head s.history.exponent s.history.items c.reserve.new.self.fills s.sets.filled in
     subst (λ (x : StoreView g.row.D.Denot). OnlyAppends x new) c.self.view_is
-    (goes_same (view_of s.disk s.opened.value s.journal s.head s.history.exponent s.history.items s.tracker.fills s.sets.filled) new refl c.reserve.ensures.same.0 refl refl refl)
+    (goes_same (view_of s.disk s.opened.value s.journal s.head s.history.exponent s.history.items s.tracker.fills s.sets.filled) new refl c.reserve.ensures.same.0 refl refl refl refl)
 
 pub invariant_of-self-2 : goal.invariant_of-self-2
 invariant_of-self-2 g c =
@@ -71,4 +71,4 @@ returns-clause-grows g c =
     let fills : c.note_closed.new.self.fills ≡ s.tracker.fills ++ Closed ∷ [] = c.note_closed.ensures.fills ∙ ap (λ (l : List Fill). l ++ Closed ∷ []) c.reserve.ensures.same.0 in
     let new : StoreView g.row.D.Denot = view_of s.disk s.opened.value s.journal s.head s.history.exponent s.history.items c.note_closed.new.self.fills s.sets.filled in
     subst (λ (x : StoreView g.row.D.Denot). OnlyAppends x new) c.self.view_is
-    (goes_fill (view_of s.disk s.opened.value s.journal s.head s.history.exponent s.history.items s.tracker.fills s.sets.filled) new Closed refl fills refl refl refl)
+    (goes_fill (view_of s.disk s.opened.value s.journal s.head s.history.exponent s.history.items s.tracker.fills s.sets.filled) new Closed refl fills refl refl refl refl)

@@ -5,10 +5,9 @@ use Rattle.history_items.specs.Late.{IsLate}
 use Rattle.store_fills.specs.LastFills.{fillings_in}
 use Rattle.archive_store.specs.CurrentSets.{IsCurrentSet}
 use Rattle.archive_store.specs.UnreadRows.{IsReadFault}
-use Rattle.refusals.specs.Refusal.{refusal_of_rows}
 use Rattle.archive_store.proofs.Calls.{passed_on}
 use Rattle.archive_store.proofs.CurrentSets.{last_row, late_or_never_filled}
-use Rattle.archive_store.proofs.UnreadRows.{left_by_read, memory_unread, refusal_same}
+use Rattle.archive_store.proofs.UnreadRows.{left_by_read, left_passed_on, memory_unread}
 use Rattle.archive_store.proofs.store.Store.part_of.Goals as goal
 
 -- ---- there was no memory for the set
@@ -33,10 +32,7 @@ returns-in_err-rows-clause-same g c =
     let device = g.D.Disk.device in
     let old = c.args.self.now in
     let new = c.interval_rows.new.self in
-    let fault = c.in_err-rows.field-0.0 in
-    left_by_read device old new c.from_residual-in_err-rows.result
-    (passed_on c.from_residual-in_err-rows.result fault (IsReadFault device old new) c.from_residual-in_err-rows.ensures.1 c.in_err-rows.ensures.refused)
-    (refusal_same device old new (refusal_of_rows fault) c.in_err-rows.ensures.same)
+    left_passed_on device old new c.from_residual-in_err-rows.result c.in_err-rows.field-0.0 c.from_residual-in_err-rows.ensures.1 c.in_err-rows.ensures.same
 
 pub returns-in_default-clause-part : goal.returns-in_default-clause-part
 returns-in_default-clause-part g c =

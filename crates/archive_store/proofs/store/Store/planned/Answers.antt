@@ -4,12 +4,11 @@ use Rattle.std.specs.List.{AllByRecursion}
 use Rattle.intervals.specs.declared.interval.Interval.{Interval}
 use Rattle.history_items.specs.Late.{last_in}
 use Rattle.interval_walks.specs.Turns.{CoverRange, IntervalsRise}
-use Rattle.refusals.specs.Refusal.{refusal_of_rows}
 use Rattle.archive_store.specs.Plans.{IsRangeInterval, plan_intervals}
 use Rattle.archive_store.specs.UnreadRows.{IsReadFault}
 use Rattle.archive_store.proofs.Calls.{passed_on}
 use Rattle.archive_store.proofs.Planning.{asked_have_rows, few_left, plan_archived, planned_over}
-use Rattle.archive_store.proofs.UnreadRows.{left_by_read, memory_unread, refusal_same}
+use Rattle.archive_store.proofs.UnreadRows.{left_by_read, left_passed_on, memory_unread}
 use Rattle.archive_store.proofs.store.Store.planned.Goals as goal
 
 pub parts_of-requires : goal.parts_of-requires
@@ -37,10 +36,7 @@ returns-in_err-parts-clause-same g c =
     let device = g.D.Disk.device in
     let old = c.args.self.now in
     let new = c.parts_of.new.self in
-    let fault = c.in_err-parts.field-0.0 in
-    left_by_read device old new c.from_residual-in_err-parts.result
-    (passed_on c.from_residual-in_err-parts.result fault (IsReadFault device old new) c.from_residual-in_err-parts.ensures.1 c.in_err-parts.ensures.refused)
-    (refusal_same device old new (refusal_of_rows fault) c.in_err-parts.ensures.same)
+    left_passed_on device old new c.from_residual-in_err-parts.result c.in_err-parts.field-0.0 c.from_residual-in_err-parts.ensures.1 c.in_err-parts.ensures.same
 
 pub returns-clause-planned : goal.returns-clause-planned
 returns-clause-planned g c =

@@ -20,8 +20,9 @@ use Rattle.archive_store.proofs.KeptFills.{kept_now}
 use Rattle.archive_store.proofs.store.Store.reopen.Goals as goal
 
 -- what contracts see of a store of that many records
-abbrev view_of_records : {D : Type 0} → D → D → Head → ℕ → List Item → List Fill → PlacedFills → ℕ → StoreView D
-view_of_records disk opened head exponent history fills filled records = record { history = history; fills = fills; filled = filled; head = head; exponent = exponent; records = records; disk = disk; opened = opened }
+abbrev view_of_records : {D : Type 0} → D → D → Head → ℕ → List Item → List Fill → PlacedFills → ℕ → ℕ → StoreView D
+view_of_records disk opened head exponent history fills filled sealed records =
+    record { history = history; fills = fills; filled = filled; head = head; exponent = exponent; records = records; disk = disk; opened = opened; sealed = sealed }
 
 pub invariant_of-self : goal.invariant_of-self
 invariant_of-self g c =
@@ -72,8 +73,8 @@ returns-in-Ok-clause-reopened g c =
     let cleared = fills ∙ ap (λ (x : StoreView g.row.D.Denot). reopened x.fills) c.self.view_is in
     record {
       store = ap (λ (l : List Fill). view_of c.heal.new.disk s.opened.value c.heal.new.self s.head s.history.exponent s.history.items l s.sets.filled) fills
-          ∙ ap (view_of_records c.heal.new.disk s.opened.value s.head s.history.exponent s.history.items (reopened s.tracker.fills) s.sets.filled) (ap count_of c.in-Ok.ensures.healed.journal)
-          ∙ ap (λ (x : StoreView g.row.D.Denot). view_of_records c.heal.new.disk x.opened x.head x.exponent x.history (reopened x.fills) x.filled x.records) c.self.view_is;
+          ∙ ap (view_of_records c.heal.new.disk s.opened.value s.head s.history.exponent s.history.items (reopened s.tracker.fills) s.sets.filled 0) (ap count_of c.in-Ok.ensures.healed.journal)
+          ∙ ap (λ (x : StoreView g.row.D.Denot). view_of_records c.heal.new.disk x.opened x.head x.exponent x.history (reopened x.fills) x.filled x.sealed x.records) c.self.view_is;
       healed = ap pending_fault_of cleared ∙ pending_fault_of-reopened c.args.self.now.fills;
       images = λ transparent image left. kept_now device c.heal.new.disk s.opened.value c.heal.new.self s.head s.history.exponent s.history.items (reopened s.tracker.fills) s.sets.filled None done (pending_fault_of-reopened s.tracker.fills) transparent image left;
       no_call = λ none. c.in-Ok.ensures.healed.no_call (healthy (unhealed_fault s.journal) (pending_fault_of s.tracker.fills) k.journal_fault (ap (λ (x : StoreView g.row.D.Denot). pending_fault_of x.fills) c.self.view_is ∙ none)) ∙ ap (λ (x : StoreView g.row.D.Denot). x.disk) c.self.view_is;
@@ -89,8 +90,8 @@ returns-in-Err-clause-refused g c =
     let failed = (heal_refusal_failed device s.journal c.heal.new.self s.disk c.heal.new.disk c.in-Err.field-0 c.in-Err.ensures.refused).1 in
     record {
       unhealed = λ none. failed.unhealed (healthy (unhealed_fault s.journal) (pending_fault_of s.tracker.fills) k.journal_fault (ap (λ (x : StoreView g.row.D.Denot). pending_fault_of x.fills) c.self.view_is ∙ none));
-      store = ap (view_of_records c.heal.new.disk s.opened.value s.head s.history.exponent s.history.items s.tracker.fills s.sets.filled) (ap count_of failed.journal)
-          ∙ ap (λ (x : StoreView g.row.D.Denot). view_of_records c.heal.new.disk x.opened x.head x.exponent x.history x.fills x.filled x.records) c.self.view_is;
+      store = ap (view_of_records c.heal.new.disk s.opened.value s.head s.history.exponent s.history.items s.tracker.fills s.sets.filled 0) (ap count_of failed.journal)
+          ∙ ap (λ (x : StoreView g.row.D.Denot). view_of_records c.heal.new.disk x.opened x.head x.exponent x.history x.fills x.filled x.sealed x.records) c.self.view_is;
       rose = subst (λ (x : StoreView g.row.D.Denot). raised (device.fault_count x.disk) ≤ device.fault_count c.heal.new.disk) c.self.view_is failed.rose;
       wrote = failed.wrote ∙ ap (λ (x : StoreView g.row.D.Denot). raised (device.failed_writes x.disk)) c.self.view_is;
     }

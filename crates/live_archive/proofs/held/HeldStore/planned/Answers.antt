@@ -1,22 +1,11 @@
-use Rattle.std.proofs.Common.{◌≡◌, ◌∙◌, inr, Some, None, Option, refl, sym, subst}
+use Rattle.std.proofs.Common.{◌∙◌, inr, refl, sym, subst}
 use Rattle.std.proofs.lemmas.Result.{err_from_is_err_and}
-use Rattle.asks.specs.declared.refusal.AskRefusal.{AskRefusal}
-use Rattle.asks.specs.declared.refusal.AskRefusal.TheVariants.{UnknownParameter, BadRange, UnknownTable}
 use Rattle.asks.specs.Refusals.{request_refusal}
-use Rattle.refusals.specs.declared.refusal.Refusal.{Refusal}
-use Rattle.refusals.specs.declared.refusal.Refusal.TheVariants.{DiskFault}
-use Rattle.archive_store.specs.Finding.{IsNotFound}
 use Rattle.archive_store.specs.UnreadRows.{IsLeftByRefusal}
 use Rattle.archive_store.proofs.UnreadRows.{left_by}
 use Rattle.live_archive.specs.Retrievals.{in_force}
+use Rattle.live_archive.proofs.Retrieved.{not_failed}
 use Rattle.live_archive.proofs.held.HeldStore.planned.Goals as goal
-
--- what isn't found is no failed read
-not_failed : (asked : Option AskRefusal) (refusal : Refusal) → IsNotFound asked refusal → refusal ≡ DiskFault → ⊥
-not_failed (Some UnknownParameter) refusal is failed = cc (is, failed)
-not_failed (Some (BadRange from to)) refusal is failed = cc (is, failed)
-not_failed (Some (UnknownTable name)) refusal is failed = cc (is, failed)
-not_failed None refusal is failed = cc (is, failed)
 
 pub returns-in_err-found-clause-same : goal.returns-in_err-found-clause-same
 returns-in_err-found-clause-same g c =

@@ -12,7 +12,7 @@ returns-in_err-planned-clause-turn g c =
     turn_says g.D.Disk.device c.in_err-planned.ensures.turn (λ before after said. (
       handed_on c.from_residual.result refusal (λ _. ReadsRows g.D.Disk.device before after) (IsLeftByRefusal g.D.Disk.device before after) c.from_residual.ensures.1 said.0,
       handed_on c.from_residual.result refusal (IsAnswerIn g.D.Disk.device before c.args.request) (IsNotAnswered g.D.Disk.device before after c.args.request) c.from_residual.ensures.1 said.1,
-      omega arith,
+      λ _. omega arith,
     ))
 
 pub answer-requires : goal.answer-requires
@@ -26,7 +26,7 @@ returns-in-Ok-clause-turn g c =
     turn_says g.D.Disk.device c.in_ok-planned.ensures.turn (λ before after said. (
       said.0,
       answered_in g.D.Disk.device before c.args.request planned said.1 c.in-Ok.answer c.in-Ok.ensures.front c.in-Ok.ensures.cells,
-      steps_within g.D.Disk.device before c.args.request planned said.1 _ _ c.in-Ok.ensures.steps,
+      λ told. steps_within g.D.Disk.device before c.args.request planned said.1 told _ _ c.in-Ok.ensures.steps,
     ))
 
 pub returns-clause-turn : goal.returns-clause-turn
@@ -34,5 +34,5 @@ returns-clause-turn g c =
     turn_says g.D.Disk.device c.in_ok-planned.ensures.turn (λ before after said. (
       said.0,
       inr (OutOfMemory, tt, refl),
-      steps_within g.D.Disk.device before c.args.request c.in_ok-planned.planned said.1 _ _ c.answer.ensures.steps,
+      λ told. steps_within g.D.Disk.device before c.args.request c.in_ok-planned.planned said.1 told _ _ c.answer.ensures.steps,
     ))

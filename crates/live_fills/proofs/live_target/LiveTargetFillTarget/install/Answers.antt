@@ -13,7 +13,7 @@ pub install-requires-clause-right : goal.install-requires-clause-right
 install-requires-clause-right g c clear =
     let of = c.in-Ok-of.ensures in
     let same : c.deref.result.now ≡ arc_value c.args.task.mdb = search rules in
-    c.requires.right c.in-Ok-of.done (record {
+    c.requires.right (λ _. clear) c.in-Ok-of.done (record {
       interval = of.of_task.0;
       base = of.of_task.1;
       exponent = of.origin.0;

@@ -1,7 +1,7 @@
 //! Rows that aren't read, where a text of them is printed.
 
 ghost use Rattle.std.specs.Prelude.{◌≡◌};
-ghost use Rattle.retrieval.specs.PrintFaults.{print_fault_of};
+ghost use Rattle.archive_store.specs.PrintFaults.{print_fault_of};
 
 use arch_types::row_fault::RowFault;
 use outer_traits::print_fault::PrintFault;
