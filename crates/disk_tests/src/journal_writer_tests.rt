@@ -1,4 +1,4 @@
-//! A journal that is written whole: which calls it makes, and that each image of every moment has the other file as it was.
+//! A journal that is written whole: which calls it makes, that each image of every moment has the other file as it was, and how it is read.
 //! What calls the writer is generic in the disk, as in disk_journal_tests.
 
 ghost use Rattle.std.specs.Prelude.{IsTrue, IfOk};
@@ -8,7 +8,7 @@ use crate::disk_journal_tests::{add, body_at, is_created, leave_records};
 use crate::ends::{none_other, other};
 use crate::watched::{Watched, failing, holds};
 use arch_disk::{Crash, Disk};
-use disk_journal::{Frame, Journal, JournalFault, JournalWriter};
+use disk_journal::{Frame, Journal, JournalFault, JournalWriter, Opening};
 use std::alloc::Global;
 use std::test::Fail;
 
@@ -24,7 +24,16 @@ const FOUR: &[u8] = &[
     103, 101, 114, 32, 98, 111, 100, 121, 0,
 ];
 
+/// A longer file: three records of which the second is another, and two more.
+const LONGER: &[u8] = &[
+    1, 0, 0, 0, 1, 104, 1, 0, 0, 0, 1, 0xBB, 1, 0, 0, 0, 0, 1, 0, 0, 0, 1, 0xCC, 1, 0, 0, 0, 0, 0,
+];
+
 // They are functions, so that they stand in no goal of their callers.
+fn longer() -> &'static [u8] {
+    LONGER
+}
+
 fn three() -> &'static [u8] {
     THREE
 }
@@ -115,11 +124,60 @@ fn go_on<D: Watched>(alloc: Global, disk: &mut D) -> bool {
     is_fourth && disk.calls() == 12 && disk.octets(NEW) == four()
 }
 
+/// Whether they are written over a longer file, and none of that comes back.
+fn are_written_over<D: Watched>(alloc: Global, disk: &mut D) -> bool {
+    let is_longer = disk.write_at(NEW, 0, longer()).is_ok() && disk.sync(NEW).is_ok();
+    is_longer && are_written(alloc, disk) && are_durable(disk)
+}
+
+/// Whether they are opened again, and a fourth record is appended then.
+fn are_opened<D: Watched>(alloc: Global, disk: &mut D) -> bool {
+    if !are_written(alloc, disk) {
+        return false;
+    }
+    let Ok(mut journal) = Journal::open(alloc, disk, NEW) else {
+        return false;
+    };
+    let are_three = journal.count() == 3;
+    let is_fourth = matches!(add(alloc, &mut journal, disk, body_at(3)), Ok(3));
+    are_three && is_fourth && disk.octets(NEW) == four()
+}
+
+/// Whether an opening without a sync makes two calls, and gives the first record by a third.
+fn begins_with_first<D: Watched>(alloc: Global, disk: &mut D) -> bool {
+    let made = disk.calls();
+    let Ok(mut opening) = Opening::begin_synced(alloc, disk, NEW) else {
+        return false;
+    };
+    let begun = disk.calls();
+    let is_first = match opening.next(alloc, disk) {
+        Ok(Some(body)) => body.as_slice() == body_at(0),
+        _ => false,
+    };
+    is_first
+        && opening.place() == 6
+        && begun.saturating_sub(made) == 2
+        && disk.calls().saturating_sub(made) == 3
+}
+
+/// Whether the first of these calls is a look, which fails, and it goes well when it is made again.
+fn are_opened_unsynced<D: Watched>(alloc: Global, disk: &mut D) -> bool {
+    let are_written = are_written(alloc, disk);
+    let is_look = matches!(
+        Opening::begin_synced(alloc, disk, NEW),
+        Err(JournalFault::DiskFault { wrote: false })
+    );
+    are_written && is_look && begins_with_first(alloc, disk)
+}
+
 /// What is looked at on a new disk.
 enum Look {
     AtOnce,
     Again,
     GoesOn,
+    Over,
+    Opened,
+    Unsynced,
 }
 
 fn is_seen<D: Watched>(alloc: Global, disk: &mut D, look: &Look) -> bool {
@@ -127,6 +185,9 @@ fn is_seen<D: Watched>(alloc: Global, disk: &mut D, look: &Look) -> bool {
         Look::AtOnce => are_written_at_once(alloc, disk),
         Look::Again => are_written_again(alloc, disk),
         Look::GoesOn => go_on(alloc, disk),
+        Look::Over => are_written_over(alloc, disk),
+        Look::Opened => are_opened(alloc, disk),
+        Look::Unsynced => are_opened_unsynced(alloc, disk),
     }
 }
 
@@ -160,5 +221,11 @@ fn journals_written_whole(rt: HostRuntime) -> Result<(), Fail> {
         ("at once", is_so(rt.alloc(), &[], &Look::AtOnce)),
         ("again", are_all_written_again(rt.alloc())),
         ("a record more", is_so(rt.alloc(), &[], &Look::GoesOn)),
+        ("over a longer file", is_so(rt.alloc(), &[], &Look::Over)),
+        ("opened again", is_so(rt.alloc(), &[], &Look::Opened)),
+        (
+            "opened without a sync",
+            is_so(rt.alloc(), &[9], &Look::Unsynced),
+        ),
     ]))
 }

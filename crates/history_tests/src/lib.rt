@@ -2,6 +2,8 @@
 #![tactic(auto)]
 
 #[cfg(test)]
+mod added_rows_tests;
+#[cfg(test)]
 mod archive_history_tests;
 #[cfg(test)]
 mod dump_maker_tests;
@@ -21,6 +23,8 @@ mod limit_counts_tests;
 mod partitions_tests;
 #[cfg(test)]
 mod parts;
+#[cfg(test)]
+mod sealed_history_tests;
 #[cfg(test)]
 mod sealed_sums_tests;
 #[cfg(test)]

@@ -57,9 +57,12 @@ fn other_count(counts: &LimitCounts, wanted: &[Counted]) -> Option<usize> {
 
 fn other(alloc: Global) -> Result<Option<(&'static str, usize)>, AllocError> {
     let counts = counts_of(alloc, counted())?;
-    match other_count(&counts, wanted()) {
-        Some(place) => Ok(Some(("rows of an interval", place))),
-        None => Ok(None),
+    if let Some(place) = other_count(&counts, wanted()) {
+        return Ok(Some(("rows of an interval", place)));
+    }
+    match counts.most_rows() {
+        10 => Ok(None),
+        _ => Ok(Some(("rows of the fullest", 0))),
     }
 }
 

@@ -6,7 +6,7 @@ use crate::parts::none_other;
 use partitions::bounds::Bounds;
 use partitions::chain_steps::ChainSteps;
 use partitions::counts::PartitionCounts;
-use partitions::lists::{PartList, PnameList};
+use partitions::lists::{PartList, PnameList, merged_parts};
 use partitions::partition::{Partition, partition_of};
 use partitions::partitions::Partitions;
 use partitions::rows::are_whole_days;
@@ -284,6 +284,56 @@ fn other_of_two_days(alloc: Global, held: &Partitions) -> Result<Option<usize>, 
     Ok(other_whole_days(parts.as_slice(), whole_days()))
 }
 
+/// Two lists of partitions, and both as one.
+type Merged = (
+    &'static [(i64, u16)],
+    &'static [(i64, u16)],
+    &'static [(i64, u16)],
+);
+
+const MERGED: &[Merged] = &[
+    (&[], &[], &[]),
+    (&[(1, 5), (0, 3), (1, 5)], &[], &[(0, 3), (1, 5)]),
+    (
+        &[(1, 5), (0, 3)],
+        &[(0, 3), (1, 4), (-1, 9)],
+        &[(-1, 9), (0, 3), (1, 4), (1, 5)],
+    ),
+    (
+        &[(i64::MAX, 0)],
+        &[(i64::MIN, u16::MAX)],
+        &[(i64::MIN, u16::MAX), (i64::MAX, 0)],
+    ),
+];
+
+fn merged() -> &'static [Merged] {
+    MERGED
+}
+
+fn parts_of(alloc: Global, parts: &[(i64, u16)]) -> Result<PartList, AllocError> {
+    let mut list = PartList::new(alloc);
+    for (day, pname) in parts {
+        list.push(Partition {
+            day: *day,
+            pname: *pname,
+        })?;
+    }
+    Ok(list)
+}
+
+/// The place of the first lists that are merged otherwise.
+fn other_merged(alloc: Global, all: &[Merged]) -> Result<Option<usize>, AllocError> {
+    let mut place = 0usize;
+    for (first, second, want) in all {
+        let parts = merged_parts(parts_of(alloc, first)?, parts_of(alloc, second)?)?;
+        if !are_parts(parts.as_slice(), want) {
+            return Ok(Some(place));
+        }
+        place = place.saturating_add(1);
+    }
+    Ok(None)
+}
+
 fn other(alloc: Global, held: &Partitions) -> Result<Option<(&'static str, usize)>, AllocError> {
     if let Some(place) = other_pruned(alloc, held, asks())? {
         return Ok(Some(("partitions left", place)));
@@ -297,7 +347,10 @@ fn other(alloc: Global, held: &Partitions) -> Result<Option<(&'static str, usize
     if let Some(place) = other_of_two_days(alloc, held)? {
         return Ok(Some(("ranges of whole days", place)));
     }
-    Ok(None)
+    match other_merged(alloc, merged())? {
+        Some(place) => Ok(Some(("partitions of two lists", place))),
+        None => Ok(None),
+    }
 }
 
 #[test]

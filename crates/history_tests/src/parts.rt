@@ -36,7 +36,7 @@ pub(crate) fn row(
 }
 
 /// Rows of these tables and times, received much later.
-fn rows_of(alloc: Global, rows: &[(u8, i64)]) -> Result<Rows, AllocError> {
+pub(crate) fn rows_of(alloc: Global, rows: &[(u8, i64)]) -> Result<Rows, AllocError> {
     let mut all = Rows::new(alloc);
     for (table, time) in rows {
         let key = Key {

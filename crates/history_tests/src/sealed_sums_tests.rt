@@ -1,7 +1,4 @@
-//! Pages of rows that leave memory: what they come to, told by neighbours and asked by table, interval and packet name.
-
-ghost use Rattle.std.specs.Prelude.{◌<◌, ◌≤◌, IsTrue};
-ghost use Rattle.std.specs.List.{AllByRecursion};
+//! Rows that leave memory, by pages and in any order: what they come to, asked by table, interval and packet name.
 
 use crate::parts::none_other;
 use arch_types::key::Key;
@@ -20,7 +17,7 @@ type PageRow = (i64, u16, u64);
 /// A table, and the rows of a page.
 type Page = (u8, &'static [PageRow]);
 
-/// Two runs of the first table and one of the second. An interval has 4,194,304 milliseconds.
+/// Two runs of the first table, one of the second, and one of a table that isn't there. An interval has 4,194,304 milliseconds.
 const PAGES: &[Page] = &[
     (
         0,
@@ -28,11 +25,27 @@ const PAGES: &[Page] = &[
     ),
     (1, &[(10, 1, 1)]),
     (0, &[(4, 1, 4)]),
+    (7, &[(10, 1, 6)]),
 ];
 
-/// A function, so that it stands in no goal of its callers.
+/// The same rows by their tables, times and packet names, in the order in which they came.
+const LOOSE: &[(u8, i64, u16)] = &[
+    (0, 20, 1),
+    (1, 10, 1),
+    (0, 60_005, 2),
+    (0, 10, 1),
+    (0, 4, 1),
+    (0, 5_000_000, 1),
+    (7, 10, 1),
+];
+
+// They are functions, so that they stand in no goal of their callers.
 fn pages() -> &'static [Page] {
     PAGES
+}
+
+fn loose() -> &'static [(u8, i64, u16)] {
+    LOOSE
 }
 
 /// A row with a packet of three octets.
@@ -63,18 +76,6 @@ fn positions_of(alloc: Global, page: &[PageRow]) -> Result<Vec<u64>, AllocError>
     Ok(positions)
 }
 
-/// Whether all rows are of so many tables.
-fn are_of_tables(rows: &[Row], tables: usize) -> bool
-    ensures { IsTrue result → AllByRecursion (λ row. row.table < tables) rows.now }
-{
-    for row in rows {
-        if row.table as usize >= tables {
-            return false;
-        }
-    }
-    true
-}
-
 /// Adds a page, where it may be one.
 fn add(
     sums: &mut SealedSums,
@@ -82,11 +83,7 @@ fn add(
     rows: &[Row],
     positions: &[u64],
 ) -> Result<bool, AllocError> {
-    let tables = sums.tables().len();
     if rows.len() != positions.len() || rows.len() > 64 || sums.count() > 64 {
-        return Ok(false);
-    }
-    if !are_of_tables(rows, tables) {
         return Ok(false);
     }
     sums.add_page(tracker, rows, positions)?;
@@ -110,12 +107,33 @@ fn add_all(
     Ok(true)
 }
 
-/// Whether the first two intervals have these numbers of rows, all packets these octets, and the marks these last positions.
-fn are_counted(sums: &SealedSums, tracker: &FillTracker) -> bool {
+/// The sums of rows that came one by one, where all are taken.
+fn sums_of(
+    alloc: Global,
+    tables: usize,
+    rows: &[(u8, i64, u16)],
+) -> Result<SealedSums, AllocError> {
+    let mut own = Rows::new(alloc);
+    for (table, time, pname) in rows {
+        own.push(row(alloc, *table, *time, *pname)?)?;
+    }
+    let mut sums = SealedSums::new(alloc, tables, Exponent::of_format_1())?;
+    if own.len() < 64 && sums.count() == 0 {
+        sums.add_rows(own.as_slice())?;
+    }
+    Ok(sums)
+}
+
+/// Whether the first two intervals have these numbers of rows, the fullest has its own, and all packets these octets.
+fn are_counted(sums: &SealedSums) -> bool {
     let counts = sums.limit_counts();
-    (sums.count(), counts.octets()) == (6, 18)
+    (sums.count(), counts.octets(), counts.most_rows()) == (7, 21, 4)
         && (counts.rows_of(Interval(0)), counts.rows_of(Interval(1))) == (4, 1)
-        && (tracker.last(Interval(0)), tracker.last(Interval(1))) == (Some(4), Some(5))
+}
+
+/// Whether they have these last positions.
+fn are_marked(tracker: &FillTracker) -> bool {
+    (tracker.last(Interval(0)), tracker.last(Interval(1))) == (Some(4), Some(5))
 }
 
 /// How many rows the packet names 1 and 2 have on the first day in a table.
@@ -147,25 +165,38 @@ fn has_records(sums: &SealedSums) -> Result<bool, AllocError> {
     }
 }
 
+/// What is otherwise of the sums of those rows.
+fn other_sums(sums: &SealedSums) -> Result<Option<(&'static str, usize)>, AllocError> {
+    if !are_counted(sums) {
+        return Ok(Some(("counts of all rows", 0)));
+    }
+    if (named_rows(sums, 0), named_rows(sums, 1)) != ((4, 1), (1, 0)) {
+        return Ok(Some(("rows of packet names", 0)));
+    }
+    if !has_records(sums)? {
+        return Ok(Some(("records of a packet name", 0)));
+    }
+    Ok(None)
+}
+
 fn other(alloc: Global) -> Result<Option<(&'static str, usize)>, AllocError> {
     let mut tracker = FillTracker::new(alloc);
     let mut sums = SealedSums::new(alloc, 2, Exponent::of_format_1())?;
     if !add_all(alloc, &mut sums, &mut tracker, pages())? {
         return Ok(Some(("pages", 0)));
     }
-    if !are_counted(&sums, &tracker) {
-        return Ok(Some(("counts of all rows", 0)));
+    if !are_marked(&tracker) {
+        return Ok(Some(("marks", 0)));
     }
-    if (named_rows(&sums, 0), named_rows(&sums, 1)) != ((4, 1), (1, 0)) {
-        return Ok(Some(("rows of packet names", 0)));
-    }
-    if !has_records(&sums)? {
-        return Ok(Some(("records of a packet name", 0)));
-    }
-    Ok(None)
+    other_sums(&sums)
 }
 
 #[test]
 fn pages_are_summed(rt: HostRuntime) -> Result<(), Fail> {
     none_other(other(rt.alloc())?)
+}
+
+#[test]
+fn rows_in_any_order_are_summed(rt: HostRuntime) -> Result<(), Fail> {
+    none_other(other_sums(&sums_of(rt.alloc(), 2, loose())?)?)
 }

@@ -314,3 +314,20 @@ fn packets() -> &'static [Part] {
 fn rows_end_with_packets_that_are_not_idle(rt: HostRuntime) -> Result<(), Fail> {
     none_other(other_part(rt.alloc(), fields(), b"", packets()))
 }
+
+/// Kinds of an entry whose one field is that of a log head, and whether it is one.
+const KINDS: &[Part] = &[(&[5], true), (&[0], false), (&[6], false), (&[255], false)];
+
+fn kinds() -> &'static [Part] {
+    KINDS
+}
+
+/// The log head behind its kind.
+fn sealed_rows() -> &'static [u8] {
+    &LOG_HEAD[1..]
+}
+
+#[test]
+fn kinds_are_1_to_5(rt: HostRuntime) -> Result<(), Fail> {
+    none_other(other_part(rt.alloc(), b"", sealed_rows(), kinds()))
+}
