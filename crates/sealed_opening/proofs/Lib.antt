@@ -1,8 +1,15 @@
 pub mod Answered
+pub mod HeadBehind
+pub mod IntervalRows
+pub mod NotedRows
+pub mod NotedRuns
+pub mod NotedSeals
 pub mod Reading
 pub mod Refused
+pub mod RunReading
 pub mod SealKind
 pub mod SealsBehind
+pub mod TakenFills
 pub mod ToldPositions
 pub mod WholeManifest
 pub mod ZeroTaken

@@ -1,5 +1,10 @@
+pub mod Fills
+pub mod LogHead
 pub mod Manifest
 pub mod Positions
 pub mod ReadRefusals
 pub mod Records
+pub mod Runs
+pub mod Seals
+pub mod SoFar
 pub mod Zero
